@@ -1,0 +1,4 @@
+pub mod Pieces
+pub mod Values
+pub mod NarrowText
+pub mod Reading

@@ -1,0 +1,219 @@
+//! A narrow text, read instruction by instruction.
+
+ghost use Rattle.std.specs.Prelude.{◌≡◌, ◌≢◌, ◌<◌, ◌≤◌, ◌^◌, ℕ, List, ◌∷◌, ◌++◌, [], map, length, pos, Some, None, Option, MatchOption, IfOk, OnOk, OnErr, MatchResult, IfErr};
+ghost use Rattle.ir_narrow.specs.Pieces.{pieces};
+ghost use Rattle.ir_narrow.specs.Values.{is_digit, is_letter, all_name_bytes, is_name, digits_from, natural_of, integer_of, word_of, place_of};
+ghost use Rattle.ir_narrow.specs.Reading.{number, value_of, operation_of, before_comma, name_of, opening_of, operands_of, row_of, end_of, body_of, Gives};
+
+use crate::narrow::{Instruction, MAX_INSTRUCTIONS, Narrow, NarrowFault, Operation, Value};
+use crate::pieces::{behind, next};
+use indexmap::IndexSet;
+use rd_num::copied::copy_list;
+use rd_num::list::List;
+use std::alloc::Global;
+
+fn digit(c: u8) -> bool
+    ensures { result ≡ is_digit c }
+{
+    c >= b'0' && c <= b'9'
+}
+
+fn letter(c: u8) -> bool
+    ensures { result ≡ is_letter c }
+{
+    (c >= b'A' && c <= b'Z') || (c >= b'a' && c <= b'z') || c == b'_'
+}
+
+fn name_bytes(text: &[u8]) -> bool
+    ensures { result ≡ all_name_bytes text.now }
+{
+    for c in text {
+        if !letter(*c) && !digit(*c) {
+            return false;
+        }
+    }
+    true
+}
+
+/// The name behind a `%`.
+fn name(piece: &[u8]) -> Option<&[u8]>
+    ensures { MatchOption result (name_of piece.now ≡ None) (λ n. name_of piece.now ≡ Some n.now) }
+{
+    match piece {
+        [b'%', name @ ..] => match name {
+            [first, rest @ ..] if letter(*first) && name_bytes(rest) => Some(name),
+            _ => None,
+        },
+        _ => None,
+    }
+}
+
+/// The number of 1 to 10 decimal digits.
+fn natural(text: &[u8]) -> Option<u64>
+    ensures value { result ≡ natural_of text.now }
+{
+    if text.is_empty() || text.len() > 10 {
+        return None;
+    }
+    let mut n: u64 = 0;
+    for c in text {
+        if !digit(*c) {
+            return None;
+        }
+        n = n * 10 + u64::from(*c - b'0');
+    }
+    Some(n)
+}
+
+/// A number from -2147483648 to 4294967295, modulo 2^32.
+fn word(text: &[u8]) -> Option<Value>
+    ensures { result ≡ number (integer_of text.now) }
+{
+    match text {
+        [b'-', digits @ ..] => match natural(digits) {
+            Some(0) => Some(Value::Number(0)),
+            Some(n) if n <= 2147483648 => Some(Value::Number((4294967296 - n) as u32)),
+            _ => None,
+        },
+        _ => match natural(text) {
+            Some(n) if n <= 4294967295 => Some(Value::Number(n as u32)),
+            _ => None,
+        },
+    }
+}
+
+fn operation(piece: &[u8]) -> Option<Operation>
+    ensures { result ≡ operation_of piece.now }
+{
+    match piece {
+        b"add" => Some(Operation::Add),
+        b"sub" => Some(Operation::Sub),
+        b"mul" => Some(Operation::Mul),
+        _ => None,
+    }
+}
+
+/// What stands before a comma at the end.
+fn uncommaed(piece: &[u8]) -> Option<&[u8]>
+    ensures { MatchOption result (before_comma piece.now ≡ None) (λ v. before_comma piece.now ≡ Some v.now) }
+{
+    match piece {
+        [front @ .., b','] => Some(front),
+        _ => None,
+    }
+}
+
+/// An instruction as it is spelled, and the text behind it.
+#[derive(Drop)]
+struct Row<'a> {
+    name: &'a [u8],
+    operation: Operation,
+    left: &'a [u8],
+    right: &'a [u8],
+    rest: &'a [u8],
+}
+
+/// Two pieces, and the text behind them.
+#[derive(Drop)]
+struct Two<'a> {
+    first: &'a [u8],
+    second: &'a [u8],
+    rest: &'a [u8],
+}
+
+/// The result and the operation of an instruction.
+fn opening_at(text: &[u8]) -> Option<Two<'_>>
+    ensures { MatchOption result (opening_of (pieces text.now) ≡ None) (λ t. opening_of (pieces text.now) ≡ Some (record { first = t.first.now; second = t.second.now; rest = pieces t.rest.now })) }
+{
+    let (first, text) = next(text)?;
+    let text = behind(text, b"=")?;
+    let (second, rest) = next(text)?;
+    Some(Two {
+        first,
+        second,
+        rest,
+    })
+}
+
+/// The operands of an instruction, the first with its comma.
+fn operands_at(text: &[u8]) -> Option<Two<'_>>
+    ensures { MatchOption result (operands_of (pieces text.now) ≡ None) (λ t. operands_of (pieces text.now) ≡ Some (record { first = t.first.now; second = t.second.now; rest = pieces t.rest.now })) }
+{
+    let text = behind(text, b"i32")?;
+    let (first, text) = next(text)?;
+    let (second, rest) = next(text)?;
+    Some(Two {
+        first,
+        second,
+        rest,
+    })
+}
+
+/// The six pieces of an instruction.
+fn row_at(text: &[u8]) -> Option<Row<'_>>
+    ensures { MatchOption result (row_of (pieces text.now) ≡ None) (λ r. row_of (pieces text.now) ≡ Some (record { name = r.name.now; operation = r.operation; left = r.left.now; right = r.right.now; rest = pieces r.rest.now })) }
+{
+    let opening = opening_at(text)?;
+    let operands = operands_at(opening.rest)?;
+    match (
+        name(opening.first),
+        operation(opening.second),
+        uncommaed(operands.first),
+    ) {
+        (Some(name), Some(operation), Some(left)) => Some(Row {
+            name,
+            operation,
+            left,
+            right: operands.second,
+            rest: operands.rest,
+        }),
+        _ => None,
+    }
+}
+
+/// The operand of the `ret` that ends the text.
+fn end_at(text: &[u8]) -> Option<&[u8]>
+    ensures { MatchOption result (end_of (pieces text.now) ≡ None) (λ v. end_of (pieces text.now) ≡ Some v.now) }
+{
+    let text = behind(text, b"ret")?;
+    let text = behind(text, b"i32")?;
+    let (value, text) = next(text)?;
+    let text = behind(text, b"}")?;
+    match next(text) {
+        None => Some(value),
+        Some(_) => None,
+    }
+}
+
+/// The text behind the head of `main`.
+fn body_at(text: &[u8]) -> Option<&[u8]>
+    ensures { MatchOption result (body_of (pieces text.now) ≡ None) (λ rest. body_of (pieces text.now) ≡ Some (pieces rest.now)) }
+{
+    let text = behind(text, b"define")?;
+    let text = behind(text, b"i32")?;
+    let text = behind(text, b"@main()")?;
+    behind(text, b"{")
+}
+
+/// An operand.
+fn value(alloc: Global, names: &IndexSet<List<u8>>, piece: &[u8]) -> Result<Value, NarrowFault>
+    requires { length names.now.keys ≤ 4000 }
+    ensures { Gives (value_of names.now.keys piece.now) result }
+{
+    match piece {
+        [b'%', name @ ..] => {
+            let own = match copy_list(alloc, name) {
+                Ok(own) => own,
+                Err(_) => return Err(NarrowFault::NoMemory),
+            };
+            match names.get_index_of(&own) {
+                Some(k) => Ok(Value::Earlier(k as u32)),
+                None => Err(NarrowFault::NotNarrow),
+            }
+        }
+        _ => match word(piece) {
+            Some(v) => Ok(v),
+            None => Err(NarrowFault::NotNarrow),
+        },
+    }
+}
