@@ -1,0 +1,5 @@
+pub mod Laws
+pub mod Between
+pub mod Follow
+pub mod Stretch
+pub mod Worked

@@ -1,0 +1,5 @@
+pub mod Ending
+pub mod Moment
+pub mod Preserves
+pub mod System
+pub mod Simulation
