@@ -97,9 +97,10 @@ impl<T: Drop> List<T> {
 }
 
 impl List<u8> {
-    /// Puts bytes at the end. After an error the list has some prefix of them more.
+    /// Puts bytes at the end. Where memory is wanting the list is unchanged.
     pub fn append(&mut self, bytes: &[u8]) -> Result<(), NoMemory>
-        ensures { OnOk result (self.new ≡ self.old ++ bytes.now) }
+        ensures put { OnOk result (self.new ≡ self.old ++ bytes.now) }
+        ensures unchanged { OnErr result (self.new ≡ self.old) }
     {
         match self.kept.extend_from_slice(bytes) {
             Ok(()) => Ok(()),

@@ -1,0 +1,1 @@
+//! The outside over std, which tells no content.
