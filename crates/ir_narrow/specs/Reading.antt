@@ -19,10 +19,18 @@ abbrev pub earlier : Option ℕ → Option Value
 earlier None = None
 earlier (Some k) = Some (Earlier k)
 
+-- what stands behind a `%`
+abbrev pub behind_percent : List ℕ → Option (List ℕ)
+behind_percent [] = None
+behind_percent (c ∷ cs) = if nat_eq c 37 then Some cs else None
+
+abbrev pub value_or : List (List ℕ) → List ℕ → Option (List ℕ) → Option Value
+value_or names v None = number (integer_of v)
+value_or names v (Some name) = earlier (place_of names name)
+
 -- an operand, where these names have results
 abbrev pub value_of : List (List ℕ) → List ℕ → Option Value
-value_of names [] = None
-value_of names (c ∷ cs) = if nat_eq c 37 then earlier (place_of names cs) else number (integer_of (c ∷ cs))
+value_of names v = value_or names v (behind_percent v)
 
 abbrev pub operation_of : List ℕ → Option Operation
 operation_of w = if same w (codes "add") then Some Add else (if same w (codes "sub") then Some Sub else (if same w (codes "mul") then Some Mul else None))
@@ -32,10 +40,13 @@ abbrev pub before_comma : List ℕ → Option (List ℕ)
 before_comma [] = None
 before_comma (c ∷ cs) = if nat_eq (slice_index (c ∷ cs) (length cs)) 44 then Some (take (length cs) (c ∷ cs)) else None
 
--- what stands behind `%`, where it is a name
+abbrev pub if_name : Option (List ℕ) → Option (List ℕ)
+if_name None = None
+if_name (Some name) = if is_name name then Some name else None
+
+-- what stands behind a `%`, where it is a name
 abbrev pub name_of : List ℕ → Option (List ℕ)
-name_of [] = None
-name_of (c ∷ cs) = if nat_eq c 37 && is_name cs then Some cs else None
+name_of piece = if_name (behind_percent piece)
 
 -- the pieces behind one that is asked for
 abbrev pub after : List ℕ → List (List ℕ) → Option (List (List ℕ))
@@ -106,9 +117,9 @@ abbrev pub with_result : Option Value → Option Narrow
 with_result None = None
 with_result (Some v) = Some (record { instructions = []; result = v })
 
-abbrev pub ended : List (List ℕ) → Option (List ℕ) → Option Narrow
-ended names None = None
-ended names (Some v) = with_result (value_of names v)
+abbrev pub returned : List (List ℕ) → Option (List ℕ) → Option Value
+returned names None = None
+returned names (Some v) = value_of names v
 
 abbrev pub begins_ret : List (List ℕ) → Bool
 begins_ret [] = false
@@ -121,8 +132,8 @@ row_then names (Some s) go = put (resolved names s) (go (names ++ s.name ∷ [])
 
 -- at most `more` instructions and an end, where these names have results
 abbrev pub reads : ℕ → List (List ℕ) → List (List ℕ) → Option Narrow
-reads zero names ps = ended names (end_of ps)
-reads (suc more) names ps = if begins_ret ps then ended names (end_of ps) else row_then names (row_of ps) (reads more)
+reads zero names ps = with_result (returned names (end_of ps))
+reads (suc more) names ps = if begins_ret ps then with_result (returned names (end_of ps)) else row_then names (row_of ps) (reads more)
 
 -- the head of the one function
 abbrev pub body_of : List (List ℕ) → Option (List (List ℕ))
@@ -143,3 +154,15 @@ abbrev pub Gives : {T : Type 0} → Option T → Result T NarrowFault → Type 0
 Gives o (Ok v) = o ≡ Some v
 Gives o (Err NotNarrow) = o ≡ None
 Gives o (Err NoMemory) = Unit {0}
+
+-- a row's name and instruction stand behind the others, or the row has none
+pub record Kept (names more : List (List ℕ)) (all longer : List Instruction) (s : Spelled) : Type 0 where
+  pub instruction : Instruction
+  pub read : resolved names s ≡ Some instruction
+  pub behind : longer ≡ all ++ instruction ∷ []
+  pub named : more ≡ names ++ s.name ∷ []
+
+abbrev pub Keeps : List (List ℕ) → List (List ℕ) → List Instruction → List Instruction → Spelled → Result (Unit {0}) NarrowFault → Type 0
+Keeps names more all longer s (Ok x) = Kept names more all longer s
+Keeps names more all longer s (Err NotNarrow) = resolved names s ≡ None
+Keeps names more all longer s (Err NoMemory) = Unit {0}

@@ -13,4 +13,4 @@ pub mod narrow;
 mod pieces;
 mod reading;
 
-// pub use reading::read;
+pub use reading::read;

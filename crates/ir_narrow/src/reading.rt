@@ -3,14 +3,17 @@
 ghost use Rattle.std.specs.Prelude.{◌≡◌, ◌≢◌, ◌<◌, ◌≤◌, ◌^◌, ℕ, List, ◌∷◌, ◌++◌, [], map, length, pos, Some, None, Option, MatchOption, IfOk, OnOk, OnErr, MatchResult, IfErr};
 ghost use Rattle.ir_narrow.specs.Pieces.{pieces};
 ghost use Rattle.ir_narrow.specs.Values.{is_digit, is_letter, all_name_bytes, is_name, digits_from, natural_of, integer_of, word_of, place_of};
-ghost use Rattle.ir_narrow.specs.Reading.{number, value_of, operation_of, before_comma, name_of, opening_of, operands_of, row_of, end_of, body_of, Gives};
+ghost use Rattle.ir_narrow.specs.Reading.{number, value_of, operation_of, before_comma, behind_percent, name_of, opening_of, operands_of, row_of, end_of, body_of, resolved, instruction, returned, begins_ret, narrow_in, Gives, Keeps};
 
 use crate::narrow::{Instruction, MAX_INSTRUCTIONS, Narrow, NarrowFault, Operation, Value};
 use crate::pieces::{behind, next};
 use indexmap::IndexSet;
 use rd_num::copied::copy_list;
 use rd_num::list::List;
+use rd_num::width::NoMemory;
 use std::alloc::Global;
+
+type Name = List<u8>;
 
 fn digit(c: u8) -> bool
     ensures { result ≡ is_digit c }
@@ -35,17 +38,31 @@ fn name_bytes(text: &[u8]) -> bool
     true
 }
 
+/// What stands behind a `%`.
+fn percented(piece: &[u8]) -> Option<&[u8]>
+    ensures { MatchOption result (behind_percent piece.now ≡ None) (λ n. behind_percent piece.now ≡ Some n.now) }
+{
+    match piece {
+        [b'%', rest @ ..] => Some(rest),
+        _ => None,
+    }
+}
+
+fn named(text: &[u8]) -> bool
+    ensures { result ≡ is_name text.now }
+{
+    match text {
+        [first, rest @ ..] => letter(*first) && name_bytes(rest),
+        _ => false,
+    }
+}
+
 /// The name behind a `%`.
 fn name(piece: &[u8]) -> Option<&[u8]>
     ensures { MatchOption result (name_of piece.now ≡ None) (λ n. name_of piece.now ≡ Some n.now) }
 {
-    match piece {
-        [b'%', name @ ..] => match name {
-            [first, rest @ ..] if letter(*first) && name_bytes(rest) => Some(name),
-            _ => None,
-        },
-        _ => None,
-    }
+    let name = percented(piece)?;
+    if named(name) { Some(name) } else { None }
 }
 
 /// The number of 1 to 10 decimal digits.
@@ -195,25 +212,136 @@ fn body_at(text: &[u8]) -> Option<&[u8]>
     behind(text, b"{")
 }
 
+/// The instruction that gave a name its result.
+fn place(alloc: Global, names: &IndexSet<Name>, name: &[u8]) -> Result<Option<u32>, NoMemory>
+    requires { length names.now.keys ≤ 4000 }
+    ensures { IfOk result (λ k. k ≡ place_of names.now.keys name.now) }
+{
+    let own = copy_list(alloc, name)?;
+    match names.get_index_of(&own) {
+        Some(k) => Ok(Some(k as u32)),
+        None => Ok(None),
+    }
+}
+
 /// An operand.
-fn value(alloc: Global, names: &IndexSet<List<u8>>, piece: &[u8]) -> Result<Value, NarrowFault>
+fn value(alloc: Global, names: &IndexSet<Name>, piece: &[u8]) -> Result<Value, NarrowFault>
     requires { length names.now.keys ≤ 4000 }
     ensures { Gives (value_of names.now.keys piece.now) result }
 {
-    match piece {
-        [b'%', name @ ..] => {
-            let own = match copy_list(alloc, name) {
-                Ok(own) => own,
-                Err(_) => return Err(NarrowFault::NoMemory),
-            };
-            match names.get_index_of(&own) {
-                Some(k) => Ok(Value::Earlier(k as u32)),
-                None => Err(NarrowFault::NotNarrow),
-            }
-        }
-        _ => match word(piece) {
+    match percented(piece) {
+        Some(name) => match place(alloc, names, name) {
+            Ok(Some(k)) => Ok(Value::Earlier(k)),
+            Ok(None) => Err(NarrowFault::NotNarrow),
+            Err(_) => Err(NarrowFault::NoMemory),
+        },
+        None => match word(piece) {
             Some(v) => Ok(v),
             None => Err(NarrowFault::NotNarrow),
         },
     }
+}
+
+/// A row's operation on its operands.
+fn operands(alloc: Global, names: &IndexSet<Name>, row: &Row) -> Result<Instruction, NarrowFault>
+    requires { length names.now.keys ≤ 4000 }
+    ensures { Gives (instruction row.now.operation (value_of names.now.keys row.now.left.now) (value_of names.now.keys row.now.right.now)) result }
+{
+    let left = value(alloc, names, row.left)?;
+    let right = value(alloc, names, row.right)?;
+    Ok(Instruction {
+        operation: row.operation,
+        left,
+        right,
+    })
+}
+
+/// What the `ret` returns.
+fn finish(alloc: Global, names: &IndexSet<Name>, text: &[u8]) -> Result<Value, NarrowFault>
+    requires { length names.now.keys ≤ 4000 }
+    ensures { Gives (returned names.now.keys (end_of (pieces text.now))) result }
+{
+    match end_at(text) {
+        None => Err(NarrowFault::NotNarrow),
+        Some(piece) => value(alloc, names, piece),
+    }
+}
+
+/// Whether the `ret` comes next.
+fn at_ret(text: &[u8]) -> bool
+    ensures { result ≡ begins_ret (pieces text.now) }
+{
+    match next(text) {
+        Some((b"ret", _)) => true,
+        _ => false,
+    }
+}
+
+/// Puts a name behind those before it.
+#[tactic(auto, using(crate::proofs::Kept::put_last))]
+fn put_name(alloc: Global, names: &mut IndexSet<Name>, name: &[u8]) -> Result<(), NoMemory>
+    requires { place_of names.old.keys name.now ≡ None }
+    ensures { OnOk result (names.new.keys ≡ names.old.keys ++ name.now ∷ []) }
+{
+    let own = copy_list(alloc, name)?;
+    if names.insert(own).is_err() {
+        return Err(NoMemory);
+    }
+    Ok(())
+}
+
+/// Puts a row's instruction and its name behind those before it.
+fn keep(
+    alloc: Global,
+    names: &mut IndexSet<Name>,
+    instructions: &mut List<Instruction>,
+    row: &Row,
+) -> Result<(), NarrowFault>
+    requires { length names.old.keys ≤ 4000 }
+    ensures { Keeps names.old.keys names.new.keys instructions.old instructions.new (record { name = row.now.name.now; operation = row.now.operation; left = row.now.left.now; right = row.now.right.now; rest = pieces row.now.rest.now }) result }
+{
+    match place(alloc, names, row.name) {
+        Ok(None) => {}
+        Ok(Some(_)) => return Err(NarrowFault::NotNarrow),
+        Err(_) => return Err(NarrowFault::NoMemory),
+    }
+    let instruction = operands(alloc, names, row)?;
+    match put_name(alloc, names, row.name) {
+        Ok(()) => {}
+        Err(_) => return Err(NarrowFault::NoMemory),
+    }
+    match instructions.add(instruction) {
+        Ok(()) => Ok(()),
+        Err(_) => Err(NarrowFault::NoMemory),
+    }
+}
+
+/// The instructions of a narrow text, with operands resolved.
+///
+/// `NotNarrow` comes exactly where the text isn't narrow.
+pub fn read(alloc: Global, text: &[u8]) -> Result<Narrow, NarrowFault>
+    ensures { Gives (narrow_in (body_of (pieces text.now))) result }
+{
+    let mut rest = match body_at(text) {
+        Some(rest) => rest,
+        None => return Err(NarrowFault::NotNarrow),
+    };
+    let mut names = IndexSet::new(alloc);
+    let mut instructions = List::new(alloc);
+    for _row in 0..MAX_INSTRUCTIONS {
+        if at_ret(rest) {
+            break;
+        }
+        let row = match row_at(rest) {
+            Some(row) => row,
+            None => return Err(NarrowFault::NotNarrow),
+        };
+        keep(alloc, &mut names, &mut instructions, &row)?;
+        rest = row.rest;
+    }
+    let result = finish(alloc, &names, rest)?;
+    Ok(Narrow {
+        instructions,
+        result,
+    })
 }
