@@ -1,0 +1,20 @@
+//! Registers, flags, instructions, what each instruction does, and the image of a program.
+//!
+//! The instructions are a subset of the x86-64 integer instructions, the rows of
+//! `docs/instructions.md`. `reg` and `flags` have the state, `instr` the instructions in the rows'
+//! order, `effect` what one does to registers, flags, memory and the next place, and `image` the
+//! program that a machine starts from. How an instruction is spelled is defined in
+//! `specs/Encoding.antt` and `specs/Decoding.antt`; the crates `x86_encode` and `x86_decode` do it.
+//! Source: Intel 64 and IA-32 Architectures Software Developer's Manual, volume 2.
+#![tactic(auto)]
+
+pub mod alu;
+pub mod condition;
+pub mod divide;
+pub mod effect;
+pub mod flags;
+pub mod image;
+pub mod instr;
+pub mod reg;
+pub mod shift;
+pub mod widen;
