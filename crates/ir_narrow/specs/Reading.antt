@@ -131,7 +131,7 @@ row_then names None go = None
 row_then names (Some s) go = put (resolved names s) (go (names ++ s.name ∷ []) s.rest)
 
 -- at most `more` instructions and an end, where these names have results
-abbrev pub reads : ℕ → List (List ℕ) → List (List ℕ) → Option Narrow
+unfoldable pub reads : ℕ → List (List ℕ) → List (List ℕ) → Option Narrow
 reads zero names ps = with_result (returned names (end_of ps))
 reads (suc more) names ps = if begins_ret ps then with_result (returned names (end_of ps)) else row_then names (row_of ps) (reads more)
 

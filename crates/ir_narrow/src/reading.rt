@@ -3,7 +3,7 @@
 ghost use Rattle.std.specs.Prelude.{◌≡◌, ◌≢◌, ◌<◌, ◌≤◌, ◌^◌, ℕ, List, ◌∷◌, ◌++◌, [], map, length, pos, Some, None, Option, MatchOption, IfOk, OnOk, OnErr, MatchResult, IfErr};
 ghost use Rattle.ir_narrow.specs.Pieces.{pieces};
 ghost use Rattle.ir_narrow.specs.Values.{is_digit, is_letter, all_name_bytes, is_name, digits_from, natural_of, integer_of, word_of, place_of};
-ghost use Rattle.ir_narrow.specs.Reading.{number, value_of, operation_of, before_comma, behind_percent, name_of, opening_of, operands_of, row_of, end_of, body_of, resolved, instruction, returned, begins_ret, narrow_in, Gives, Keeps};
+ghost use Rattle.ir_narrow.specs.Reading.{number, value_of, operation_of, before_comma, behind_percent, name_of, opening_of, operands_of, row_of, end_of, body_of, resolved, instruction, returned, begins_ret, put_all, with_result, reads, narrow_in, Gives, Keeps};
 
 use crate::narrow::{Instruction, MAX_INSTRUCTIONS, Narrow, NarrowFault, Operation, Value};
 use crate::pieces::{behind, next};
@@ -284,8 +284,9 @@ fn put_name(alloc: Global, names: &mut IndexSet<Name>, name: &[u8]) -> Result<()
     ensures { OnOk result (names.new.keys ≡ names.old.keys ++ name.now ∷ []) }
 {
     let own = copy_list(alloc, name)?;
-    if names.insert(own).is_err() {
-        return Err(NoMemory);
+    match names.insert(own) {
+        Ok(_) => {}
+        Err(_) => return Err(NoMemory),
     }
     Ok(())
 }
@@ -316,29 +317,49 @@ fn keep(
     }
 }
 
+/// The text from the first place on where no row stands that may be one.
+fn rows<'a>(
+    alloc: Global,
+    text: &'a [u8],
+    names: &mut IndexSet<Name>,
+    instructions: &mut List<Instruction>,
+) -> Result<&'a [u8], NarrowFault>
+    requires none { names.old.keys ≡ [] }
+    requires empty { instructions.old ≡ [] }
+    ensures few { OnOk result (length names.new.keys ≤ 4000) }
+    ensures read { MatchResult result (λ rest. put_all instructions.new (with_result (returned names.new.keys (end_of (pieces rest.now)))) ≡ reads 4000 [] (pieces text.now)) (λ e. e ≡ NarrowFault.NotNarrow → reads 4000 [] (pieces text.now) ≡ None) }
+{
+    let mut rest = text;
+    for row_number in 0..MAX_INSTRUCTIONS {
+        if at_ret(rest) {
+            return Ok(rest);
+        }
+        let row = match row_at(rest) {
+            Some(row) => row,
+            None => return Err(NarrowFault::NotNarrow),
+        };
+        match keep(alloc, names, instructions, &row) {
+            Ok(()) => {}
+            Err(fault) => return Err(fault),
+        }
+        rest = row.rest;
+    }
+    Ok(rest)
+}
+
 /// The instructions of a narrow text, with operands resolved.
 ///
 /// `NotNarrow` comes exactly where the text isn't narrow.
 pub fn read(alloc: Global, text: &[u8]) -> Result<Narrow, NarrowFault>
     ensures { Gives (narrow_in (body_of (pieces text.now))) result }
 {
-    let mut rest = match body_at(text) {
-        Some(rest) => rest,
+    let body = match body_at(text) {
+        Some(body) => body,
         None => return Err(NarrowFault::NotNarrow),
     };
     let mut names = IndexSet::new(alloc);
     let mut instructions = List::new(alloc);
-    for _row in 0..MAX_INSTRUCTIONS {
-        if at_ret(rest) {
-            break;
-        }
-        let row = match row_at(rest) {
-            Some(row) => row,
-            None => return Err(NarrowFault::NotNarrow),
-        };
-        keep(alloc, &mut names, &mut instructions, &row)?;
-        rest = row.rest;
-    }
+    let rest = rows(alloc, body, &mut names, &mut instructions)?;
     let result = finish(alloc, &names, rest)?;
     Ok(Narrow {
         instructions,
