@@ -1,0 +1,12 @@
+pub mod Names
+pub mod Stops
+pub mod Kinds
+pub mod Arithmetic
+pub mod Shapes
+pub mod Memory
+pub mod Pointers
+pub mod State
+pub mod Operands
+pub mod Calls
+pub mod Step
+pub mod Run

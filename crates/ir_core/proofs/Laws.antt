@@ -1,0 +1,60 @@
+-- What every run of a module has, whatever its instructions do.
+use Rattle.std.proofs.Common.{◌≡◌, ℕ, ◌+◌, List, refl, ap, inl, inr, ◌⊎◌, true, false, Result, Ok, Err}
+use Rattle.behavior.specs.Ending.{Ending, Going, Ended, Divide, Trap, Depth, Left, Invalid, Breakpoint, PageFault, NoForm, NoFlag, BadCall, Strayed, is_going}
+use Rattle.behavior.specs.Moment.{Moment, HasStopped}
+use Rattle.behavior.specs.System.{AddsAtMostOne, Silent, Prints, Takes, System, IsGradual, behavior_of}
+use Rattle.behavior.proofs.Between.{adds_grows}
+use Rattle.ir_core.specs.declared.module.Module.{Module}
+use Rattle.ir_core.specs.Memory.{Memory}
+use Rattle.ir_core.specs.Stops.{Answer}
+use Rattle.ir_core.specs.State.{Frame, State, Exchange, Nothing, Print, Take, Turn, turned, source_moment}
+use Rattle.ir_core.specs.Step.{turn_of, source_step}
+use Rattle.ir_core.specs.Run.{source_start, source_run}
+
+-- what a turn adds
+turned_adds : (s : State) (a : Answer Turn) → AddsAtMostOne (source_moment s) (source_moment (turned s a))
+turned_adds s (Ok t) = exchanged t.frames t.objects t.exchange
+  where
+    exchanged : (frames : List Frame) (objects : Memory) (x : Exchange) → AddsAtMostOne (source_moment s) (source_moment (turned s (Ok (record { frames = frames; objects = objects; exchange = x }))))
+    exchanged frames objects Nothing = Silent refl refl
+    exchanged frames objects (Print byte) = Prints byte refl refl refl
+    exchanged frames objects Take = Takes refl refl refl
+turned_adds s (Err ending) = Silent refl refl
+
+adds_at : (m : Module) (input : List ℕ) (frames : List Frame) (objects : Memory) (printed : List ℕ) (taken : ℕ) (ending : Ending) → let s : State = record { frames = frames; objects = objects; printed = printed; taken = taken; ending = ending } in AddsAtMostOne (source_moment s) (source_moment (source_step m input s))
+unfolding source_step
+adds_at m input frames objects printed taken Going =
+    let s : State = record { frames = frames; objects = objects; printed = printed; taken = taken; ending = Going } in
+    turned_adds s (turn_of m input s frames)
+adds_at m input frames objects printed taken stopped = Silent refl refl
+
+-- a step prints at most one byte or takes at most one, and then the run goes on
+pub step_adds : (m : Module) (input : List ℕ) (s : State) → AddsAtMostOne (source_moment s) (source_moment (source_step m input s))
+step_adds m input s = adds_at m input s.frames s.objects s.printed s.taken s.ending
+
+stays_at : (m : Module) (input : List ℕ) (frames : List Frame) (objects : Memory) (printed : List ℕ) (taken : ℕ) (ending : Ending) → is_going ending ≡ false → let s : State = record { frames = frames; objects = objects; printed = printed; taken = taken; ending = ending } in source_step m input s ≡ s
+unfolding source_step
+stays_at m input frames objects printed taken Going h = absurd (cc)
+stays_at m input frames objects printed taken stopped h = refl
+
+-- a run that has stopped stays as it is
+pub step_stays : (m : Module) (input : List ℕ) (s : State) → HasStopped (source_moment s) → source_step m input s ≡ s
+step_stays m input s h = stays_at m input s.frames s.objects s.printed s.taken s.ending h
+
+-- modules as a system, for simulations that begin or end in them
+abbrev pub source_system : Module → List ℕ → System State
+source_system m input = record {
+  step = source_step m input;
+  moment = source_moment;
+  grows = λ s. adds_grows (source_moment s) (source_moment (source_step m input s)) (step_adds m input s);
+  stays = λ s h. ap source_moment (step_stays m input s h);
+}
+
+-- each step of it adds at most one byte
+pub source_gradual : (m : Module) (input : List ℕ) → IsGradual (source_system m input)
+source_gradual m input s = step_adds m input s
+
+-- a run of a module is what the system shows from the start on
+pub source_run-system : (m : Module) → source_run m ≡ behavior_of (source_system m) (λ input. source_start m)
+unfolding source_run
+source_run-system m = refl

@@ -1,0 +1,87 @@
+-- How types lie in memory: size, alignment, and where their parts stand.
+use Rattle.std.specs.Prelude.{ℕ, zero, suc, ◌+◌, ◌*◌, ◌-◌, ◌/◌, ◌%◌, ◌^◌, max, map, List, [], ◌∷◌, Option, Some, None, option_map, slice_get}
+use Rattle.rd_num.specs.declared.width.Width.{Width}
+use Rattle.rd_num.specs.Number.{bits}
+use Rattle.ir_core.specs.declared.ty.Ty.{Ty, fold-Ty}
+use Rattle.ir_core.specs.declared.ty.Ty.TheOpen.{Ty-F}
+use Rattle.ir_core.specs.declared.ty.NamedTy.{NamedTy}
+use Rattle.ir_core.specs.Names.{same_name, first_where}
+
+-- bytes, and the place of the part that a row of indices leads to, where there is one
+pub record Shape : Type 0 where
+  pub size : ℕ
+  pub align : ℕ
+  pub part : List ℕ → Option ℕ
+
+-- the least multiple of a number that isn't below n
+abbrev pub rounded : ℕ → ℕ → ℕ
+rounded n to = (n + (to - 1)) / to * to
+
+abbrev pub bytes_of : Width → ℕ
+bytes_of w = (bits w + 7) / 8
+
+-- no index leads to the whole
+abbrev pub whole : List ℕ → Option ℕ
+whole [] = Some 0
+whole (i ∷ is) = None
+
+-- a number or a pointer has no parts, and is aligned to its size
+abbrev pub single : ℕ → Shape
+single n = record { size = n; align = n; part = whole }
+
+abbrev pub nothing : Shape
+nothing = record { size = 0; align = 1; part = whole }
+
+-- elements one after another; an index may be any number, also past the last element
+abbrev pub part_of_array : Shape → List ℕ → Option ℕ
+part_of_array of [] = Some 0
+part_of_array of (i ∷ is) = option_map (λ at. i * of.size + at) (of.part is)
+
+-- where fields end that begin at a place, each at the next multiple of its alignment
+abbrev pub end_of : ℕ → List Shape → ℕ
+end_of at [] = at
+end_of at (f ∷ fs) = end_of (rounded at f.align + f.size) fs
+
+abbrev pub greatest_align : List Shape → ℕ
+greatest_align [] = 1
+greatest_align (f ∷ fs) = max f.align (greatest_align fs)
+
+-- into field i of those that begin at a place
+abbrev pub part_of_field : ℕ → List Shape → ℕ → List ℕ → Option ℕ
+part_of_field at [] i is = None
+part_of_field at (f ∷ fs) zero is = option_map (λ n. rounded at f.align + n) (f.part is)
+part_of_field at (f ∷ fs) (suc i) is = part_of_field (rounded at f.align + f.size) fs i is
+
+abbrev pub part_of_struct : List Shape → List ℕ → Option ℕ
+part_of_struct fields [] = Some 0
+part_of_struct fields (i ∷ is) = part_of_field 0 fields i is
+
+abbrev pub struct : List Shape → Shape
+struct fields = record { size = rounded (end_of 0 fields) (greatest_align fields); align = greatest_align fields; part = part_of_struct fields }
+
+-- the fields of a packed struct stand as if each were aligned to one byte
+abbrev pub unaligned : List Shape → List Shape
+unaligned fields = map (λ (f : Shape). record f { align = 1 }) fields
+
+-- one level, whose parts have these shapes
+abbrev pub shape_at : (List ℕ → Shape) → Ty-F Shape → Shape
+shape_at named Ty-F.Void = nothing
+shape_at named (Ty-F.Int w) = single (bytes_of w)
+shape_at named Ty-F.Ptr = single 8
+shape_at named (Ty-F.Array n of) = record { size = n * of.size; align = of.align; part = part_of_array of }
+shape_at named (Ty-F.Struct fields) = struct fields
+shape_at named (Ty-F.Packed fields) = struct (unaligned fields)
+shape_at named (Ty-F.Named name) = named name
+
+abbrev pub shape_or_nothing : (Ty → Shape) → Option NamedTy → Shape
+shape_or_nothing shape (Some t) = shape t.fields
+shape_or_nothing shape None = nothing
+
+-- with names replaced as often as n times
+abbrev pub shape_within : List NamedTy → ℕ → Ty → Shape
+shape_within types zero = fold-Ty Shape (shape_at (λ name. nothing))
+shape_within types (suc n) = fold-Ty Shape (shape_at (λ name. shape_or_nothing (shape_within types n) (first_where (λ t. same_name t.name name) types)))
+
+-- types nest at most 64 deep
+unfoldable pub shape_of : List NamedTy → Ty → Shape
+shape_of types = shape_within types 64
