@@ -1,0 +1,36 @@
+-- The readable segments of a run, and its stack.
+use Rattle.std.specs.Prelude.{ℕ, List, [], ◌∷◌, replicate}
+use Rattle.x86_core.specs.declared.image.Rights.{Rights}
+use Rattle.x86_core.specs.declared.image.Segment.{Segment}
+
+-- where the readable segments and the stack lie
+abbrev pub ro_start : ℕ
+ro_start = 536870912
+
+abbrev pub rw_start : ℕ
+rw_start = 805306368
+
+abbrev pub stack_start : ℕ
+stack_start = 3154112512
+
+abbrev pub stack_end : ℕ
+stack_end = 3221225472
+
+-- 64 MiB and 4,096 bytes; never opened in a proof
+unfoldable pub stack_bytes : List ℕ
+stack_bytes = replicate 67112960 0
+
+abbrev pub segment : ℕ → List ℕ → ℕ → Segment
+segment start bytes rights = record { start = start; bytes = bytes; rights = record { 0 = rights } }
+
+abbrev pub stack : Segment
+stack = segment stack_start stack_bytes 6
+
+-- a segment in front of others, unless it is empty
+abbrev pub unless_empty : List ℕ → Segment → List Segment → List Segment
+unless_empty [] s others = others
+unless_empty (b ∷ bs) s others = s ∷ others
+
+-- read-only data, data, and the stack, in the order of their addresses
+abbrev pub data_segments : List ℕ → List ℕ → List Segment
+data_segments ro rw = unless_empty ro (segment ro_start ro 4) (unless_empty rw (segment rw_start rw 6) (stack ∷ []))

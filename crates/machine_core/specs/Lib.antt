@@ -1,0 +1,4 @@
+pub mod Memory
+pub mod Step
+pub mod Run
+pub mod Data
