@@ -2,3 +2,4 @@ pub mod Registers
 pub mod Arithmetic
 pub mod Effect
 pub mod Encoding
+pub mod Decoding
