@@ -1,0 +1,69 @@
+//! An object: functions, the slots that they call and jump by, and data. It has no code address.
+
+use rd_num::list::List;
+
+/// A program whose code is not laid out yet.
+#[derive(Drop)]
+pub struct Object {
+    /// Draws the places of the slots.
+    pub slot_seed: u64,
+    /// Draws the names of saved registers and the order in which they are pushed.
+    pub reg_seed: u64,
+    pub functions: List<Func>,
+    pub slots: List<Slot>,
+    /// Data that may be read.
+    pub ro: List<u8>,
+    /// Data that may be read and written.
+    pub rw: List<u8>,
+}
+
+/// A function's code, with the branches that go to slots.
+#[derive(Drop)]
+pub struct Func {
+    pub kind: FuncKind,
+    pub bytes: List<u8>,
+    pub links: List<Link>,
+}
+
+/// Whether a function saves the five registers that live across calls.
+#[derive(Clone, Copy)]
+pub enum FuncKind {
+    Plain,
+    Saved,
+}
+
+/// The four bytes at `at`, counted from the function's start, are a displacement to the start of a slot.
+#[derive(Clone, Copy)]
+pub struct Link {
+    pub at: u32,
+    pub slot: u32,
+}
+
+/// A trampoline of 16 bytes at a fixed address. Functions are named by their numbers.
+#[derive(Clone, Copy)]
+pub enum Slot {
+    /// Where the program begins.
+    Entry { target: u32 },
+    /// A jump; its address serves as a pointer to the function.
+    Jump { target: u32 },
+    /// A call of a function, and the way back.
+    Call { target: u32, back: CodeAt },
+    /// A call of the function whose pointer is in r11, and the way back.
+    Indirect { back: CodeAt },
+    /// A system call, and the way back.
+    System { back: CodeAt },
+}
+
+/// A byte of a function, counted from its start.
+#[derive(Clone, Copy)]
+pub struct CodeAt {
+    pub function: u32,
+    pub offset: u32,
+}
+
+/// Where the run of an object stands: at a byte of a function, or at one of a slot.
+#[derive(Clone, Copy)]
+pub enum Place {
+    Code { function: u32, offset: u32 },
+    Slot { slot: u32, at: u32 },
+}
