@@ -1,3 +1,6 @@
 pub mod Object
 pub mod Slots
+pub mod Cut
+pub mod Saved
+pub mod WellFormed
 pub mod SymbolicMachine

@@ -1,0 +1,42 @@
+-- The one row of instructions that a function's bytes are.
+use Rattle.std.specs.Prelude.{◌≡◌, ℕ, ◌+◌, Bool, false, ◌||◌, nat_eq, List, [], ◌∷◌, ◌++◌, length}
+use Rattle.x86_core.specs.declared.instr.Instr.{Instr}
+use Rattle.x86_core.specs.Encoding.{encoding, IsInstr}
+use Rattle.obj_core.specs.declared.object.Func.{Func}
+use Rattle.obj_core.specs.Object.{Each}
+
+abbrev pub size_of : Instr → ℕ
+size_of i = length (encoding i)
+
+-- instructions one after another
+abbrev pub spelled : List Instr → List ℕ
+spelled [] = []
+spelled (i ∷ is) = encoding i ++ spelled is
+
+-- bytes cut into instructions, from the first to the last
+pub record IsCut (bytes : List ℕ) (cut : List Instr) : Type 0 where
+  pub instructions : Each IsInstr cut
+  pub whole : spelled cut ≡ bytes
+
+-- each function's cut, none of them empty
+abbrev pub AreCuts : List Func → List (List Instr) → Type 0
+AreCuts [] [] = Unit {0}
+AreCuts (f ∷ fs) ((i ∷ is) ∷ cuts) = IsCut f.bytes (i ∷ is) × AreCuts fs cuts
+AreCuts fs cuts = ⊥
+
+-- an instruction at its offset from the function's start
+pub record Found : Type 0 where
+  pub at : ℕ
+  pub instr : Instr
+
+abbrev pub found_from : ℕ → List Instr → List Found
+found_from at [] = []
+found_from at (i ∷ is) = record { at = at; instr = i } ∷ found_from (at + size_of i) is
+
+abbrev pub found : List Instr → List Found
+found cut = found_from 0 cut
+
+-- whether an instruction starts at an offset
+abbrev pub starts_at : List Found → ℕ → Bool
+starts_at [] off = false
+starts_at (x ∷ xs) off = nat_eq x.at off || starts_at xs off
