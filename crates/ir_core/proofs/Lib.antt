@@ -1,2 +1,4 @@
 pub mod Laws
+pub mod Types
 pub mod Worked
+pub mod Rows

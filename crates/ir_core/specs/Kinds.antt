@@ -3,7 +3,7 @@ use Rattle.std.specs.Prelude.{ℕ, suc, ◌+◌, ◌-◌, ◌/◌, ◌%◌, ◌^
 use Rattle.rd_num.specs.declared.width.Width.{Width}
 use Rattle.rd_num.specs.declared.width.Width.TheVariants.{W1}
 use Rattle.rd_num.specs.Number.{bits}
-use Rattle.ir_core.specs.declared.ty.Ty.{Ty, fold-Ty}
+use Rattle.ir_core.specs.declared.ty.Ty.{Ty, out-Ty}
 use Rattle.ir_core.specs.declared.ty.Ty.TheOpen.{Ty-F}
 use Rattle.ir_core.specs.declared.memory.Value.{Value}
 use Rattle.ir_core.specs.declared.memory.Value.TheVariants.{Num, Null}
@@ -15,7 +15,7 @@ pub data Kind : Type 0 where
   Number : (w : Width) → Kind
   Pointer : Kind
 
-abbrev pub kind_at : Ty-F Kind → Kind
+abbrev pub kind_at : Ty-F Ty → Kind
 kind_at Ty-F.Void = NoValue
 kind_at (Ty-F.Int w) = Number w
 kind_at Ty-F.Ptr = Pointer
@@ -25,7 +25,7 @@ kind_at (Ty-F.Packed fields) = NoValue
 kind_at (Ty-F.Named name) = NoValue
 
 abbrev pub kind_of : Ty → Kind
-kind_of = fold-Ty Kind kind_at
+kind_of ty = kind_at (out-Ty ty)
 
 -- kinds are the same where they are of one width, or both pointers, or both nothing
 abbrev pub same_kind : Kind → Kind → Bool

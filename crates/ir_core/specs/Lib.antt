@@ -7,6 +7,7 @@ pub mod Memory
 pub mod Pointers
 pub mod State
 pub mod Operands
+pub mod Globals
 pub mod Calls
 pub mod Step
 pub mod Run

@@ -5,12 +5,13 @@ use Rattle.behavior.specs.Ending.{Ending, Going}
 use Rattle.behavior.specs.Moment.{Behavior}
 use Rattle.behavior.specs.System.{iter}
 use Rattle.ir_core.specs.declared.module.Function.{Function}
-use Rattle.ir_core.specs.declared.module.GlobalVar.{GlobalVar}
 use Rattle.ir_core.specs.declared.module.Module.{Module}
 use Rattle.ir_core.specs.declared.memory.Value.{Value}
 use Rattle.ir_core.specs.declared.memory.Value.TheVariants.{Num, Null}
 use Rattle.ir_core.specs.Names.{same_name, number_where}
-use Rattle.ir_core.specs.Stops.{malformed, not_yet}
+use Rattle.ir_core.specs.Stops.{malformed}
+use Rattle.ir_core.specs.Memory.{Memory}
+use Rattle.ir_core.specs.Globals.{first_objects}
 use Rattle.ir_core.specs.State.{Frame, State, source_moment}
 use Rattle.ir_core.specs.Operands.{function_number}
 use Rattle.ir_core.specs.Calls.{first_frame}
@@ -20,25 +21,20 @@ use Rattle.ir_core.specs.Step.{source_step}
 abbrev pub first_arguments : List Value
 first_arguments = Num W32 0 ∷ Null ∷ []
 
-abbrev pub standing : List Frame → Ending → State
-standing frames ending = record { frames = frames; objects = []; printed = []; taken = 0; ending = ending }
+abbrev pub standing : Memory → List Frame → Ending → State
+standing objects frames ending = record { frames = frames; objects = objects; printed = []; taken = 0; ending = ending }
 
-abbrev pub start_in : ℕ → Option Function → State
-start_in number (Some f) = standing (first_frame number f first_arguments None ∷ []) Going
-start_in number None = standing [] malformed
+abbrev pub start_in : Module → ℕ → Option Function → State
+start_in m number (Some f) = standing (first_objects m) (first_frame number f first_arguments None ∷ []) Going
+start_in m number None = standing [] [] malformed
 
 abbrev pub start_at : Module → Option ℕ → State
-start_at m (Some number) = start_in number (slice_get m.functions number)
-start_at m None = standing [] malformed
-
--- what globals hold isn't written down yet: a module that has some is left at once
-abbrev pub start_with : Module → List GlobalVar → State
-start_with m [] = start_at m (function_number m (codes "main"))
-start_with m (g ∷ gs) = standing [] not_yet
+start_at m (Some number) = start_in m number (slice_get m.functions number)
+start_at m None = standing [] [] malformed
 
 -- before the first instruction of `main`; a module without one, which isn't valid, is left at once
 unfoldable pub source_start : Module → State
-source_start m = start_with m m.globals
+source_start m = start_at m (function_number m (codes "main"))
 
 -- what a module shows after n steps
 unfoldable pub source_run : Module → Behavior

@@ -37,6 +37,9 @@ abbrev pub part_of_array : Shape → List ℕ → Option ℕ
 part_of_array of [] = Some 0
 part_of_array of (i ∷ is) = option_map (λ at. i * of.size + at) (of.part is)
 
+abbrev pub array : ℕ → Shape → Shape
+array n of = record { size = n * of.size; align = of.align; part = part_of_array of }
+
 -- where fields end that begin at a place, each at the next multiple of its alignment
 abbrev pub end_of : ℕ → List Shape → ℕ
 end_of at [] = at
@@ -68,7 +71,7 @@ abbrev pub shape_at : (List ℕ → Shape) → Ty-F Shape → Shape
 shape_at named Ty-F.Void = nothing
 shape_at named (Ty-F.Int w) = single (bytes_of w)
 shape_at named Ty-F.Ptr = single 8
-shape_at named (Ty-F.Array n of) = record { size = n * of.size; align = of.align; part = part_of_array of }
+shape_at named (Ty-F.Array n of) = array n of
 shape_at named (Ty-F.Struct fields) = struct fields
 shape_at named (Ty-F.Packed fields) = struct (unaligned fields)
 shape_at named (Ty-F.Named name) = named name
@@ -77,11 +80,11 @@ abbrev pub shape_or_nothing : (Ty → Shape) → Option NamedTy → Shape
 shape_or_nothing shape (Some t) = shape t.fields
 shape_or_nothing shape None = nothing
 
--- with names replaced as often as n times
-abbrev pub shape_within : List NamedTy → ℕ → Ty → Shape
-shape_within types zero = fold-Ty Shape (shape_at (λ name. nothing))
-shape_within types (suc n) = fold-Ty Shape (shape_at (λ name. shape_or_nothing (shape_within types n) (first_where (λ t. same_name t.name name) types)))
+-- the shape of a named type, with names replaced as often as n times, one inside another
+abbrev pub named_shape : List NamedTy → ℕ → List ℕ → Shape
+named_shape types zero name = nothing
+named_shape types (suc n) name = shape_or_nothing (fold-Ty Shape (shape_at (named_shape types n))) (first_where (λ (t : NamedTy). same_name t.name name) types)
 
--- types nest at most 64 deep
+-- types nest at most 64 deep, and a named type is a struct
 unfoldable pub shape_of : List NamedTy → Ty → Shape
-shape_of types = shape_within types 64
+shape_of types = fold-Ty Shape (shape_at (named_shape types 64))

@@ -24,10 +24,6 @@ left reason = Left (reason_number reason)
 abbrev pub malformed : Ending
 malformed = left Mixed
 
--- where the meaning isn't written down yet
-abbrev pub not_yet : Ending
-not_yet = left Callee
-
 -- what a part of a step gives, or the ending at which it stops the run
 abbrev pub Answer : Type 0 → Type 0
 Answer A = Result A Ending

@@ -1,0 +1,198 @@
+-- More runs, computed: edges and phis, calls, traps, input, memory, and runs that are left.
+use Rattle.std.proofs.Common.{◌≡◌, ℕ, Bool, List, [], ◌∷◌, true, false, refl, Some, None}
+use Rattle.std.specs.Prelude.{codes, pos, negsuc}
+use denote.Hole.Carrier.{out}
+use Rattle.rd_num.specs.declared.width.Width.TheVariants.{W1, W8, W32, W64}
+use Rattle.behavior.specs.Ending.{Ending, Going, Ended, Divide, Trap, Depth, Left}
+use Rattle.behavior.specs.Moment.{Moment}
+use Rattle.ir_core.specs.declared.ty.Ty.{Ty, out-Ty}
+use Rattle.ir_core.specs.declared.operand.Operand.{Operand}
+use Rattle.ir_core.specs.declared.instruction.BinOp.{BinOp}
+use Rattle.ir_core.specs.declared.instruction.Pred.{Pred}
+use Rattle.ir_core.specs.declared.instruction.CastOp.{CastOp}
+use Rattle.ir_core.specs.declared.instruction.Op.{Op}
+use Rattle.ir_core.specs.declared.instruction.Entry.{Entry}
+use Rattle.ir_core.specs.declared.instruction.Arg.{Arg}
+use Rattle.ir_core.specs.declared.instruction.Case.{Case}
+use Rattle.ir_core.specs.declared.instruction.Inst.{Inst}
+use Rattle.ir_core.specs.declared.instruction.Term.{Term}
+use Rattle.ir_core.specs.declared.module.Block.{Block}
+use Rattle.ir_core.specs.declared.module.Param.{Param}
+use Rattle.ir_core.specs.declared.module.Extern.{Extern}
+use Rattle.ir_core.specs.declared.module.Function.{Function}
+use Rattle.ir_core.specs.declared.module.Module.{Module}
+use Rattle.ir_core.specs.declared.memory.Reason.TheVariants.{Unset, Equal}
+use Rattle.ir_core.specs.Stops.{left}
+use Rattle.ir_core.specs.Step.{source_step}
+use Rattle.ir_core.specs.Run.{source_start, source_run}
+use Rattle.ir_core.proofs.Types.{shape-int}
+
+abbrev i1 : Ty
+i1 = Ty.Int W1
+
+abbrev i8 : Ty
+i8 = Ty.Int W8
+
+abbrev i32 : Ty
+i32 = Ty.Int W32
+
+abbrev i64 : Ty
+i64 = Ty.Int W64
+
+abbrev local : List ℕ → Operand
+local name = Operand.Local name
+
+abbrev int : ℕ → Operand
+int n = Operand.Int (pos n)
+
+abbrev gives : List ℕ → Op → Inst
+gives name op = record { result = Some name; op = op }
+
+abbrev block : List ℕ → List Inst → Term → Block
+block label insts end = record { label = label; insts = insts; end = end }
+
+abbrev function : List ℕ → List Param → List Block → Function
+function name params blocks = record { name = name; ret = i32; params = params; blocks = blocks }
+
+abbrev module_of : List Extern → List Function → Module
+module_of externs functions = record { types = []; globals = []; externs = externs; functions = functions }
+
+abbrev entry : Operand → List ℕ → Entry
+entry value from = record { value = value; from = from }
+
+abbrev arg : Ty → Operand → Arg
+arg ty value = record { ty = ty; value = value }
+
+abbrev shown : List ℕ → ℕ → Ending → Moment
+shown printed taken ending = record { printed = printed; taken = taken; ending = ending }
+
+abbrev putchar : Extern
+putchar = record { name = codes "putchar"; ret = i32; params = i32 ∷ [] }
+
+-- two phis that exchange their values at each turn print ABABA
+abbrev exchange : Module
+exchange = module_of (putchar ∷ []) (function (codes "main") [] (
+  block (codes "e") [] (Term.Br (codes "h"))
+  ∷ block (codes "h") (
+    gives (codes "i") (Op.Phi i32 (entry (int 0) (codes "e") ∷ entry (local (codes "j")) (codes "h") ∷ []))
+    ∷ gives (codes "a") (Op.Phi i32 (entry (int 65) (codes "e") ∷ entry (local (codes "b")) (codes "h") ∷ []))
+    ∷ gives (codes "b") (Op.Phi i32 (entry (int 66) (codes "e") ∷ entry (local (codes "a")) (codes "h") ∷ []))
+    ∷ gives (codes "p") (Op.Call i32 (Operand.Global (codes "putchar")) (arg i32 (local (codes "a")) ∷ []))
+    ∷ gives (codes "j") (Op.Bin BinOp.Add i32 (local (codes "i")) (int 1))
+    ∷ gives (codes "q") (Op.Compare Pred.Eq i32 (local (codes "j")) (int 5))
+    ∷ []) (Term.BrIf (local (codes "q")) (codes "z") (codes "h"))
+  ∷ block (codes "z") [] (Term.RetValue i32 (int 0))
+  ∷ []) ∷ [])
+
+exchange_prints : source_run exchange [] 22 ≡ shown (codes "ABABA") 0 (Ended 0)
+unfolding source_run source_start source_step out-Ty out
+exchange_prints = refl
+
+-- a branch to a block that gives a local, and to one that doesn't: reading it leaves the meaning
+abbrev branched : Bool → Module
+branched first = module_of [] (function (codes "main") [] (
+  block (codes "e") [] (Term.BrIf (Operand.Bool first) (codes "a") (codes "b"))
+  ∷ block (codes "a") (gives (codes "x") (Op.Bin BinOp.Add i32 (int 1) (int 2)) ∷ []) (Term.Br (codes "c"))
+  ∷ block (codes "b") [] (Term.Br (codes "c"))
+  ∷ block (codes "c") [] (Term.RetValue i32 (local (codes "x")))
+  ∷ []) ∷ [])
+
+branched_true : source_run (branched true) [] 4 ≡ shown [] 0 (Ended 3)
+unfolding source_run source_start source_step out-Ty out
+branched_true = refl
+
+branched_false : source_run (branched false) [] 9 ≡ shown [] 0 (left Unset)
+unfolding source_run source_start source_step out-Ty out
+branched_false = refl
+
+-- the least number of a width by -1 has no quotient in it
+abbrev divided : Module
+divided = module_of [] (function (codes "main") [] (
+  block (codes "0") (gives (codes "r") (Op.Bin BinOp.Sdiv i8 (Operand.Int (negsuc 127)) (Operand.Int (negsuc 0))) ∷ []) (Term.RetValue i32 (int 0))
+  ∷ []) ∷ [])
+
+divided_traps : source_run divided [] 9 ≡ shown [] 0 Divide
+unfolding source_run source_start source_step out-Ty out
+divided_traps = refl
+
+-- at the end of the input `getchar` gives -1 and takes nothing
+abbrev read : Module
+read = module_of (record { name = codes "getchar"; ret = i32; params = [] } ∷ []) (function (codes "main") [] (
+  block (codes "0") (gives (codes "c") (Op.Call i32 (Operand.Global (codes "getchar")) []) ∷ []) (Term.RetValue i32 (local (codes "c")))
+  ∷ []) ∷ [])
+
+read_at_end : source_run read [] 2 ≡ shown [] 0 (Ended 255)
+unfolding source_run source_start source_step out-Ty out
+read_at_end = refl
+
+read_byte : source_run read (65 ∷ []) 2 ≡ shown [] 1 (Ended 65)
+unfolding source_run source_start source_step out-Ty out
+read_byte = refl
+
+-- two cases with one label, and the phi of that edge
+abbrev switched : Module
+switched = module_of [] (function (codes "main") [] (
+  block (codes "e") [] (Term.Switch i32 (int 1) (codes "d") (record { ty = i32; value = int 1; to = codes "c" } ∷ record { ty = i32; value = int 2; to = codes "c" } ∷ []))
+  ∷ block (codes "c") (gives (codes "x") (Op.Phi i32 (entry (int 5) (codes "e") ∷ entry (int 5) (codes "e") ∷ [])) ∷ []) (Term.RetValue i32 (local (codes "x")))
+  ∷ block (codes "d") [] (Term.RetValue i32 (int 0))
+  ∷ []) ∷ [])
+
+switched_ends : source_run switched [] 2 ≡ shown [] 0 (Ended 5)
+unfolding source_run source_start source_step out-Ty out
+switched_ends = refl
+
+-- a `main` that calls itself: only the call with which the run began ends it
+abbrev again : Module
+again = module_of [] (function (codes "main") (record { ty = i32; name = codes "n" } ∷ record { ty = Ty.Ptr; name = codes "p" } ∷ []) (
+  block (codes "e") (gives (codes "q") (Op.Compare Pred.Eq i32 (local (codes "n")) (int 0)) ∷ []) (Term.BrIf (local (codes "q")) (codes "a") (codes "b"))
+  ∷ block (codes "a") (
+    gives (codes "r") (Op.Call i32 (Operand.Global (codes "main")) (arg i32 (int 1) ∷ arg Ty.Ptr Operand.Null ∷ []))
+    ∷ gives (codes "s") (Op.Bin BinOp.Add i32 (local (codes "r")) (int 1))
+    ∷ []) (Term.RetValue i32 (local (codes "s")))
+  ∷ block (codes "b") [] (Term.RetValue i32 (int 5))
+  ∷ []) ∷ [])
+
+again_ends : source_run again [] 8 ≡ shown [] 0 (Ended 6)
+unfolding source_run source_start source_step out-Ty out
+again_ends = refl
+
+-- a number in memory: 200 + 100 modulo 256
+abbrev kept : Module
+kept = module_of [] (function (codes "main") [] (
+  block (codes "0") (
+    gives (codes "p") (Op.Alloca i8 1)
+    ∷ record { result = None; op = Op.Store i8 (int 200) (local (codes "p")) }
+    ∷ gives (codes "x") (Op.Load i8 (local (codes "p")))
+    ∷ gives (codes "y") (Op.Bin BinOp.Add i8 (local (codes "x")) (int 100))
+    ∷ gives (codes "z") (Op.Cast CastOp.Zext i8 (local (codes "y")) i32)
+    ∷ []) (Term.RetValue i32 (local (codes "z")))
+  ∷ []) ∷ [])
+
+kept_ends : source_run kept [] 6 ≡ shown [] 0 (Ended 44)
+unfolding source_run source_start source_step out-Ty out
+kept_ends = rw (shape-int [] W8) refl
+
+-- what an alloca holds at first can't be read
+abbrev fresh : Module
+fresh = module_of [] (function (codes "main") [] (
+  block (codes "0") (gives (codes "p") (Op.Alloca i32 1) ∷ gives (codes "x") (Op.Load i32 (local (codes "p"))) ∷ []) (Term.RetValue i32 (local (codes "x")))
+  ∷ []) ∷ [])
+
+fresh_is_left : source_run fresh [] 9 ≡ shown [] 0 (left Unset)
+unfolding source_run source_start source_step out-Ty out
+fresh_is_left = rw (shape-int [] W32) refl
+
+-- the end of one object and the start of another can't be told apart
+abbrev touching : Module
+touching = module_of [] (function (codes "main") [] (
+  block (codes "0") (
+    gives (codes "a") (Op.Alloca i32 1)
+    ∷ gives (codes "b") (Op.Alloca i32 1)
+    ∷ gives (codes "e") (Op.Gep i32 (local (codes "a")) (arg i64 (int 1) ∷ []))
+    ∷ gives (codes "q") (Op.Compare Pred.Eq Ty.Ptr (local (codes "e")) (local (codes "b")))
+    ∷ []) (Term.RetValue i32 (int 0))
+  ∷ []) ∷ [])
+
+touching_is_left : source_run touching [] 9 ≡ shown [] 0 (left Equal)
+unfolding source_run source_start source_step out-Ty out
+touching_is_left = rw (shape-int [] W32) refl
