@@ -43,10 +43,10 @@ abbrev pub Appends : {T E : Type 0} → Option (List ℕ) → Option (List ℕ) 
 Appends old new bytes (Ok x) = Gets old new bytes
 Appends old new bytes (Err e) = GetsPart old new bytes
 
--- the second is more by n, as far as 2^64 - 1, where it is told
+-- the second is more by n, or by what is left to 2^64 - 1, where it is told
 abbrev pub Counts : Option ℕ → Option ℕ → ℕ → Type 0
 Counts None new n = new ≡ None
-Counts (Some t) new n = new ≡ Some (min (t + n) (2 ^ 64 - 1))
+Counts (Some t) new n = new ≡ Some (t + min n (2 ^ 64 - 1 - t))
 
 -- the same by n at most
 abbrev pub CountsPart : Option ℕ → Option ℕ → ℕ → Type 0

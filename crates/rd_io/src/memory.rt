@@ -2,9 +2,12 @@
 //!
 //! Calls are numbered from 1, each object's for itself. They tell all that they hold.
 
-ghost use Rattle.std.specs.Prelude.{◌≡◌, ◌+◌, ◌-◌, ◌^◌, ◌≤◌, min, List, [], ◌∷◌, ◌≢◌, length, drop, refl, None, Some, Err, MatchOption, nat_le};
+ghost use Rattle.std.specs.Prelude.{◌≡◌, ◌+◌, ◌-◌, ◌^◌, ◌≤◌, min, [], ◌∷◌, ◌++◌, ◌||◌, ◌≢◌, length, drop, refl, None, Some, Err, OnOk, OnErr, MatchOption, nat_le};
+ghost use Rattle.std.specs.Option.{is_none};
+ghost use Rattle.rd_io.specs.Causes.{Caused, PutCaused, FileCaused, Loses};
 ghost use Rattle.rd_io.specs.Held.{content_of, name_or_empty};
-ghost use Rattle.rd_io.specs.Outside.{Reads};
+ghost use Rattle.rd_io.specs.Numbered.{one_more, is_failing, TakeFails, PutFails, ReadFails};
+ghost use Rattle.rd_io.specs.Outside.{Takes, Ends, Reads};
 
 use crate::{Failed, FileFail, Files, PutFail, Sink, Source};
 use rd_num::copied::{Copied, copy_list};
@@ -50,7 +53,14 @@ impl Files for MemFiles {
 
     ghost faults = { λ f. f.faults };
 
-    fn read(&mut self, alloc: Global, name: &str, limit: u64) -> Result<List<u8>, FileFail> {
+    fn read(&mut self, alloc: Global, name: &str, limit: u64) -> Result<List<u8>, FileFail>
+        ensures bytes { Reads (content_of self.old.files name.now) limit result }
+        ensures fault { ReadFails (is_failing self.old.fails self.old.calls || is_none (content_of self.old.files name.now)) result }
+        ensures cause { FileCaused self.old.faults self.new.faults result }
+        ensures lost { Loses (name_or_empty self.old.lost) (name_or_empty self.new.lost) name.now result }
+        ensures call { self.new.calls ≡ one_more self.old.calls }
+        ensures files { (self.new.files ≡ self.old.files) × (self.new.fails ≡ self.old.fails) }
+    {
         self.calls = self.calls.saturating_add(1);
         let own = match copy_list(alloc, name.as_bytes()) {
             Ok(own) => own,
@@ -126,7 +136,14 @@ impl Source for MemSource {
 
     ghost faults = { λ s. s.faults };
 
-    fn take(&mut self) -> Result<Option<u8>, Failed> {
+    fn take(&mut self) -> Result<Option<u8>, Failed>
+        ensures bytes { Takes (Some (drop self.old.place self.old.bytes)) (Some (drop self.new.place self.new.bytes)) result }
+        ensures end { Ends (nat_le (length self.old.bytes) self.old.place) (nat_le (length self.new.bytes) self.new.place) result }
+        ensures fault { TakeFails (is_failing self.old.fails self.old.calls) result }
+        ensures cause { Caused self.old.faults self.new.faults result }
+        ensures call { self.new.calls ≡ one_more self.old.calls }
+        ensures fails { self.new.fails ≡ self.old.fails }
+    {
         self.calls = self.calls.saturating_add(1);
         if self.fails.as_slice().contains(&self.calls) {
             self.faults = self.faults.saturating_add(1);
@@ -188,7 +205,15 @@ impl Sink for MemSink {
 
     ghost counted = { λ s. refl };
 
-    fn put(&mut self, bytes: &[u8]) -> Result<(), PutFail> {
+    /// Appends bytes. After an error none of them was appended.
+    fn put(&mut self, bytes: &[u8]) -> Result<(), PutFail>
+        ensures put { OnOk result (self.new.bytes ≡ self.old.bytes ++ bytes.now) }
+        ensures unchanged { OnErr result (self.new.bytes ≡ self.old.bytes) }
+        ensures fault { PutFails (is_failing self.old.fails self.old.calls) result }
+        ensures cause { PutCaused self.old.faults self.new.faults result }
+        ensures call { self.new.calls ≡ one_more self.old.calls }
+        ensures fails { self.new.fails ≡ self.old.fails }
+    {
         self.calls = self.calls.saturating_add(1);
         if self.fails.as_slice().contains(&self.calls) {
             self.faults = self.faults.saturating_add(1);

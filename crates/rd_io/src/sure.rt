@@ -2,7 +2,7 @@
 
 ghost use Rattle.std.specs.Prelude.{◌≡◌, ◌≢◌, ◌+◌, ◌-◌, ◌^◌, ◌≤◌, min, [], length, drop, nat_le, refl, None, Some, Err, IsOk, OnOk, OnErr, ◌++◌};
 ghost use Rattle.rd_io.specs.Held.{content_or_empty};
-ghost use Rattle.rd_io.specs.Outside.{Takes, Ends, Reads};
+ghost use Rattle.rd_io.specs.Outside.{Takes, Ends, Reads, Counts};
 
 use crate::memory::{File, find, next, within};
 use crate::{Failed, FileFail, Files, PutFail, Sink, Source};
@@ -155,7 +155,7 @@ impl Sink for CountSink {
     /// Counts bytes. Takes no memory.
     fn put(&mut self, bytes: &[u8]) -> Result<(), PutFail>
         ensures sure { IsOk result }
-        ensures count { self.new.count ≡ min (self.old.count + length bytes.now) (2 ^ 64 - 1) }
+        ensures count { Counts (Some self.old.count) (Some self.new.count) (length bytes.now) }
     {
         self.count = self.count.saturating_add(bytes.len() as u64);
         Ok(())
