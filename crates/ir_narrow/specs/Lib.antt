@@ -2,3 +2,4 @@ pub mod Pieces
 pub mod Values
 pub mod NarrowText
 pub mod Reading
+pub mod Resolved
