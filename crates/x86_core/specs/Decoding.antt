@@ -181,12 +181,15 @@ move_row p bs = if is_free p then two_registers (λ r m. Mov (wide_at p) m r) (p
 abbrev pub store_row : Prefix → List ℕ → Decoded
 store_row p bs = if is_sized p then at_memory (λ r m. Store (size_at p) m r) (prefix_size p + 6) p bs else Unknown
 
+-- a constant of 64 or of 32 bits
+abbrev pub constants : Prefix → Reg → List ℕ → Decoded
+constants p d bs =
+    if is_long p then taken (MovImm64 d) 10 (first8 bs) else
+    (if is_narrow p then taken (MovImm32 d) (prefix_size p + 5) (first4 bs) else Unknown)
+
 -- B8 to BF
 abbrev pub constant_row : Prefix → ℕ → List ℕ → Decoded
-constant_row p n bs =
-    if reg_bit p then Unknown else
-    (if is_long p then taken (λ c. MovImm64 (reg_at (rm_bit p) n) c) 10 (first8 bs) else
-    (if is_narrow p then taken (λ c. MovImm32 (reg_at (rm_bit p) n) c) (prefix_size p + 5) (first4 bs) else Unknown))
+constant_row p n bs = if reg_bit p then Unknown else constants p (reg_at (rm_bit p) n) bs
 
 -- an operation on two registers
 abbrev pub alu_row : AluOp → Prefix → List ℕ → Decoded
@@ -243,11 +246,11 @@ load_byte_row p bs = if is_narrow p then at_memory (Load Size.W8) (prefix_size p
 
 -- 0F B7 of registers
 abbrev pub widen_word_row : Prefix → List ℕ → Decoded
-widen_word_row p bs = if is_narrow p then two_registers (Widen WidenKind.Zero16) (prefix_size p + 3) p bs else Unknown
+widen_word_row p bs = two_registers (Widen WidenKind.Zero16) (prefix_size p + 3) p bs
 
 -- 0F B7 of memory
 abbrev pub load_word_row : Prefix → List ℕ → Decoded
-load_word_row p bs = if is_narrow p then at_memory (Load Size.W16) (prefix_size p + 7) p bs else Unknown
+load_word_row p bs = at_memory (Load Size.W16) (prefix_size p + 7) p bs
 
 -- 0F BE, 0F BF
 abbrev pub widen_sign_row : WidenKind → Prefix → List ℕ → Decoded
@@ -311,12 +314,20 @@ r11_row Plain bs = Unknown
 r11_row (Rex w r b) bs = if b && not (w || r) then word_row bs else Unknown
 r11_row (Word r b) bs = Unknown
 
+-- 0F B6
+abbrev pub widen_byte_rows : Prefix → List ℕ → Decoded
+widen_byte_rows p bs = if is_byte p || is_plain p then by_mode (widen_byte_row p) (load_byte_row p) bs else Unknown
+
+-- 0F B7
+abbrev pub widen_word_rows : Prefix → List ℕ → Decoded
+widen_word_rows p bs = if is_narrow p then by_mode (widen_word_row p) (load_word_row p) bs else Unknown
+
 -- the rows after 0F that widen, load and multiply
 abbrev pub widen_rows : Prefix → ℕ → List ℕ → Decoded
 widen_rows p b bs =
     if nat_eq b 0xAF then imul_row p bs else
-    (if nat_eq b 0xB6 then (if is_byte p || is_plain p then by_mode (widen_byte_row p) (load_byte_row p) bs else Unknown) else
-    (if nat_eq b 0xB7 then (if is_narrow p then by_mode (widen_word_row p) (load_word_row p) bs else Unknown) else
+    (if nat_eq b 0xB6 then widen_byte_rows p bs else
+    (if nat_eq b 0xB7 then widen_word_rows p bs else
     (if nat_eq b 0xBE then widen_sign_row WidenKind.Sign8 p bs else
     (if nat_eq b 0xBF then widen_sign_row WidenKind.Sign16 p bs else Unknown))))
 
@@ -349,16 +360,20 @@ bare_rows p b bs =
     (if nat_eq b 0xFF then r11_row p bs else
     (if nat_eq b 0x99 then high_row p else Unknown))))))
 
--- the rows with a digit, and those with a register in the opcode
+-- the rows with a register in the opcode
+abbrev pub register_rows : Prefix → ℕ → List ℕ → Decoded
+register_rows p b bs =
+    if nat_eq (b / 8) 10 then push_row p (b % 8) else
+    (if nat_eq (b / 8) 11 then pop_row p (b % 8) else
+    (if nat_eq (b / 8) 23 then constant_row p (b % 8) bs else bare_rows p b bs))
+
+-- the rows with a digit
 abbrev pub digit_rows : Prefix → ℕ → List ℕ → Decoded
 digit_rows p b bs =
     if nat_eq b 0x81 then alu_imm_row p bs else
     (if nat_eq b 0xD3 then shift_row p bs else
     (if nat_eq b 0xF6 then byte_division_row p bs else
-    (if nat_eq b 0xF7 then division_row p bs else
-    (if nat_eq (b / 8) 10 then push_row p (b % 8) else
-    (if nat_eq (b / 8) 11 then pop_row p (b % 8) else
-    (if nat_eq (b / 8) 23 then constant_row p (b % 8) bs else bare_rows p b bs))))))
+    (if nat_eq b 0xF7 then division_row p bs else register_rows p b bs)))
 
 -- the rows that move
 abbrev pub moving_rows : Prefix → ℕ → List ℕ → Decoded
