@@ -16,7 +16,7 @@ use Rattle.ir_narrow.specs.declared.narrow.Operation.TheVariants.{Add, Sub, Mul}
 use Rattle.ir_narrow.specs.declared.narrow.Instruction.{Instruction}
 use Rattle.ir_narrow.specs.declared.narrow.Narrow.{Narrow}
 use Rattle.ir_narrow.specs.Values.{integer_of, place_of}
-use Rattle.ir_narrow.specs.NarrowText.{Row, Program, names_of}
+use Rattle.ir_narrow.specs.NarrowText.{Row, Program, names_of, IsNarrowText}
 use Rattle.ir_narrow.specs.Reading.{value_of, behind_percent}
 
 -- the instruction of a row, where these names have results
@@ -35,6 +35,12 @@ AllMatch names (r ∷ rs) [] = ⊥
 pub record IsResolved (p : Program) (n : Narrow) : Type 0 where
   pub rows : AllMatch [] p.rows n.instructions
   pub result : value_of (names_of p.rows) p.result ≡ Some n.result
+
+-- the text is a narrow one, and these are its instructions
+pub record SpellsNarrow (text : List ℕ) (n : Narrow) : Type 0 where
+  pub program : Program
+  pub spelled : IsNarrowText text program
+  pub resolved : IsResolved program n
 
 -- the type of every value in a narrow module
 abbrev pub word_type : Ty

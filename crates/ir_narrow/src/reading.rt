@@ -3,6 +3,8 @@
 ghost use Rattle.std.specs.Prelude.{◌≡◌, ◌≢◌, ◌<◌, ◌≤◌, ◌^◌, ℕ, List, ◌∷◌, ◌++◌, [], map, length, pos, Some, None, Option, MatchOption, IfOk, OnOk, OnErr, MatchResult, IfErr};
 ghost use Rattle.ir_narrow.specs.Pieces.{pieces};
 ghost use Rattle.ir_narrow.specs.Values.{is_digit, is_letter, all_name_bytes, is_name, digits_from, natural_of, integer_of, word_of, place_of};
+ghost use Rattle.ir_narrow.specs.NarrowText.{Program, IsNarrowText};
+ghost use Rattle.ir_narrow.specs.Resolved.{SpellsNarrow};
 ghost use Rattle.ir_narrow.specs.Reading.{number, value_of, operation_of, before_comma, behind_percent, name_of, opening_of, operands_of, row_of, end_of, body_of, resolved, instruction, returned, begins_ret, put_all, with_result, reads, narrow_in, Gives, Keeps};
 
 use crate::narrow::{Instruction, MAX_INSTRUCTIONS, Narrow, NarrowFault, Operation, Value};
@@ -347,10 +349,8 @@ fn rows<'a>(
     Ok(rest)
 }
 
-/// The instructions of a narrow text, with operands resolved.
-///
-/// `NotNarrow` comes exactly where the text isn't narrow.
-pub fn read(alloc: Global, text: &[u8]) -> Result<Narrow, NarrowFault>
+/// What is read of the pieces of a text.
+fn read_pieces(alloc: Global, text: &[u8]) -> Result<Narrow, NarrowFault>
     ensures { Gives (narrow_in (body_of (pieces text.now))) result }
 {
     let body = match body_at(text) {
@@ -365,4 +365,15 @@ pub fn read(alloc: Global, text: &[u8]) -> Result<Narrow, NarrowFault>
         instructions,
         result,
     })
+}
+
+/// The instructions of a narrow text, with operands resolved.
+///
+/// `NotNarrow` comes exactly where the text isn't narrow. Time and memory are linear in the text.
+#[tactic(auto, using(crate::proofs::Exact::read_text, crate::proofs::Exact::refused_text))]
+pub fn read(alloc: Global, text: &[u8]) -> Result<Narrow, NarrowFault>
+    ensures read { IfOk result (λ n. SpellsNarrow text.now n) }
+    ensures refused { result ≡ Err NarrowFault.NotNarrow → (p : Program) → IsNarrowText text.now p → ⊥ }
+{
+    read_pieces(alloc, text)
 }
