@@ -171,6 +171,52 @@ module _ (front : List ℕ) (make : ℕ → Instr) (size : ℕ) (spells : (n : �
   pub good_taken4 : Good front (λ bs. taken make size (first4 bs))
   good_taken4 = record { says = says4; stays = stays4 }
 
+-- an instruction that ends with a number of eight bytes
+small8 : (a b c d e f g h : ℕ) → a < 256 → b < 256 → c < 256 → d < 256 → e < 256 → f < 256 → g < 256 → h < 256 → le_number (a ∷ b ∷ c ∷ d ∷ e ∷ f ∷ g ∷ h ∷ []) < 2 ^ 64
+small8 a b c d e f g h ha hb hc hd he hf hg hh = omega arith
+
+module _ (front : List ℕ) (make : ℕ → Instr) (size : ℕ) (spells : (n : ℕ) → n < 2 ^ 64 → Spells (make n) (front ++ le_bytes 8 n)) (n : size ≡ length front + 8) where
+  at8 : (a b c d e f g i : ℕ) → IsBytes (a ∷ b ∷ c ∷ d ∷ e ∷ f ∷ g ∷ i ∷ []) → Spells (make (le_number (a ∷ b ∷ c ∷ d ∷ e ∷ f ∷ g ∷ i ∷ []))) (front ++ (a ∷ b ∷ c ∷ d ∷ e ∷ f ∷ g ∷ i ∷ []))
+  at8 a b c d e f g i h =
+      let it = spells (le_number (a ∷ b ∷ c ∷ d ∷ e ∷ f ∷ g ∷ i ∷ [])) (small8 a b c d e f g i h.0 h.1.0 h.1.1.0 h.1.1.1.0 h.1.1.1.1.0 h.1.1.1.1.1.0 h.1.1.1.1.1.1.0 h.1.1.1.1.1.1.1.0) in
+      record { is_instr = it.is_instr; bytes = it.bytes ∙ ap (λ (xs : List ℕ). front ++ xs) (bytes_back (a ∷ b ∷ c ∷ d ∷ e ∷ f ∷ g ∷ i ∷ []) h) }
+
+  zero_small8 : 0 < 256
+  zero_small8 = lit< tt
+
+  says8 : (bs : List ℕ) → IsBytes bs → Says (front ++ bs) (taken make size (first8 bs))
+  says8 [] h =
+      let it = at8 0 0 0 0 0 0 0 0 (zero_small8, (zero_small8, (zero_small8, (zero_small8, (zero_small8, (zero_small8, (zero_small8, (zero_small8, tt)))))))) in
+      cut_of (front ++ []) _ 0 (0 ∷ 0 ∷ 0 ∷ 0 ∷ 0 ∷ 0 ∷ 0 ∷ []) it.is_instr (it.bytes ∙ sym (append_assoc front [] (0 ∷ 0 ∷ 0 ∷ 0 ∷ 0 ∷ 0 ∷ 0 ∷ 0 ∷ [])))
+  says8 (a ∷ []) h =
+      let it = at8 a 0 0 0 0 0 0 0 (h.0, (zero_small8, (zero_small8, (zero_small8, (zero_small8, (zero_small8, (zero_small8, (zero_small8, tt)))))))) in
+      cut_of (front ++ (a ∷ [])) _ 0 (0 ∷ 0 ∷ 0 ∷ 0 ∷ 0 ∷ 0 ∷ []) it.is_instr (it.bytes ∙ sym (append_assoc front (a ∷ []) (0 ∷ 0 ∷ 0 ∷ 0 ∷ 0 ∷ 0 ∷ 0 ∷ [])))
+  says8 (a ∷ b ∷ []) h =
+      let it = at8 a b 0 0 0 0 0 0 (h.0, (h.1.0, (zero_small8, (zero_small8, (zero_small8, (zero_small8, (zero_small8, (zero_small8, tt)))))))) in
+      cut_of (front ++ (a ∷ b ∷ [])) _ 0 (0 ∷ 0 ∷ 0 ∷ 0 ∷ 0 ∷ []) it.is_instr (it.bytes ∙ sym (append_assoc front (a ∷ b ∷ []) (0 ∷ 0 ∷ 0 ∷ 0 ∷ 0 ∷ 0 ∷ [])))
+  says8 (a ∷ b ∷ c ∷ []) h =
+      let it = at8 a b c 0 0 0 0 0 (h.0, (h.1.0, (h.1.1.0, (zero_small8, (zero_small8, (zero_small8, (zero_small8, (zero_small8, tt)))))))) in
+      cut_of (front ++ (a ∷ b ∷ c ∷ [])) _ 0 (0 ∷ 0 ∷ 0 ∷ 0 ∷ []) it.is_instr (it.bytes ∙ sym (append_assoc front (a ∷ b ∷ c ∷ []) (0 ∷ 0 ∷ 0 ∷ 0 ∷ 0 ∷ [])))
+  says8 (a ∷ b ∷ c ∷ d ∷ []) h =
+      let it = at8 a b c d 0 0 0 0 (h.0, (h.1.0, (h.1.1.0, (h.1.1.1.0, (zero_small8, (zero_small8, (zero_small8, (zero_small8, tt)))))))) in
+      cut_of (front ++ (a ∷ b ∷ c ∷ d ∷ [])) _ 0 (0 ∷ 0 ∷ 0 ∷ []) it.is_instr (it.bytes ∙ sym (append_assoc front (a ∷ b ∷ c ∷ d ∷ []) (0 ∷ 0 ∷ 0 ∷ 0 ∷ [])))
+  says8 (a ∷ b ∷ c ∷ d ∷ e ∷ []) h =
+      let it = at8 a b c d e 0 0 0 (h.0, (h.1.0, (h.1.1.0, (h.1.1.1.0, (h.1.1.1.1.0, (zero_small8, (zero_small8, (zero_small8, tt)))))))) in
+      cut_of (front ++ (a ∷ b ∷ c ∷ d ∷ e ∷ [])) _ 0 (0 ∷ 0 ∷ []) it.is_instr (it.bytes ∙ sym (append_assoc front (a ∷ b ∷ c ∷ d ∷ e ∷ []) (0 ∷ 0 ∷ 0 ∷ [])))
+  says8 (a ∷ b ∷ c ∷ d ∷ e ∷ f ∷ []) h =
+      let it = at8 a b c d e f 0 0 (h.0, (h.1.0, (h.1.1.0, (h.1.1.1.0, (h.1.1.1.1.0, (h.1.1.1.1.1.0, (zero_small8, (zero_small8, tt)))))))) in
+      cut_of (front ++ (a ∷ b ∷ c ∷ d ∷ e ∷ f ∷ [])) _ 0 (0 ∷ []) it.is_instr (it.bytes ∙ sym (append_assoc front (a ∷ b ∷ c ∷ d ∷ e ∷ f ∷ []) (0 ∷ 0 ∷ [])))
+  says8 (a ∷ b ∷ c ∷ d ∷ e ∷ f ∷ g ∷ []) h =
+      let it = at8 a b c d e f g 0 (h.0, (h.1.0, (h.1.1.0, (h.1.1.1.0, (h.1.1.1.1.0, (h.1.1.1.1.1.0, (h.1.1.1.1.1.1.0, (zero_small8, tt)))))))) in
+      cut_of (front ++ (a ∷ b ∷ c ∷ d ∷ e ∷ f ∷ g ∷ [])) _ 0 [] it.is_instr (it.bytes ∙ sym (append_assoc front (a ∷ b ∷ c ∷ d ∷ e ∷ f ∷ g ∷ []) (0 ∷ [])))
+  says8 (a ∷ b ∷ c ∷ d ∷ e ∷ f ∷ g ∷ i ∷ bs) h =
+      let it = at8 a b c d e f g i (h.0, (h.1.0, (h.1.1.0, (h.1.1.1.0, (h.1.1.1.1.0, (h.1.1.1.1.1.0, (h.1.1.1.1.1.1.0, (h.1.1.1.1.1.1.1.0, tt)))))))) in
+      let split : front ++ (a ∷ b ∷ c ∷ d ∷ e ∷ f ∷ g ∷ i ∷ bs) ≡ (front ++ (a ∷ b ∷ c ∷ d ∷ e ∷ f ∷ g ∷ i ∷ [])) ++ bs = sym (append_assoc front (a ∷ b ∷ c ∷ d ∷ e ∷ f ∷ g ∷ i ∷ []) bs) in
+      record { is_instr = it.is_instr; rest = bs; split = split ∙ ap (λ (xs : List ℕ). xs ++ bs) (sym it.bytes); size = longer front (a ∷ b ∷ c ∷ d ∷ e ∷ f ∷ g ∷ i ∷ []) size 8 n refl ∙ ap length (sym it.bytes) }
+
+  pub good_taken8 : Good front (λ bs. taken make size (first8 bs))
+  good_taken8 = record { says = says8; stays = λ bs more e. absurd (taken_known make size (first8 bs) e) }
+
 -- a signed number of four bytes
 pub good_number : (front : List ℕ) (make : ℤ → Instr) (size : ℕ) →
     ((d : ℤ) → IsNumber32 d → Spells (make d) (front ++ number32 d)) → size ≡ length front + 4 → Good front (with_number make size)

@@ -1,3 +1,4 @@
 pub mod Parts
 pub mod Good
 pub mod Rows
+pub mod Whole

@@ -127,73 +127,73 @@ memory_row p op k size make front n o real bytes same =
     (let s : prefix_size p + length op ≡ length (spelled p ++ op) = sized_front p op (length op) refl in omega arith)
 
 -- 89 of registers
-move_good : (p : Prefix) → Good (spelled p ++ 0x89 ∷ []) (Decoding.move_row p)
+pub move_good : (p : Prefix) → Good (spelled p ++ 0x89 ∷ []) (Decoding.move_row p)
 move_good p =
     good_where _ (is_free p) (two_registers (λ r m. Mov (wide_at p) m r) (prefix_size p + 2) p)
     (λ e. two_row p (0x89 ∷ []) 2 _ (λ r m. Mov (wide_at p) m r) (λ r m. rex_if (is_wide (wide_at p)) (extended r) (extended m)) refl refl (λ r m. tt) (λ r m. refl)
     (λ r m hr hm. free_front p _ _ hr hm e))
 
 -- 01 and the others
-alu_good : (op : AluOp) (p : Prefix) → Good (spelled p ++ alu_opcode op ∷ []) (Decoding.alu_row op p)
+pub alu_good : (op : AluOp) (p : Prefix) → Good (spelled p ++ alu_opcode op ∷ []) (Decoding.alu_row op p)
 alu_good op p =
     good_where _ (is_free p) (two_registers (λ r m. Alu op (wide_at p) m r) (prefix_size p + 2) p)
     (λ e. two_row p (alu_opcode op ∷ []) 2 _ (λ r m. Alu op (wide_at p) m r) (λ r m. rex_if (is_wide (wide_at p)) (extended r) (extended m)) refl refl (λ r m. tt) (λ r m. refl)
     (λ r m hr hm. free_front p _ _ hr hm e))
 
 -- 0F AF
-imul_good : (p : Prefix) → Good (spelled p ++ (0x0F ∷ 0xAF ∷ [])) (Decoding.imul_row p)
+pub imul_good : (p : Prefix) → Good (spelled p ++ (0x0F ∷ 0xAF ∷ [])) (Decoding.imul_row p)
 imul_good p =
     good_where _ (is_free p) (two_registers (λ r m. Imul (wide_at p) r m) (prefix_size p + 3) p)
     (λ e. two_row p (0x0F ∷ 0xAF ∷ []) 3 _ (λ r m. Imul (wide_at p) r m) (λ r m. rex_if (is_wide (wide_at p)) (extended r) (extended m)) refl refl (λ r m. tt) (λ r m. refl)
     (λ r m hr hm. free_front p _ _ hr hm e))
 
 -- a prefix with W and with no other byte has one byte
-long_size : (p : Prefix) → is_long p ≡ true → prefix_size p ≡ 1
+pub long_size : (p : Prefix) → is_long p ≡ true → prefix_size p ≡ 1
 long_size Plain e = absurd (cc)
 long_size (Rex w r b) e = refl
 long_size (Word r b) e = absurd (cc)
 
-byte_size : (p : Prefix) → is_byte p ≡ true → prefix_size p ≡ 1
+pub byte_size : (p : Prefix) → is_byte p ≡ true → prefix_size p ≡ 1
 byte_size Plain e = absurd (cc)
 byte_size (Rex w r b) e = refl
 byte_size (Word r b) e = absurd (cc)
 
 -- 0F B6 of registers
-widen_byte_good : (p : Prefix) → Good (spelled p ++ (0x0F ∷ 0xB6 ∷ [])) (Decoding.widen_byte_row p)
+pub widen_byte_good : (p : Prefix) → Good (spelled p ++ (0x0F ∷ 0xB6 ∷ [])) (Decoding.widen_byte_row p)
 widen_byte_good p =
     good_where _ (is_byte p) (two_registers (Widen WidenKind.Zero8) 4 p)
     (λ e. two_row p (0x0F ∷ 0xB6 ∷ []) 3 4 (Widen WidenKind.Zero8) (λ r m. rex false (extended r) (extended m) ∷ []) (let s = byte_size p e in omega arith) refl (λ r m. tt) (λ r m. refl)
     (λ r m hr hm. byte_front p _ _ hr hm e))
 
 -- 0F B7 of registers
-widen_word_good : (p : Prefix) → is_narrow p ≡ true → Good (spelled p ++ (0x0F ∷ 0xB7 ∷ [])) (Decoding.widen_word_row p)
+pub widen_word_good : (p : Prefix) → is_narrow p ≡ true → Good (spelled p ++ (0x0F ∷ 0xB7 ∷ [])) (Decoding.widen_word_row p)
 widen_word_good p e =
     two_row p (0x0F ∷ 0xB7 ∷ []) 3 _ (Widen WidenKind.Zero16) (λ r m. rex_if false (extended r) (extended m)) refl refl (λ r m. tt) (λ r m. refl)
     (λ r m hr hm. narrow_front p _ _ hr hm e)
 
 -- 0F BE
-widen_sign8_good : (p : Prefix) → Good (spelled p ++ (0x0F ∷ 0xBE ∷ [])) (Decoding.widen_sign_row WidenKind.Sign8 p)
+pub widen_sign8_good : (p : Prefix) → Good (spelled p ++ (0x0F ∷ 0xBE ∷ [])) (Decoding.widen_sign_row WidenKind.Sign8 p)
 widen_sign8_good p =
     good_where _ (is_long p) (two_registers (Widen WidenKind.Sign8) 4 p)
     (λ e. two_row p (0x0F ∷ 0xBE ∷ []) 3 4 (Widen WidenKind.Sign8) (λ r m. rex true (extended r) (extended m) ∷ []) (let s = long_size p e in omega arith) refl (λ r m. tt) (λ r m. refl)
     (λ r m hr hm. long_front p _ _ hr hm e))
 
 -- 0F BF
-widen_sign16_good : (p : Prefix) → Good (spelled p ++ (0x0F ∷ 0xBF ∷ [])) (Decoding.widen_sign_row WidenKind.Sign16 p)
+pub widen_sign16_good : (p : Prefix) → Good (spelled p ++ (0x0F ∷ 0xBF ∷ [])) (Decoding.widen_sign_row WidenKind.Sign16 p)
 widen_sign16_good p =
     good_where _ (is_long p) (two_registers (Widen WidenKind.Sign16) 4 p)
     (λ e. two_row p (0x0F ∷ 0xBF ∷ []) 3 4 (Widen WidenKind.Sign16) (λ r m. rex true (extended r) (extended m) ∷ []) (let s = long_size p e in omega arith) refl (λ r m. tt) (λ r m. refl)
     (λ r m hr hm. long_front p _ _ hr hm e))
 
 -- 63
-widen_long_good : (p : Prefix) → Good (spelled p ++ 0x63 ∷ []) (Decoding.widen_long_row p)
+pub widen_long_good : (p : Prefix) → Good (spelled p ++ 0x63 ∷ []) (Decoding.widen_long_row p)
 widen_long_good p =
     good_where _ (is_long p) (two_registers (Widen WidenKind.Sign32) 3 p)
     (λ e. two_row p (0x63 ∷ []) 2 3 (Widen WidenKind.Sign32) (λ r m. rex true (extended r) (extended m) ∷ []) (let s = long_size p e in omega arith) refl (λ r m. tt) (λ r m. refl)
     (λ r m hr hm. long_front p _ _ hr hm e))
 
 -- 0F 40 to 0F 4F
-cmov_good : (o : Option Cond) (n : ℕ) (p : Prefix) → CondHas n o → Good (spelled p ++ (0x0F ∷ (0x40 + n) ∷ [])) (Decoding.cmov_row o p)
+pub cmov_good : (o : Option Cond) (n : ℕ) (p : Prefix) → CondHas n o → Good (spelled p ++ (0x0F ∷ (0x40 + n) ∷ [])) (Decoding.cmov_row o p)
 cmov_good None n p h = good_unknown _
 cmov_good (Some c) n p h =
     good_where _ (is_long p) (two_registers (Cmov c) 4 p)
@@ -210,7 +210,7 @@ store_bytes (Word x y) r m e hr hm =
     fronted (0x66 ∷ rex_if false (extended r) (extended m.base)) (0x66 ∷ rex_if false x y) (0x89 ∷ []) (memory r m)
     (ap (λ (b : Bool). 0x66 ∷ rex_if false b (extended m.base)) hr ∙ ap (λ (b : Bool). 0x66 ∷ rex_if false x b) hm)
 
-store_good : (p : Prefix) → Good (spelled p ++ 0x89 ∷ []) (Decoding.store_row p)
+pub store_good : (p : Prefix) → Good (spelled p ++ 0x89 ∷ []) (Decoding.store_row p)
 store_good p =
     good_where _ (is_sized p) (at_memory (λ r m. Store (size_at p) m r) (prefix_size p + 6) p)
     (λ e. good_memory (spelled p ++ 0x89 ∷ []) (λ r m. Store (size_at p) m r) (prefix_size p + 6) p
@@ -224,7 +224,7 @@ load_bytes (Rex true x y) r m e hr hm = fronted (rex true (extended r) (extended
 load_bytes (Rex false x y) r m e hr hm = fronted (rex_if false (extended r) (extended m.base)) (spelled (Rex false x y)) (0x8B ∷ []) (memory r m) (narrow_front (Rex false x y) _ _ hr hm e)
 load_bytes (Word x y) r m e hr hm = absurd (cc)
 
-load_good : (p : Prefix) → Good (spelled p ++ 0x8B ∷ []) (Decoding.load_row p)
+pub load_good : (p : Prefix) → Good (spelled p ++ 0x8B ∷ []) (Decoding.load_row p)
 load_good p =
     good_where _ (is_free p) (at_memory (Load (size_at p)) (prefix_size p + 6) p)
     (λ e. good_memory (spelled p ++ 0x8B ∷ []) (Load (size_at p)) (prefix_size p + 6) p
@@ -232,27 +232,27 @@ load_good p =
     (let s = sized_front p (0x8B ∷ []) 1 refl in omega arith))
 
 -- 0F B6 of memory
-load_byte_good : (p : Prefix) → Good (spelled p ++ (0x0F ∷ 0xB6 ∷ [])) (Decoding.load_byte_row p)
+pub load_byte_good : (p : Prefix) → Good (spelled p ++ (0x0F ∷ 0xB6 ∷ [])) (Decoding.load_byte_row p)
 load_byte_good p =
     good_where _ (is_narrow p) (at_memory (Load Size.W8) (prefix_size p + 7) p)
     (λ e. memory_row p (0x0F ∷ 0xB6 ∷ []) 7 _ (Load Size.W8) (λ r m. rex_if false (extended r) (extended m.base)) refl refl (λ r m h. h) (λ r m. refl)
     (λ r m hr hm. narrow_front p _ _ hr hm e))
 
 -- 0F B7 of memory
-load_word_good : (p : Prefix) → is_narrow p ≡ true → Good (spelled p ++ (0x0F ∷ 0xB7 ∷ [])) (Decoding.load_word_row p)
+pub load_word_good : (p : Prefix) → is_narrow p ≡ true → Good (spelled p ++ (0x0F ∷ 0xB7 ∷ [])) (Decoding.load_word_row p)
 load_word_good p e =
     memory_row p (0x0F ∷ 0xB7 ∷ []) 7 _ (Load Size.W16) (λ r m. rex_if false (extended r) (extended m.base)) refl refl (λ r m h. h) (λ r m. refl)
     (λ r m hr hm. narrow_front p _ _ hr hm e)
 
 -- 88
-store_byte_good : (p : Prefix) → Good (spelled p ++ 0x88 ∷ []) (Decoding.store_byte_row p)
+pub store_byte_good : (p : Prefix) → Good (spelled p ++ 0x88 ∷ []) (Decoding.store_byte_row p)
 store_byte_good p =
     good_where _ (is_byte p) (at_memory (λ r m. Store Size.W8 m r) 7 p)
     (λ e. memory_row p (0x88 ∷ []) 6 7 (λ r m. Store Size.W8 m r) (λ r m. rex false (extended r) (extended m.base) ∷ []) (let s = byte_size p e in omega arith) refl (λ r m h. h) (λ r m. refl)
     (λ r m hr hm. byte_front p _ _ hr hm e))
 
 -- 8D
-lea_good : (p : Prefix) → Good (spelled p ++ 0x8D ∷ []) (Decoding.lea_row p)
+pub lea_good : (p : Prefix) → Good (spelled p ++ 0x8D ∷ []) (Decoding.lea_row p)
 lea_good p =
     good_where _ (is_long p) (at_memory Lea 7 p)
     (λ e. memory_row p (0x8D ∷ []) 6 7 Lea (λ r m. rex true (extended r) (extended m.base) ∷ []) (let s = long_size p e in omega arith) refl (λ r m h. h) (λ r m. refl)
@@ -267,7 +267,7 @@ alu_imm_bytes p op n d c h e none hd =
     fronted (rex_if (is_wide (wide_at p)) false (extended d)) (spelled p) (0x81 ∷ digit n d ∷ []) (number32 c) (free_front p false (extended d) (sym none) hd e) ∙
     ap (λ (xs : List ℕ). xs ++ number32 c) (sym (append_assoc (spelled p) (0x81 ∷ []) (digit n d ∷ [])))
 
-alu_imm_good : (o : Option ImmOp) (n : ℕ) (p : Prefix) (d : Reg) → ImmHas n o → is_free p ≡ true → reg_bit p ≡ false → extended d ≡ rm_bit p →
+pub alu_imm_good : (o : Option ImmOp) (n : ℕ) (p : Prefix) (d : Reg) → ImmHas n o → is_free p ≡ true → reg_bit p ≡ false → extended d ≡ rm_bit p →
     Good ((spelled p ++ 0x81 ∷ []) ++ digit n d ∷ []) (Decoding.alu_imm o (wide_at p) d (prefix_size p + 6))
 alu_imm_good None n p d h e none hd = good_unknown _
 alu_imm_good (Some op) n p d h e none hd =
@@ -275,7 +275,7 @@ alu_imm_good (Some op) n p d h e none hd =
     (λ c hc. record { is_instr = hc; bytes = alu_imm_bytes p op n d c h e none hd })
     (let s = sized_front p (0x81 ∷ []) 1 refl in omega (arith, length-append (spelled p ++ 0x81 ∷ []) (digit n d ∷ [])))
 
-alu_imm_row_good : (p : Prefix) → Good (spelled p ++ 0x81 ∷ []) (Decoding.alu_imm_row p)
+pub alu_imm_row_good : (p : Prefix) → Good (spelled p ++ 0x81 ∷ []) (Decoding.alu_imm_row p)
 alu_imm_row_good p =
     good_where _ (is_free p && not (reg_bit p)) (with_digit (λ n d rest. Decoding.alu_imm (imm_at n) (wide_at p) d (prefix_size p + 6) rest) p)
     (λ t. row (left_true (is_free p) (not (reg_bit p)) t) (not_true (reg_bit p) (right_true (is_free p) (not (reg_bit p)) t))) where
@@ -294,14 +294,14 @@ shift_bytes p op n d h e none hd =
     ap (λ (k : ℕ). rex_if (is_wide (wide_at p)) false (extended d) ++ (0xD3 ∷ digit k d ∷ [])) h ∙
     fronted (rex_if (is_wide (wide_at p)) false (extended d)) (spelled p) (0xD3 ∷ []) (digit n d ∷ []) (free_front p false (extended d) (sym none) hd e)
 
-shift_good : (o : Option ShiftOp) (n : ℕ) (p : Prefix) (d : Reg) → ShiftHas n o → is_free p ≡ true → reg_bit p ≡ false → extended d ≡ rm_bit p →
+pub shift_good : (o : Option ShiftOp) (n : ℕ) (p : Prefix) (d : Reg) → ShiftHas n o → is_free p ≡ true → reg_bit p ≡ false → extended d ≡ rm_bit p →
     Good ((spelled p ++ 0xD3 ∷ []) ++ digit n d ∷ []) (λ bs. Decoding.shifting o (wide_at p) d (prefix_size p + 2))
 shift_good None n p d h e none hd = good_unknown _
 shift_good (Some op) n p d h e none hd =
     good_one ((spelled p ++ 0xD3 ∷ []) ++ digit n d ∷ []) (Shift op (wide_at p) d) (prefix_size p + 2) tt (shift_bytes p op n d h e none hd)
     (let s = sized_front p (0xD3 ∷ []) 1 refl in omega (arith, length-append (spelled p ++ 0xD3 ∷ []) (digit n d ∷ [])))
 
-shift_row_good : (p : Prefix) → Good (spelled p ++ 0xD3 ∷ []) (Decoding.shift_row p)
+pub shift_row_good : (p : Prefix) → Good (spelled p ++ 0xD3 ∷ []) (Decoding.shift_row p)
 shift_row_good p =
     good_where _ (is_free p && not (reg_bit p)) (with_digit (λ n d rest. Decoding.shifting (shift_at n) (wide_at p) d (prefix_size p + 2)) p)
     (λ t. row (left_true (is_free p) (not (reg_bit p)) t) (not_true (reg_bit p) (right_true (is_free p) (not (reg_bit p)) t))) where
@@ -319,14 +319,14 @@ byte_division_bytes p signed n s h e none hs =
     ap (λ (k : ℕ). rex false false (extended s) ∷ 0xF6 ∷ digit k s ∷ []) h ∙
     fronted (rex false false (extended s) ∷ []) (spelled p) (0xF6 ∷ []) (digit n s ∷ []) (byte_front p false (extended s) (sym none) hs e)
 
-byte_division_good : (o : Option Bool) (n : ℕ) (p : Prefix) (s : Reg) → DivHas n o → is_byte p ≡ true → reg_bit p ≡ false → extended s ≡ rm_bit p →
+pub byte_division_good : (o : Option Bool) (n : ℕ) (p : Prefix) (s : Reg) → DivHas n o → is_byte p ≡ true → reg_bit p ≡ false → extended s ≡ rm_bit p →
     Good ((spelled p ++ 0xF6 ∷ []) ++ digit n s ∷ []) (λ bs. Decoding.dividing o Size.W8 s 3)
 byte_division_good None n p s h e none hs = good_unknown _
 byte_division_good (Some signed) n p s h e none hs =
     good_one ((spelled p ++ 0xF6 ∷ []) ++ digit n s ∷ []) (Div signed Size.W8 s) 3 tt (byte_division_bytes p signed n s h e none hs)
     (let k = sized_front p (0xF6 ∷ []) 1 refl in let one = byte_size p e in omega (arith, length-append (spelled p ++ 0xF6 ∷ []) (digit n s ∷ [])))
 
-byte_division_row_good : (p : Prefix) → Good (spelled p ++ 0xF6 ∷ []) (Decoding.byte_division_row p)
+pub byte_division_row_good : (p : Prefix) → Good (spelled p ++ 0xF6 ∷ []) (Decoding.byte_division_row p)
 byte_division_row_good p =
     good_where _ (is_byte p && not (reg_bit p)) (with_digit (λ n s rest. Decoding.dividing (div_at n) Size.W8 s 3) p)
     (λ t. row (left_true (is_byte p) (not (reg_bit p)) t) (not_true (reg_bit p) (right_true (is_byte p) (not (reg_bit p)) t))) where
@@ -351,14 +351,14 @@ division_bytes : (p : Prefix) (signed : Bool) (n : ℕ) (s : Reg) → div_digit 
     encoding (Div signed (size_at p) s) ≡ (spelled p ++ 0xF7 ∷ []) ++ digit n s ∷ []
 division_bytes p signed n s h e none hs = division_front p signed s e none hs ∙ ap (λ (k : ℕ). (spelled p ++ 0xF7 ∷ []) ++ digit k s ∷ []) h
 
-division_good : (o : Option Bool) (n : ℕ) (p : Prefix) (s : Reg) → DivHas n o → is_sized p ≡ true → reg_bit p ≡ false → extended s ≡ rm_bit p →
+pub division_good : (o : Option Bool) (n : ℕ) (p : Prefix) (s : Reg) → DivHas n o → is_sized p ≡ true → reg_bit p ≡ false → extended s ≡ rm_bit p →
     Good ((spelled p ++ 0xF7 ∷ []) ++ digit n s ∷ []) (λ bs. Decoding.dividing o (size_at p) s (prefix_size p + 2))
 division_good None n p s h e none hs = good_unknown _
 division_good (Some signed) n p s h e none hs =
     good_one ((spelled p ++ 0xF7 ∷ []) ++ digit n s ∷ []) (Div signed (size_at p) s) (prefix_size p + 2) tt (division_bytes p signed n s h e none hs)
     (let k = sized_front p (0xF7 ∷ []) 1 refl in omega (arith, length-append (spelled p ++ 0xF7 ∷ []) (digit n s ∷ [])))
 
-division_row_good : (p : Prefix) → Good (spelled p ++ 0xF7 ∷ []) (Decoding.division_row p)
+pub division_row_good : (p : Prefix) → Good (spelled p ++ 0xF7 ∷ []) (Decoding.division_row p)
 division_row_good p =
     good_where _ (is_sized p && not (reg_bit p)) (with_digit (λ n s rest. Decoding.dividing (div_at n) (size_at p) s (prefix_size p + 2)) p)
     (λ t. row (left_true (is_sized p) (not (reg_bit p)) t) (not_true (reg_bit p) (right_true (is_sized p) (not (reg_bit p)) t))) where
@@ -377,7 +377,7 @@ set_bytes p c n k d h z e none hd =
     ap (λ (j : ℕ). rex false false (extended d) ∷ 0x0F ∷ (0x90 + n) ∷ digit j d ∷ []) z ∙
     fronted (rex false false (extended d) ∷ []) (spelled p) (0x0F ∷ (0x90 + n) ∷ []) (digit k d ∷ []) (byte_front p false (extended d) (sym none) hd e)
 
-set_good : (o : Option Cond) (n : ℕ) (p : Prefix) → CondHas n o → Good (spelled p ++ (0x0F ∷ (0x90 + n) ∷ [])) (Decoding.set_row o p)
+pub set_good : (o : Option Cond) (n : ℕ) (p : Prefix) → CondHas n o → Good (spelled p ++ (0x0F ∷ (0x90 + n) ∷ [])) (Decoding.set_row o p)
 set_good None n p h = good_unknown _
 set_good (Some c) n p h =
     good_where _ (is_byte p && not (reg_bit p)) (with_digit (λ k d rest. if nat_eq k 0 then One (SetCond c d) 4 else Unknown) p)
