@@ -2,3 +2,4 @@ pub mod Parts
 pub mod Good
 pub mod Rows
 pub mod Whole
+pub mod Back
