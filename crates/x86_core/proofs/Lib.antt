@@ -1,0 +1,5 @@
+pub mod Parts
+pub mod Good
+pub mod Rows
+pub mod Whole
+pub mod Back

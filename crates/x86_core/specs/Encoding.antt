@@ -1,5 +1,5 @@
 -- The bytes of each instruction, in the rows' order; above each its opcode in the manual's letters.
-use Rattle.std.specs.Prelude.{ℕ, suc, ◌+◌, ◌-◌, ◌*◌, ◌%◌, ◌^◌, ◌<◌, Bool, true, false, nat_eq, nat_le, if◌then◌else◌, List, [], ◌∷◌, ◌++◌, ℤ, pos, negsuc}
+use Rattle.std.specs.Prelude.{ℕ, suc, ◌+◌, ◌-◌, ◌*◌, ◌%◌, ◌^◌, ◌<◌, Bool, true, false, nat_eq, nat_le, if◌then◌else◌, List, [], ◌∷◌, ◌++◌, ◌≡◌, length, drop, ℤ, pos, negsuc}
 use Rattle.rd_num.specs.Number.{le_bytes}
 use Rattle.x86_core.specs.declared.reg.Reg.{Reg}
 use Rattle.x86_core.specs.declared.instr.Wide.{Wide}
@@ -241,3 +241,16 @@ IsInstr Syscall = Unit {0}
 IsInstr Ud2 = Unit {0}
 IsInstr Int3 = Unit {0}
 IsInstr Nop = Unit {0}
+
+-- the bytes begin with an instruction
+pub record Begins (bytes : List ℕ) (i : Instr) : Type 0 where
+  pub is_instr : IsInstr i
+  pub begins : bytes ≡ encoding i ++ drop (length (encoding i)) bytes
+
+-- the bytes are the first ones of an instruction, and not all of it
+pub record IsCut (bytes : List ℕ) : Type 0 where
+  pub whole : Instr
+  pub is_instr : IsInstr whole
+  pub next : ℕ
+  pub more : List ℕ
+  pub goes_on : encoding whole ≡ bytes ++ (next ∷ more)
