@@ -4,6 +4,7 @@ use Rattle.ir_core.specs.declared.ty.Ty.{Ty}
 use Rattle.ir_core.specs.declared.operand.Operand.{Operand}
 use Rattle.ir_core.specs.declared.init.Init.{Init, fold-Init}
 use Rattle.ir_core.specs.declared.init.Init.TheOpen.{Init-F, Elem-F}
+use Rattle.ir_core.specs.declared.init.Elem.{Elem, fold-Elem}
 use Rattle.ir_core.specs.declared.module.GlobalVar.{GlobalVar}
 use Rattle.ir_core.specs.declared.module.Module.{Module}
 use Rattle.ir_core.specs.declared.memory.Value.{Value}
@@ -53,6 +54,10 @@ element_at m e = record { align = (shape_of m.types e.ty).align; cells = e.init 
 
 abbrev pub cells_of_init : Module → Init → Ty → List Cell
 cells_of_init m = fold-Init (Ty → List Cell) Part (init_at m) (element_at m)
+
+-- an element of an initialiser
+abbrev pub part_of : Module → Elem → Part
+part_of m = fold-Elem (Ty → List Cell) Part (init_at m) (element_at m)
 
 abbrev pub global_object : Module → GlobalVar → Object0
 global_object m g = record { live = true; constant = g.constant; size = (shape_of m.types g.ty).size; cells = cells_of_init m g.init g.ty }
