@@ -7,6 +7,7 @@ use Rattle.behavior.specs.Ending.{Ending, Going, Ended, Divide, Trap, Depth, Lef
 use Rattle.behavior.specs.Moment.{Moment}
 use Rattle.ir_core.specs.declared.ty.Ty.{Ty, out-Ty}
 use Rattle.ir_core.specs.declared.operand.Operand.{Operand}
+use Rattle.ir_core.specs.declared.init.Init.{Init}
 use Rattle.ir_core.specs.declared.instruction.BinOp.{BinOp}
 use Rattle.ir_core.specs.declared.instruction.Pred.{Pred}
 use Rattle.ir_core.specs.declared.instruction.CastOp.{CastOp}
@@ -21,11 +22,12 @@ use Rattle.ir_core.specs.declared.module.Param.{Param}
 use Rattle.ir_core.specs.declared.module.Extern.{Extern}
 use Rattle.ir_core.specs.declared.module.Function.{Function}
 use Rattle.ir_core.specs.declared.module.Module.{Module}
-use Rattle.ir_core.specs.declared.memory.Reason.TheVariants.{Unset, Equal}
+use Rattle.ir_core.specs.declared.memory.Reason.TheVariants.{Unset, Equal, Callee}
 use Rattle.ir_core.specs.Stops.{left}
 use Rattle.ir_core.specs.Step.{source_step}
 use Rattle.ir_core.specs.Run.{source_start, source_run}
-use Rattle.ir_core.proofs.Types.{shape-int}
+use Rattle.ir_core.proofs.Types.{shape-int, shape-ptr}
+use Rattle.ir_core.proofs.Inits.{init-value}
 
 abbrev i1 : Ty
 i1 = Ty.Int W1
@@ -196,3 +198,26 @@ touching = module_of [] (function (codes "main") [] (
 touching_is_left : source_run touching [] 9 ≡ shown [] 0 (left Equal)
 unfolding source_run source_start source_step out-Ty out
 touching_is_left = rw (shape-int [] W32) refl
+
+-- a global with a pointer to a function, by which it is called; the call's types are not the function's in `called_wrongly`
+abbrev through : Ty → Module
+through ret = record {
+  types = [];
+  globals = record { name = codes "g"; constant = false; ty = Ty.Ptr; init = Init.Value (Operand.Global (codes "f")) } ∷ [];
+  externs = [];
+  functions = function (codes "f") [] (block (codes "0") [] (Term.RetValue i32 (int 9)) ∷ [])
+  ∷ function (codes "main") [] (block (codes "0") (
+      gives (codes "p") (Op.Load Ty.Ptr (Operand.Global (codes "g")))
+      ∷ gives (codes "r") (Op.Call ret (local (codes "p")) [])
+      ∷ []) (Term.RetValue i32 (int 8))
+    ∷ [])
+  ∷ [];
+}
+
+called_through : source_run (through i32) [] 4 ≡ shown [] 0 (Ended 8)
+unfolding source_run source_start source_step out-Ty out
+called_through = rw (init-value (through i32) (Operand.Global (codes "f")) Ty.Ptr, shape-ptr []) refl
+
+called_wrongly : source_run (through i64) [] 9 ≡ shown [] 0 (left Callee)
+unfolding source_run source_start source_step out-Ty out
+called_wrongly = rw (init-value (through i64) (Operand.Global (codes "f")) Ty.Ptr, shape-ptr []) refl

@@ -1,5 +1,5 @@
 -- Arithmetic on numbers of one width, over whole numbers and remainders.
-use Rattle.std.specs.Prelude.{ℕ, ◌+◌, ◌*◌, ◌-◌, ◌/◌, ◌%◌, ◌^◌, Bool, true, false, not, ◌&&◌, nat_eq, nat_lt, nat_le, if◌then◌else◌, Ok, Err, bit_and, bit_or, bit_xor}
+use Rattle.std.specs.Prelude.{ℕ, ◌+◌, ◌*◌, ◌-◌, ◌/◌, ◌%◌, ◌^◌, ◌<◌, Bool, true, false, not, ◌&&◌, nat_eq, nat_lt, nat_le, if◌then◌else◌, Ok, Err, bit_and, bit_or, bit_xor}
 use Rattle.behavior.specs.Ending.{Ending, Divide}
 use Rattle.rd_num.specs.declared.width.Width.{Width}
 use Rattle.rd_num.specs.Number.{bits}
@@ -14,6 +14,9 @@ use Rattle.ir_core.specs.Stops.{Answer}
 -- the numbers of a width are those below this one
 abbrev pub modulus : Width → ℕ
 modulus w = 2 ^ bits w
+
+abbrev pub IsOfWidth : Width → ℕ → Type 0
+IsOfWidth w n = n < modulus w
 
 -- the upper half of the numbers of a width stands for those below zero
 abbrev pub is_negative : Width → ℕ → Bool
