@@ -1,6 +1,6 @@
 -- More runs, computed: edges and phis, calls, traps, input, memory, and runs that are left.
 use Rattle.std.proofs.Common.{◌≡◌, ℕ, Bool, List, [], ◌∷◌, true, false, refl, Some, None}
-use Rattle.std.specs.Prelude.{codes, pos, negsuc}
+use Rattle.std.specs.Prelude.{codes, pos, negsuc, replicate, Ok, Err}
 use denote.Hole.Carrier.{out}
 use Rattle.rd_num.specs.declared.width.Width.TheVariants.{W1, W8, W32, W64}
 use Rattle.behavior.specs.Ending.{Ending, Going, Ended, Divide, Trap, Depth, Left}
@@ -22,8 +22,13 @@ use Rattle.ir_core.specs.declared.module.Param.{Param}
 use Rattle.ir_core.specs.declared.module.Extern.{Extern}
 use Rattle.ir_core.specs.declared.module.Function.{Function}
 use Rattle.ir_core.specs.declared.module.Module.{Module}
-use Rattle.ir_core.specs.declared.memory.Reason.TheVariants.{Unset, Equal, Callee}
-use Rattle.ir_core.specs.Stops.{left}
+use Rattle.ir_core.specs.declared.memory.Reason.TheVariants.{Unset, Equal, Callee, Overlap}
+use Rattle.ir_core.specs.declared.memory.Value.TheVariants.{Num, Null, Fun}
+use Rattle.ir_core.specs.Stops.{Answer, left}
+use Rattle.ir_core.specs.Kinds.{Number, Pointer}
+use Rattle.ir_core.specs.Shapes.{single, struct, unaligned}
+use Rattle.ir_core.specs.State.{Frame, State, Nothing, Turn}
+use Rattle.ir_core.specs.Calls.{entered}
 use Rattle.ir_core.specs.Step.{source_step}
 use Rattle.ir_core.specs.Run.{source_start, source_run}
 use Rattle.ir_core.proofs.Types.{shape-int, shape-ptr}
@@ -209,15 +214,83 @@ through ret = record {
   ∷ function (codes "main") [] (block (codes "0") (
       gives (codes "p") (Op.Load Ty.Ptr (Operand.Global (codes "g")))
       ∷ gives (codes "r") (Op.Call ret (local (codes "p")) [])
-      ∷ []) (Term.RetValue i32 (int 8))
+      ∷ []) (Term.RetValue i32 (local (codes "r")))
     ∷ [])
   ∷ [];
 }
 
-called_through : source_run (through i32) [] 4 ≡ shown [] 0 (Ended 8)
+called_through : source_run (through i32) [] 4 ≡ shown [] 0 (Ended 9)
 unfolding source_run source_start source_step out-Ty out
 called_through = rw (init-value (through i32) (Operand.Global (codes "f")) Ty.Ptr, shape-ptr []) refl
 
 called_wrongly : source_run (through i64) [] 9 ≡ shown [] 0 (left Callee)
 unfolding source_run source_start source_step out-Ty out
 called_wrongly = rw (init-value (through i64) (Operand.Global (codes "f")) Ty.Ptr, shape-ptr []) refl
+
+-- a call where one call less than the greatest number is active, and one where all are
+abbrev frame : Frame
+frame = record { function = 0; block = 0; next = 0; locals = []; objects = []; into = None }
+
+abbrev deep : ℕ → Answer Turn
+deep calls =
+    let s : State = record { frames = replicate calls frame; objects = []; printed = []; taken = 0; ending = Going } in
+    entered again s (replicate calls frame) (Number W32) (Number W32 ∷ Pointer ∷ []) (Num W32 1 ∷ Null ∷ []) None (Fun 0)
+
+called_at_limit : deep 1024 ≡ Err Depth
+unfolding out-Ty out
+called_at_limit = refl
+
+entered_below_limit : deep 1023 ≡ Ok (record {
+  frames = record { function = 0; block = 0; next = 0; locals = record { name = codes "n"; value = Num W32 1 } ∷ record { name = codes "p"; value = Null } ∷ []; objects = []; into = None } ∷ replicate 1023 frame;
+  objects = [];
+  exchange = Nothing;
+})
+unfolding out-Ty out
+entered_below_limit = refl
+
+-- the pieces of a pointer are copied as they are
+abbrev copies : ℕ → Module
+copies offset = module_of
+  (record { name = codes "llvm.memcpy.p0.p0.i64"; ret = Ty.Void; params = Ty.Ptr ∷ Ty.Ptr ∷ i64 ∷ i1 ∷ [] } ∷ [])
+  (function (codes "main") [] (block (codes "0") (
+    gives (codes "a") (Op.Alloca i64 2)
+    ∷ record { result = None; op = Op.Store Ty.Ptr (local (codes "a")) (local (codes "a")) }
+    ∷ gives (codes "b") (Op.Gep i8 (local (codes "a")) (arg i64 (int offset) ∷ []))
+    ∷ record { result = None; op = Op.Call Ty.Void (Operand.Global (codes "llvm.memcpy.p0.p0.i64")) (arg Ty.Ptr (local (codes "b")) ∷ arg Ty.Ptr (local (codes "a")) ∷ arg i64 (int 8) ∷ arg i1 (Operand.Bool false) ∷ []) }
+    ∷ gives (codes "c") (Op.Load Ty.Ptr (local (codes "b")))
+    ∷ gives (codes "q") (Op.Compare Pred.Eq Ty.Ptr (local (codes "c")) (local (codes "a")))
+    ∷ gives (codes "z") (Op.Cast CastOp.Zext i1 (local (codes "q")) i32)
+    ∷ []) (Term.RetValue i32 (local (codes "z")))
+  ∷ []) ∷ [])
+
+pointer_is_copied : source_run (copies 8) [] 8 ≡ shown [] 0 (Ended 1)
+unfolding source_run source_start source_step out-Ty out
+pointer_is_copied = rw (shape-int [] W64, shape-int [] W8) refl
+
+-- ranges that share bytes and begin apart can't be copied
+overlap_is_left : source_run (copies 4) [] 9 ≡ shown [] 0 (left Overlap)
+unfolding source_run source_start source_step out-Ty out
+overlap_is_left = rw (shape-int [] W64, shape-int [] W8) refl
+
+-- `exit` ends the run with the low 8 bits
+abbrev exits : Module
+exits = module_of (record { name = codes "exit"; ret = Ty.Void; params = i32 ∷ [] } ∷ []) (function (codes "main") [] (
+  block (codes "0") (record { result = None; op = Op.Call Ty.Void (Operand.Global (codes "exit")) (arg i32 (int 300) ∷ []) } ∷ []) Term.Unreachable
+  ∷ []) ∷ [])
+
+exits_at_once : source_run exits [] 1 ≡ shown [] 0 (Ended 44)
+unfolding source_run source_start source_step out-Ty out
+exits_at_once = refl
+
+-- a struct of i8, i32 and i8 has 12 bytes, and 6 where it is packed; its second field stands at 4 or at 1
+bytes_of_struct : (struct (single 1 ∷ single 4 ∷ single 1 ∷ [])).size ≡ 12
+bytes_of_struct = refl
+
+place_in_struct : (struct (single 1 ∷ single 4 ∷ single 1 ∷ [])).part (1 ∷ []) ≡ Some 4
+place_in_struct = refl
+
+bytes_of_packed : (struct (unaligned (single 1 ∷ single 4 ∷ single 1 ∷ []))).size ≡ 6
+bytes_of_packed = refl
+
+place_in_packed : (struct (unaligned (single 1 ∷ single 4 ∷ single 1 ∷ []))).part (1 ∷ []) ≡ Some 1
+place_in_packed = refl
