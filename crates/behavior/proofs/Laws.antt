@@ -1,5 +1,5 @@
 -- The laws of what moments show and of behavior preservation.
-use Rattle.std.proofs.Common.{◌≡◌, ℕ, ◌+◌, ◌*◌, ◌≤◌, List, Bool, true, false, refl, sym, ◌∙◌, ap, inl, inr, ◌⊎◌, arith}
+use Rattle.std.proofs.Common.{◌≡◌, ◌≢◌, ℕ, ◌+◌, ◌*◌, ◌≤◌, List, Bool, true, false, refl, sym, ◌∙◌, ap, inl, inr, ◌⊎◌, arith}
 use Rattle.std.proofs.Math.Nat.{mul-le-mul_left, mul-add, mul_assoc}
 use Rattle.behavior.specs.Ending.{Ending, Going, Ended, Divide, Trap, Depth, Left, Invalid, Breakpoint, PageFault, NoForm, NoFlag, BadCall, Strayed, common, is_left, is_going}
 use Rattle.behavior.specs.Moment.{Moment, Agrees, IsLeft, IsGoing, HasStopped, Behavior, AreBytes}
@@ -148,3 +148,37 @@ reaches_within_trans A B C begin cost begin2 cost2 p q input bytes k go =
     let x = p input bytes k go in
     let y = q input bytes x.0 (sym (agrees_left (A input k) (B input x.0) x.2) ∙ go) in
     (y.0, bounds_join begin cost begin2 cost2 k x.0 y.0 x.1 y.1, agrees_trans (A input k) (B input x.0) (C input y.0) x.2 y.2)
+
+-- only a stray is the same as a stray
+pub common_strayed : (e : Ending) → common e ≡ Strayed → e ≡ Strayed
+common_strayed Going h = absurd (cc)
+common_strayed (Ended status) h = absurd (cc)
+common_strayed Divide h = absurd (cc)
+common_strayed Trap h = absurd (cc)
+common_strayed Depth h = absurd (cc)
+common_strayed (Left reason) h = absurd (cc)
+common_strayed Invalid h = absurd (cc)
+common_strayed Breakpoint h = absurd (cc)
+common_strayed PageFault h = absurd (cc)
+common_strayed NoForm h = absurd (cc)
+common_strayed NoFlag h = absurd (cc)
+common_strayed BadCall h = absurd (cc)
+common_strayed Strayed h = refl
+
+-- what shows the same as a run that doesn't stray doesn't stray
+agrees_straight : (a b : Moment) → Agrees a b → a.ending ≢ Strayed → b.ending ≢ Strayed
+agrees_straight a b p straight e = straight (common_strayed a.ending (p.ending ∙ ap common e))
+
+pub preserves_straight : (A S M : Behavior) → ((input : List ℕ) → AreBytes input → (k : ℕ) → (A input k).ending ≢ Strayed) → ((input : List ℕ) → AreBytes input → (n : ℕ) → (S input n).ending ≢ Strayed → Agrees (S input n) (M input n)) → Preserves A S → Preserves A M
+preserves_straight A S M straight same p = record {
+  reaches = λ input bytes k go.
+      let x = p.reaches input bytes k go in
+      let there = agrees_straight (A input k) (S input x.0) x.1 (straight input bytes k) in
+      (x.0, agrees_trans (A input k) (S input x.0) (M input x.0) x.1 (same input bytes x.0 there));
+  only = λ input bytes n. elim (p.only input bytes n) [
+    | inl x ↦ inl x
+    | inr x ↦
+        let there = agrees_straight (A input x.0) (S input n) x.1 (straight input bytes x.0) in
+        inr (x.0, agrees_trans (A input x.0) (S input n) (M input n) x.1 (same input bytes n there))
+  ];
+}
