@@ -1,10 +1,10 @@
 -- Results of arithmetic are numbers of their width.
-use Rattle.std.proofs.Common.{◌≡◌, ℕ, zero, suc, ◌+◌, ◌*◌, ◌-◌, ◌/◌, ◌%◌, ◌^◌, ◌<◌, ◌≤◌, Bool, true, false, if◌then◌else◌, Result, Ok, Err, refl, subst, arith}
-use Rattle.std.specs.Prelude.{nat_le, nat_lt, ℤ, pos, negsuc, bit_and, bit_or, bit_xor}
+use Rattle.std.proofs.Common.{◌≡◌, ℕ, ◌+◌, ◌*◌, ◌-◌, ◌/◌, ◌%◌, ◌^◌, ◌<◌, ◌≤◌, Bool, true, false, if◌then◌else◌, Ok, Err, refl, subst, arith}
+use Rattle.std.specs.Prelude.{ℤ, pos, negsuc, bit_and}
 use Rattle.std.proofs.Math.Nat.{mod-lt, mod-le, div-le_self}
 use Rattle.std.proofs.lemmas.Nat.{pow_pos, and_le_l, or_lt, xor_lt}
 use Rattle.std.proofs.lemmas.Bool.{leb-true}
-use Rattle.behavior.specs.Ending.{Ending, Divide}
+use Rattle.behavior.specs.Ending.{Divide}
 use Rattle.rd_num.specs.declared.width.Width.{Width}
 use Rattle.rd_num.specs.Number.{bits}
 use Rattle.ir_core.specs.declared.instruction.BinOp.{BinOp}

@@ -1,11 +1,11 @@
 -- What an initialiser holds, one form after another.
-use Rattle.std.proofs.Common.{◌≡◌, ℕ, List, [], map, refl, ap, sym, ◌∙◌}
+use Rattle.std.proofs.Common.{◌≡◌, ℕ, List, [], map, ap, sym, ◌∙◌}
 use Rattle.ir_core.specs.declared.ty.Ty.{Ty}
 use Rattle.ir_core.specs.declared.operand.Operand.{Operand}
-use Rattle.ir_core.specs.declared.init.Init.{Init, fold-Init, fold-roll-Init}
+use Rattle.ir_core.specs.declared.init.Init.{Init, fold-roll-Init}
 use Rattle.ir_core.specs.declared.init.Init.TheVariants.{Value, Zero, Text, Array, Struct, Packed, rolls-Value, rolls-Zero, rolls-Text, rolls-Array, rolls-Struct, rolls-Packed}
-use Rattle.ir_core.specs.declared.init.Init.TheOpen.{Init-F, Elem-F}
-use Rattle.ir_core.specs.declared.init.Elem.{Elem, fold-Elem, fold-roll-Elem}
+use Rattle.ir_core.specs.declared.init.Init.TheOpen.{Init-F}
+use Rattle.ir_core.specs.declared.init.Elem.{Elem, fold-roll-Elem}
 use Rattle.ir_core.specs.declared.module.Module.{Module}
 use Rattle.ir_core.specs.declared.memory.Cell.{Cell}
 use Rattle.ir_core.specs.declared.memory.Cell.TheVariants.{Byte}

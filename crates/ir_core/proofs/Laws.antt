@@ -1,7 +1,7 @@
 -- What every run of a module has, whatever its instructions do.
-use Rattle.std.proofs.Common.{◌≡◌, ℕ, ◌+◌, List, refl, ap, inl, inr, ◌⊎◌, true, false, Result, Ok, Err}
-use Rattle.behavior.specs.Ending.{Ending, Going, Ended, Divide, Trap, Depth, Left, Invalid, Breakpoint, PageFault, NoForm, NoFlag, BadCall, Strayed, is_going}
-use Rattle.behavior.specs.Moment.{Moment, HasStopped}
+use Rattle.std.proofs.Common.{◌≡◌, ℕ, List, refl, ap, false, Ok, Err}
+use Rattle.behavior.specs.Ending.{Ending, Going, is_going}
+use Rattle.behavior.specs.Moment.{HasStopped}
 use Rattle.behavior.specs.System.{AddsAtMostOne, Silent, Prints, Takes, System, IsGradual, behavior_of}
 use Rattle.behavior.proofs.Between.{adds_grows}
 use Rattle.ir_core.specs.declared.module.Module.{Module}

@@ -3,7 +3,7 @@ use Rattle.std.proofs.Common.{◌≡◌, ℕ, Bool, List, [], ◌∷◌, true, f
 use Rattle.std.specs.Prelude.{codes, pos, negsuc, replicate, Ok, Err}
 use denote.Hole.Carrier.{out}
 use Rattle.rd_num.specs.declared.width.Width.TheVariants.{W1, W8, W32, W64}
-use Rattle.behavior.specs.Ending.{Ending, Going, Ended, Divide, Trap, Depth, Left}
+use Rattle.behavior.specs.Ending.{Ending, Going, Ended, Divide, Depth}
 use Rattle.behavior.specs.Moment.{Moment}
 use Rattle.ir_core.specs.declared.ty.Ty.{Ty, out-Ty}
 use Rattle.ir_core.specs.declared.operand.Operand.{Operand}
@@ -14,7 +14,6 @@ use Rattle.ir_core.specs.declared.instruction.CastOp.{CastOp}
 use Rattle.ir_core.specs.declared.instruction.Op.{Op}
 use Rattle.ir_core.specs.declared.instruction.Entry.{Entry}
 use Rattle.ir_core.specs.declared.instruction.Arg.{Arg}
-use Rattle.ir_core.specs.declared.instruction.Case.{Case}
 use Rattle.ir_core.specs.declared.instruction.Inst.{Inst}
 use Rattle.ir_core.specs.declared.instruction.Term.{Term}
 use Rattle.ir_core.specs.declared.module.Block.{Block}
@@ -79,8 +78,8 @@ putchar = record { name = codes "putchar"; ret = i32; params = i32 ∷ [] }
 -- two phis that exchange their values at each turn print ABABA
 abbrev exchange : Module
 exchange = module_of (putchar ∷ []) (function (codes "main") [] (
-  block (codes "e") [] (Term.Br (codes "h"))
-  ∷ block (codes "h") (
+    block (codes "e") [] (Term.Br (codes "h"))
+    ∷ block (codes "h") (
     gives (codes "i") (Op.Phi i32 (entry (int 0) (codes "e") ∷ entry (local (codes "j")) (codes "h") ∷ []))
     ∷ gives (codes "a") (Op.Phi i32 (entry (int 65) (codes "e") ∷ entry (local (codes "b")) (codes "h") ∷ []))
     ∷ gives (codes "b") (Op.Phi i32 (entry (int 66) (codes "e") ∷ entry (local (codes "a")) (codes "h") ∷ []))
@@ -88,8 +87,8 @@ exchange = module_of (putchar ∷ []) (function (codes "main") [] (
     ∷ gives (codes "j") (Op.Bin BinOp.Add i32 (local (codes "i")) (int 1))
     ∷ gives (codes "q") (Op.Compare Pred.Eq i32 (local (codes "j")) (int 5))
     ∷ []) (Term.BrIf (local (codes "q")) (codes "z") (codes "h"))
-  ∷ block (codes "z") [] (Term.RetValue i32 (int 0))
-  ∷ []) ∷ [])
+    ∷ block (codes "z") [] (Term.RetValue i32 (int 0))
+    ∷ []) ∷ [])
 
 exchange_prints : source_run exchange [] 22 ≡ shown (codes "ABABA") 0 (Ended 0)
 unfolding source_run source_start source_step out-Ty out
@@ -98,11 +97,11 @@ exchange_prints = refl
 -- a branch to a block that gives a local, and to one that doesn't: reading it leaves the meaning
 abbrev branched : Bool → Module
 branched first = module_of [] (function (codes "main") [] (
-  block (codes "e") [] (Term.BrIf (Operand.Bool first) (codes "a") (codes "b"))
-  ∷ block (codes "a") (gives (codes "x") (Op.Bin BinOp.Add i32 (int 1) (int 2)) ∷ []) (Term.Br (codes "c"))
-  ∷ block (codes "b") [] (Term.Br (codes "c"))
-  ∷ block (codes "c") [] (Term.RetValue i32 (local (codes "x")))
-  ∷ []) ∷ [])
+    block (codes "e") [] (Term.BrIf (Operand.Bool first) (codes "a") (codes "b"))
+    ∷ block (codes "a") (gives (codes "x") (Op.Bin BinOp.Add i32 (int 1) (int 2)) ∷ []) (Term.Br (codes "c"))
+    ∷ block (codes "b") [] (Term.Br (codes "c"))
+    ∷ block (codes "c") [] (Term.RetValue i32 (local (codes "x")))
+    ∷ []) ∷ [])
 
 branched_true : source_run (branched true) [] 4 ≡ shown [] 0 (Ended 3)
 unfolding source_run source_start source_step out-Ty out
@@ -115,8 +114,8 @@ branched_false = refl
 -- the least number of a width by -1 has no quotient in it
 abbrev divided : Module
 divided = module_of [] (function (codes "main") [] (
-  block (codes "0") (gives (codes "r") (Op.Bin BinOp.Sdiv i8 (Operand.Int (negsuc 127)) (Operand.Int (negsuc 0))) ∷ []) (Term.RetValue i32 (int 0))
-  ∷ []) ∷ [])
+    block (codes "0") (gives (codes "r") (Op.Bin BinOp.Sdiv i8 (Operand.Int (negsuc 127)) (Operand.Int (negsuc 0))) ∷ []) (Term.RetValue i32 (int 0))
+    ∷ []) ∷ [])
 
 divided_traps : source_run divided [] 9 ≡ shown [] 0 Divide
 unfolding source_run source_start source_step out-Ty out
@@ -125,8 +124,8 @@ divided_traps = refl
 -- at the end of the input `getchar` gives -1 and takes nothing
 abbrev read : Module
 read = module_of (record { name = codes "getchar"; ret = i32; params = [] } ∷ []) (function (codes "main") [] (
-  block (codes "0") (gives (codes "c") (Op.Call i32 (Operand.Global (codes "getchar")) []) ∷ []) (Term.RetValue i32 (local (codes "c")))
-  ∷ []) ∷ [])
+    block (codes "0") (gives (codes "c") (Op.Call i32 (Operand.Global (codes "getchar")) []) ∷ []) (Term.RetValue i32 (local (codes "c")))
+    ∷ []) ∷ [])
 
 read_at_end : source_run read [] 2 ≡ shown [] 0 (Ended 255)
 unfolding source_run source_start source_step out-Ty out
@@ -139,10 +138,10 @@ read_byte = refl
 -- two cases with one label, and the phi of that edge
 abbrev switched : Module
 switched = module_of [] (function (codes "main") [] (
-  block (codes "e") [] (Term.Switch i32 (int 1) (codes "d") (record { ty = i32; value = int 1; to = codes "c" } ∷ record { ty = i32; value = int 2; to = codes "c" } ∷ []))
-  ∷ block (codes "c") (gives (codes "x") (Op.Phi i32 (entry (int 5) (codes "e") ∷ entry (int 5) (codes "e") ∷ [])) ∷ []) (Term.RetValue i32 (local (codes "x")))
-  ∷ block (codes "d") [] (Term.RetValue i32 (int 0))
-  ∷ []) ∷ [])
+    block (codes "e") [] (Term.Switch i32 (int 1) (codes "d") (record { ty = i32; value = int 1; to = codes "c" } ∷ record { ty = i32; value = int 2; to = codes "c" } ∷ []))
+    ∷ block (codes "c") (gives (codes "x") (Op.Phi i32 (entry (int 5) (codes "e") ∷ entry (int 5) (codes "e") ∷ [])) ∷ []) (Term.RetValue i32 (local (codes "x")))
+    ∷ block (codes "d") [] (Term.RetValue i32 (int 0))
+    ∷ []) ∷ [])
 
 switched_ends : source_run switched [] 2 ≡ shown [] 0 (Ended 5)
 unfolding source_run source_start source_step out-Ty out
@@ -151,13 +150,13 @@ switched_ends = refl
 -- a `main` that calls itself: only the call with which the run began ends it
 abbrev again : Module
 again = module_of [] (function (codes "main") (record { ty = i32; name = codes "n" } ∷ record { ty = Ty.Ptr; name = codes "p" } ∷ []) (
-  block (codes "e") (gives (codes "q") (Op.Compare Pred.Eq i32 (local (codes "n")) (int 0)) ∷ []) (Term.BrIf (local (codes "q")) (codes "a") (codes "b"))
-  ∷ block (codes "a") (
+    block (codes "e") (gives (codes "q") (Op.Compare Pred.Eq i32 (local (codes "n")) (int 0)) ∷ []) (Term.BrIf (local (codes "q")) (codes "a") (codes "b"))
+    ∷ block (codes "a") (
     gives (codes "r") (Op.Call i32 (Operand.Global (codes "main")) (arg i32 (int 1) ∷ arg Ty.Ptr Operand.Null ∷ []))
     ∷ gives (codes "s") (Op.Bin BinOp.Add i32 (local (codes "r")) (int 1))
     ∷ []) (Term.RetValue i32 (local (codes "s")))
-  ∷ block (codes "b") [] (Term.RetValue i32 (int 5))
-  ∷ []) ∷ [])
+    ∷ block (codes "b") [] (Term.RetValue i32 (int 5))
+    ∷ []) ∷ [])
 
 again_ends : source_run again [] 8 ≡ shown [] 0 (Ended 6)
 unfolding source_run source_start source_step out-Ty out
@@ -166,14 +165,14 @@ again_ends = refl
 -- a number in memory: 200 + 100 modulo 256
 abbrev kept : Module
 kept = module_of [] (function (codes "main") [] (
-  block (codes "0") (
+    block (codes "0") (
     gives (codes "p") (Op.Alloca i8 1)
     ∷ record { result = None; op = Op.Store i8 (int 200) (local (codes "p")) }
     ∷ gives (codes "x") (Op.Load i8 (local (codes "p")))
     ∷ gives (codes "y") (Op.Bin BinOp.Add i8 (local (codes "x")) (int 100))
     ∷ gives (codes "z") (Op.Cast CastOp.Zext i8 (local (codes "y")) i32)
     ∷ []) (Term.RetValue i32 (local (codes "z")))
-  ∷ []) ∷ [])
+    ∷ []) ∷ [])
 
 kept_ends : source_run kept [] 6 ≡ shown [] 0 (Ended 44)
 unfolding source_run source_start source_step out-Ty out
@@ -182,8 +181,8 @@ kept_ends = rw (shape-int [] W8) refl
 -- what an alloca holds at first can't be read
 abbrev fresh : Module
 fresh = module_of [] (function (codes "main") [] (
-  block (codes "0") (gives (codes "p") (Op.Alloca i32 1) ∷ gives (codes "x") (Op.Load i32 (local (codes "p"))) ∷ []) (Term.RetValue i32 (local (codes "x")))
-  ∷ []) ∷ [])
+    block (codes "0") (gives (codes "p") (Op.Alloca i32 1) ∷ gives (codes "x") (Op.Load i32 (local (codes "p"))) ∷ []) (Term.RetValue i32 (local (codes "x")))
+    ∷ []) ∷ [])
 
 fresh_is_left : source_run fresh [] 9 ≡ shown [] 0 (left Unset)
 unfolding source_run source_start source_step out-Ty out
@@ -192,13 +191,13 @@ fresh_is_left = rw (shape-int [] W32) refl
 -- the end of one object and the start of another can't be told apart
 abbrev touching : Module
 touching = module_of [] (function (codes "main") [] (
-  block (codes "0") (
+    block (codes "0") (
     gives (codes "a") (Op.Alloca i32 1)
     ∷ gives (codes "b") (Op.Alloca i32 1)
     ∷ gives (codes "e") (Op.Gep i32 (local (codes "a")) (arg i64 (int 1) ∷ []))
     ∷ gives (codes "q") (Op.Compare Pred.Eq Ty.Ptr (local (codes "e")) (local (codes "b")))
     ∷ []) (Term.RetValue i32 (int 0))
-  ∷ []) ∷ [])
+    ∷ []) ∷ [])
 
 touching_is_left : source_run touching [] 9 ≡ shown [] 0 (left Equal)
 unfolding source_run source_start source_step out-Ty out
@@ -211,12 +210,12 @@ through ret = record {
   globals = record { name = codes "g"; constant = false; ty = Ty.Ptr; init = Init.Value (Operand.Global (codes "f")) } ∷ [];
   externs = [];
   functions = function (codes "f") [] (block (codes "0") [] (Term.RetValue i32 (int 9)) ∷ [])
-  ∷ function (codes "main") [] (block (codes "0") (
+      ∷ function (codes "main") [] (block (codes "0") (
       gives (codes "p") (Op.Load Ty.Ptr (Operand.Global (codes "g")))
       ∷ gives (codes "r") (Op.Call ret (local (codes "p")) [])
       ∷ []) (Term.RetValue i32 (local (codes "r")))
-    ∷ [])
-  ∷ [];
+      ∷ [])
+      ∷ [];
 }
 
 called_through : source_run (through i32) [] 4 ≡ shown [] 0 (Ended 9)
@@ -251,8 +250,8 @@ entered_below_limit = refl
 -- the pieces of a pointer are copied as they are
 abbrev copies : ℕ → Module
 copies offset = module_of
-  (record { name = codes "llvm.memcpy.p0.p0.i64"; ret = Ty.Void; params = Ty.Ptr ∷ Ty.Ptr ∷ i64 ∷ i1 ∷ [] } ∷ [])
-  (function (codes "main") [] (block (codes "0") (
+    (record { name = codes "llvm.memcpy.p0.p0.i64"; ret = Ty.Void; params = Ty.Ptr ∷ Ty.Ptr ∷ i64 ∷ i1 ∷ [] } ∷ [])
+    (function (codes "main") [] (block (codes "0") (
     gives (codes "a") (Op.Alloca i64 2)
     ∷ record { result = None; op = Op.Store Ty.Ptr (local (codes "a")) (local (codes "a")) }
     ∷ gives (codes "b") (Op.Gep i8 (local (codes "a")) (arg i64 (int offset) ∷ []))
@@ -261,7 +260,7 @@ copies offset = module_of
     ∷ gives (codes "q") (Op.Compare Pred.Eq Ty.Ptr (local (codes "c")) (local (codes "a")))
     ∷ gives (codes "z") (Op.Cast CastOp.Zext i1 (local (codes "q")) i32)
     ∷ []) (Term.RetValue i32 (local (codes "z")))
-  ∷ []) ∷ [])
+    ∷ []) ∷ [])
 
 pointer_is_copied : source_run (copies 8) [] 8 ≡ shown [] 0 (Ended 1)
 unfolding source_run source_start source_step out-Ty out
@@ -275,8 +274,8 @@ overlap_is_left = rw (shape-int [] W64, shape-int [] W8) refl
 -- `exit` ends the run with the low 8 bits
 abbrev exits : Module
 exits = module_of (record { name = codes "exit"; ret = Ty.Void; params = i32 ∷ [] } ∷ []) (function (codes "main") [] (
-  block (codes "0") (record { result = None; op = Op.Call Ty.Void (Operand.Global (codes "exit")) (arg i32 (int 300) ∷ []) } ∷ []) Term.Unreachable
-  ∷ []) ∷ [])
+    block (codes "0") (record { result = None; op = Op.Call Ty.Void (Operand.Global (codes "exit")) (arg i32 (int 300) ∷ []) } ∷ []) Term.Unreachable
+    ∷ []) ∷ [])
 
 exits_at_once : source_run exits [] 1 ≡ shown [] 0 (Ended 44)
 unfolding source_run source_start source_step out-Ty out

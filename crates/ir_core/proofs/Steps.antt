@@ -1,14 +1,13 @@
 -- A step of a run that goes on, once it is known where the run stands.
-use Rattle.std.proofs.Common.{◌≡◌, ℕ, List, [], ◌∷◌, Option, Some, None, refl, ap, ◌∙◌, subst, sym}
-use Rattle.std.specs.Prelude.{slice_get, Ok, Err}
-use Rattle.behavior.specs.Ending.{Ending, Going, if_going}
+use Rattle.std.proofs.Common.{◌≡◌, ℕ, List, ◌∷◌, Option, Some, ap, ◌∙◌}
+use Rattle.std.specs.Prelude.{slice_get}
+use Rattle.behavior.specs.Ending.{Going, if_going}
 use Rattle.ir_core.specs.declared.instruction.Inst.{Inst}
 use Rattle.ir_core.specs.declared.module.Block.{Block}
 use Rattle.ir_core.specs.declared.module.Function.{Function}
 use Rattle.ir_core.specs.declared.module.Module.{Module}
-use Rattle.ir_core.specs.Memory.{Memory}
-use Rattle.ir_core.specs.Stops.{Answer, after, found_or, malformed}
-use Rattle.ir_core.specs.State.{Frame, State, Turn, turned}
+use Rattle.ir_core.specs.Stops.{after, found_or, malformed}
+use Rattle.ir_core.specs.State.{Frame, State, turned}
 use Rattle.ir_core.specs.Step.{turn_at, turn_of, source_step}
 
 -- where a call stands: its function, its block, and its next instruction, none where the terminator is next

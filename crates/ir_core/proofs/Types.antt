@@ -1,12 +1,12 @@
 -- Kinds and shapes of types, one form of type after another.
-use Rattle.std.proofs.Common.{◌≡◌, ℕ, ◌*◌, List, map, refl, ap, sym, ◌∙◌}
+use Rattle.std.proofs.Common.{◌≡◌, ℕ, List, map, refl, ap, sym, ◌∙◌}
 use denote.Hole.Carrier.{out}
 use Rattle.rd_num.specs.declared.width.Width.{Width}
-use Rattle.ir_core.specs.declared.ty.Ty.{Ty, out-Ty, fold-Ty, fold-roll-Ty}
+use Rattle.ir_core.specs.declared.ty.Ty.{Ty, out-Ty, fold-roll-Ty}
 use Rattle.ir_core.specs.declared.ty.Ty.TheVariants.{Array, Struct, Packed, rolls-Int, rolls-Ptr, rolls-Array, rolls-Struct, rolls-Packed}
 use Rattle.ir_core.specs.declared.ty.Ty.TheOpen.{Ty-F}
 use Rattle.ir_core.specs.declared.ty.NamedTy.{NamedTy}
-use Rattle.ir_core.specs.Kinds.{Kind, Number, Pointer, kind_of}
+use Rattle.ir_core.specs.Kinds.{Number, Pointer, kind_of}
 use Rattle.ir_core.specs.Shapes.{Shape, single, bytes_of, array, struct, unaligned, shape_at, named_shape, shape_of}
 
 pub kind-int : (w : Width) → kind_of (Ty.Int w) ≡ Number w

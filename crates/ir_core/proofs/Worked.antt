@@ -1,9 +1,9 @@
 -- Runs of small modules, computed.
-use Rattle.std.proofs.Common.{◌≡◌, ℕ, List, [], ◌∷◌, refl, Some, None}
+use Rattle.std.proofs.Common.{◌≡◌, ℕ, List, [], ◌∷◌, refl, Some}
 use denote.Hole.Carrier.{out}
-use Rattle.std.specs.Prelude.{codes, pos, negsuc}
+use Rattle.std.specs.Prelude.{codes, pos}
 use Rattle.rd_num.specs.declared.width.Width.TheVariants.{W32}
-use Rattle.behavior.specs.Ending.{Ending, Going, Ended, Trap, Left}
+use Rattle.behavior.specs.Ending.{Ending, Going, Ended}
 use Rattle.behavior.specs.Moment.{Moment}
 use Rattle.ir_core.specs.declared.ty.Ty.{Ty, out-Ty}
 use Rattle.ir_core.specs.declared.operand.Operand.{Operand}
@@ -59,10 +59,10 @@ bin name op a b = record { result = Some name; op = Op.Bin op i32 a b }
 -- %a = add i32 40, 2; %b = mul i32 %a, %a; %c = sub i32 %b, 1; ret i32 %c: (40 + 2)^2 - 1 is 1763, whose low 8 bits are 227
 abbrev square : Module
 square = main_of (block (codes "0")
-  (bin (codes "a") BinOp.Add (int 40) (int 2)
-  ∷ bin (codes "b") BinOp.Mul (local (codes "a")) (local (codes "a"))
-  ∷ bin (codes "c") BinOp.Sub (local (codes "b")) (int 1)
-  ∷ []) (Term.RetValue i32 (local (codes "c"))) ∷ [])
+    (bin (codes "a") BinOp.Add (int 40) (int 2)
+    ∷ bin (codes "b") BinOp.Mul (local (codes "a")) (local (codes "a"))
+    ∷ bin (codes "c") BinOp.Sub (local (codes "b")) (int 1)
+    ∷ []) (Term.RetValue i32 (local (codes "c"))) ∷ [])
 
 square_at_3 : source_run square [] 3 ≡ shown [] 0 Going
 unfolding source_run source_start source_step out-Ty out

@@ -1,6 +1,6 @@
 -- Arithmetic on numbers of one width, over whole numbers and remainders.
 use Rattle.std.specs.Prelude.{ℕ, ◌+◌, ◌*◌, ◌-◌, ◌/◌, ◌%◌, ◌^◌, ◌<◌, Bool, true, false, not, ◌&&◌, nat_eq, nat_lt, nat_le, if◌then◌else◌, Ok, Err, bit_and, bit_or, bit_xor}
-use Rattle.behavior.specs.Ending.{Ending, Divide}
+use Rattle.behavior.specs.Ending.{Divide}
 use Rattle.rd_num.specs.declared.width.Width.{Width}
 use Rattle.rd_num.specs.Number.{bits}
 use Rattle.ir_core.specs.declared.instruction.BinOp.{BinOp}

@@ -1,17 +1,15 @@
 -- Calls and returns, and the functions that stand outside of a module.
-use Rattle.std.specs.Prelude.{ℕ, zero, suc, ◌+◌, ◌-◌, ◌%◌, ◌^◌, List, [], ◌∷◌, Bool, true, false, ◌&&◌, nat_le, length, map, slice_get, codes, Option, Some, None, Ok, Err, if◌then◌else◌}
-use Rattle.rd_num.specs.declared.width.Width.TheVariants.{W1, W32}
+use Rattle.std.specs.Prelude.{ℕ, ◌-◌, ◌%◌, ◌^◌, List, [], ◌∷◌, Bool, true, false, ◌&&◌, nat_le, length, map, slice_get, codes, Option, Some, None, Ok, Err, if◌then◌else◌}
+use Rattle.rd_num.specs.declared.width.Width.TheVariants.{W32}
 use Rattle.behavior.specs.Ending.{Ending, Ended, Trap, Depth}
 use Rattle.ir_core.specs.declared.TheConstants.{MAX_CALLS}
-use Rattle.ir_core.specs.declared.ty.Ty.{Ty}
 use Rattle.ir_core.specs.declared.operand.Operand.{Operand}
 use Rattle.ir_core.specs.declared.operand.Operand.TheVariants.{Local as LocalName, Global}
-use Rattle.ir_core.specs.declared.instruction.Arg.{Arg}
 use Rattle.ir_core.specs.declared.module.Function.{Function}
 use Rattle.ir_core.specs.declared.module.Param.{Param}
 use Rattle.ir_core.specs.declared.module.Module.{Module}
 use Rattle.ir_core.specs.declared.memory.Value.{Value}
-use Rattle.ir_core.specs.declared.memory.Value.TheVariants.{Num, Null, At, Fun}
+use Rattle.ir_core.specs.declared.memory.Value.TheVariants.{Num, Fun}
 use Rattle.ir_core.specs.declared.memory.Reason.TheVariants.{Callee}
 use Rattle.ir_core.specs.Names.{same_name}
 use Rattle.ir_core.specs.Stops.{Answer, after, found_or, left, malformed}
@@ -80,9 +78,9 @@ first_frame number f arguments into = record { function = number; block = 0; nex
 abbrev pub entered : Module → State → List Frame → Kind → List Kind → List Value → Option (List ℕ) → Value → Answer Turn
 entered m s callers ret kinds arguments into (Fun number) =
     after (found_or malformed (slice_get m.functions number)) (λ f.
-        if is_called_as f ret kinds
-        then (if nat_le MAX_CALLS (length s.frames) then Err Depth else Ok (record { frames = first_frame number f arguments into ∷ callers; objects = s.objects; exchange = Nothing }))
-        else Err (left Callee))
+    if is_called_as f ret kinds
+    then (if nat_le MAX_CALLS (length s.frames) then Err Depth else Ok (record { frames = first_frame number f arguments into ∷ callers; objects = s.objects; exchange = Nothing }))
+    else Err (left Callee))
 entered m s callers ret kinds arguments into other = Err (left Callee)
 
 -- the callers once the innermost of them goes on with a result

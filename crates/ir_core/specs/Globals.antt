@@ -1,7 +1,6 @@
 -- What globals hold when a run begins.
 use Rattle.std.specs.Prelude.{ℕ, ◌+◌, ◌-◌, List, [], ◌∷◌, ◌++◌, true, length, map, replicate, Ok, Err}
 use Rattle.ir_core.specs.declared.ty.Ty.{Ty}
-use Rattle.ir_core.specs.declared.operand.Operand.{Operand}
 use Rattle.ir_core.specs.declared.init.Init.{Init, fold-Init}
 use Rattle.ir_core.specs.declared.init.Init.TheOpen.{Init-F, Elem-F}
 use Rattle.ir_core.specs.declared.init.Elem.{Elem, fold-Elem}

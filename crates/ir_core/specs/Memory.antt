@@ -1,17 +1,13 @@
 -- Memory as a list of objects: what is loaded, stored, copied and compared.
-use Rattle.std.specs.Prelude.{ℕ, ◌+◌, ◌-◌, ◌%◌, ◌^◌, List, [], ◌∷◌, ◌++◌, Bool, true, false, not, ◌&&◌, ◌||◌, nat_eq, nat_lt, nat_le, length, map, take, drop, replicate, slice_get, slice_set, option_map, Option, Some, None, Ok, Err, if◌then◌else◌}
+use Rattle.std.specs.Prelude.{ℕ, ◌+◌, ◌%◌, ◌^◌, List, [], ◌∷◌, ◌++◌, Bool, true, false, not, ◌&&◌, nat_eq, nat_lt, nat_le, length, map, take, drop, replicate, slice_get, slice_set, option_map, Option, Some, None, Ok, Err, if◌then◌else◌}
 use Rattle.rd_num.specs.declared.width.Width.{Width}
-use Rattle.rd_num.specs.declared.width.Width.TheVariants.{W1, W8, W16, W32, W64}
 use Rattle.rd_num.specs.Number.{bits, le_bytes, le_number}
-use Rattle.behavior.specs.Ending.{Ending}
 use Rattle.ir_core.specs.declared.memory.Value.{Value}
 use Rattle.ir_core.specs.declared.memory.Value.TheVariants.{Num, Null, At, Fun}
 use Rattle.ir_core.specs.declared.memory.Cell.{Cell}
 use Rattle.ir_core.specs.declared.memory.Cell.TheVariants.{Unset, Byte, Piece}
 use Rattle.ir_core.specs.declared.memory.Object0.{Object0}
-use Rattle.ir_core.specs.declared.memory.Reason.TheVariants.{Bounds, Dead, Constant, Unset as WasUnset, Mixed, Order, Equal, Overlap, Gep}
-use Rattle.ir_core.specs.declared.instruction.Pred.{Pred}
-use Rattle.ir_core.specs.declared.instruction.Pred.TheVariants.{Eq, Ne, Ult, Ule, Ugt, Uge, Slt, Sle, Sgt, Sge}
+use Rattle.ir_core.specs.declared.memory.Reason.TheVariants.{Bounds, Dead, Constant, Unset as WasUnset, Mixed, Overlap}
 use Rattle.ir_core.specs.Stops.{Answer, after, left, malformed}
 use Rattle.ir_core.specs.Kinds.{Kind, NoValue, Number, Pointer}
 use Rattle.ir_core.specs.Shapes.{bytes_of}
@@ -128,7 +124,7 @@ overlaps count a b = (nat_eq a.object b.object && not (nat_eq a.offset b.offset)
 abbrev pub copied : Memory → Value → Value → ℕ → Answer Memory
 copied m to from count =
     if nat_eq count 0 then Ok m else (after (readable m count from) (λ a. after (writable m count to) (λ b.
-        if overlaps count a b then Err (left Overlap) else Ok (written m b (cells_at a count)))))
+    if overlaps count a b then Err (left Overlap) else Ok (written m b (cells_at a count)))))
 
 -- a new object of unset bytes; its number is the number of objects before it
 abbrev pub with_alloca : Memory → ℕ → Memory

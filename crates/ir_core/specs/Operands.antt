@@ -1,6 +1,5 @@
 -- What operands are in a call.
 use Rattle.std.specs.Prelude.{ℕ, ◌+◌, ◌*◌, ◌%◌, ◌^◌, List, [], ◌∷◌, Option, Some, None, Ok, Err, ℤ, option_map}
-use Rattle.rd_num.specs.declared.width.Width.TheVariants.{W1}
 use Rattle.ir_core.specs.declared.ty.Ty.{Ty}
 use Rattle.ir_core.specs.declared.operand.Operand.{Operand}
 use Rattle.ir_core.specs.declared.operand.Operand.TheVariants.{Int, Bool as Truth, Null as NullWord, Undef, Poison, Local as LocalName, Global, Const}
@@ -56,7 +55,7 @@ literal_indices (i ∷ is) = after (int_value (kind_of i.ty) i.value) (λ v. aft
 abbrev pub constant_place : Module → Place0 → Answer Value
 constant_place m p =
     after (found_or malformed (global_number m p.base)) (λ g.
-        after (literal_indices p.indices) (λ is. after (bytes_to m p.source is) (λ by. Ok (At g (by % 2 ^ 64)))))
+    after (literal_indices p.indices) (λ is. after (bytes_to m p.source is) (λ by. Ok (At g (by % 2 ^ 64)))))
 
 -- the value of an operand of a kind; undef and poison are zeros
 abbrev pub value_of : Module → List Local → Kind → Operand → Answer Value

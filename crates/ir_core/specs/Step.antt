@@ -1,10 +1,7 @@
 -- One step of a module: an instruction, or a terminator with the phis of the edge that it takes.
-use Rattle.std.specs.Prelude.{ℕ, ◌+◌, ◌*◌, List, [], ◌∷◌, ◌++◌, nat_eq, length, map, slice_get, Option, Some, None, Ok, Err, if◌then◌else◌}
-use Rattle.rd_num.specs.declared.width.Width.{Width}
+use Rattle.std.specs.Prelude.{ℕ, ◌+◌, ◌*◌, List, [], ◌∷◌, nat_eq, length, map, slice_get, Option, Some, None, Ok, Err, if◌then◌else◌}
 use Rattle.rd_num.specs.declared.width.Width.TheVariants.{W1}
-use Rattle.behavior.specs.Ending.{Ending, Trap, if_going}
-use Rattle.ir_core.specs.declared.ty.Ty.{Ty}
-use Rattle.ir_core.specs.declared.operand.Operand.{Operand}
+use Rattle.behavior.specs.Ending.{Trap, if_going}
 use Rattle.ir_core.specs.declared.instruction.BinOp.{BinOp}
 use Rattle.ir_core.specs.declared.instruction.Pred.{Pred}
 use Rattle.ir_core.specs.declared.instruction.CastOp.{CastOp}
@@ -20,10 +17,10 @@ use Rattle.ir_core.specs.declared.module.Block.{Block}
 use Rattle.ir_core.specs.declared.module.Function.{Function}
 use Rattle.ir_core.specs.declared.module.Module.{Module}
 use Rattle.ir_core.specs.declared.memory.Value.{Value}
-use Rattle.ir_core.specs.declared.memory.Value.TheVariants.{Num, Null, At, Fun}
+use Rattle.ir_core.specs.declared.memory.Value.TheVariants.{Num, At}
 use Rattle.ir_core.specs.Names.{same_name, number_where, first_where}
 use Rattle.ir_core.specs.Stops.{Answer, after, found_or, malformed}
-use Rattle.ir_core.specs.Kinds.{Kind, NoValue, Number, Pointer, kind_of, truth}
+use Rattle.ir_core.specs.Kinds.{Kind, Number, Pointer, kind_of, truth}
 use Rattle.ir_core.specs.Arithmetic.{binary, compared, cast}
 use Rattle.ir_core.specs.Shapes.{shape_of}
 use Rattle.ir_core.specs.Memory.{Memory, load_at, store_at, with_alloca}
@@ -87,7 +84,7 @@ instruction m input s f callers into (Store ty a p) =
     after (value_of m f.locals (kind_of ty) a) (λ x. after (value_of m f.locals Pointer p) (λ y. stores s f callers (store_at s.objects x y)))
 instruction m input s f callers into (Call ret callee arguments) =
     after (target_of m f.locals callee) (λ target. after (values_of m f.locals arguments) (λ values.
-        called m input s (past f ∷ callers) (kind_of ret) (map (λ (a : Arg). kind_of a.ty) arguments) values into target))
+    called m input s (past f ∷ callers) (kind_of ret) (map (λ (a : Arg). kind_of a.ty) arguments) values into target))
 instruction m input s f callers into op = after (result_of m s.objects f.locals op) (λ v. gives s f callers into v)
 
 -- a phi of a block: the local that it gives, and its entries
@@ -118,13 +115,13 @@ given_at_once m locals from (c ∷ cs) = after (chosen m locals from c) (λ v. a
 abbrev pub in_block : Module → State → Frame → List Frame → List ℕ → ℕ → Block → Answer Turn
 in_block m s f callers from number b =
     after (given_at_once m f.locals from (choices_of b.insts)) (λ locals.
-        Ok (record { frames = record f { block = number; next = length (choices_of b.insts); locals = locals } ∷ callers; objects = s.objects; exchange = Nothing }))
+    Ok (record { frames = record f { block = number; next = length (choices_of b.insts); locals = locals } ∷ callers; objects = s.objects; exchange = Nothing }))
 
 -- along the edge to a label
 abbrev pub goes_to : Module → State → Frame → List Frame → Function → List ℕ → List ℕ → Answer Turn
 goes_to m s f callers fn from label =
     after (found_or malformed (number_where (λ (b : Block). same_name b.label label) fn.blocks)) (λ number.
-        after (found_or malformed (slice_get fn.blocks number)) (λ b. in_block m s f callers from number b))
+    after (found_or malformed (slice_get fn.blocks number)) (λ b. in_block m s f callers from number b))
 
 abbrev pub if_true : Value → List ℕ → List ℕ → Answer (List ℕ)
 if_true (Num w n) taken other = Ok (if nat_eq n 0 then other else taken)
@@ -159,7 +156,7 @@ abbrev pub turn_of : Module → List ℕ → State → List Frame → Answer Tur
 turn_of m input s [] = Err malformed
 turn_of m input s (f ∷ callers) =
     after (found_or malformed (slice_get m.functions f.function)) (λ fn.
-        after (found_or malformed (slice_get fn.blocks f.block)) (λ b. turn_at m input s f callers fn b (slice_get b.insts f.next)))
+    after (found_or malformed (slice_get fn.blocks f.block)) (λ b. turn_at m input s f callers fn b (slice_get b.insts f.next)))
 
 -- a run that has stopped stays as it is
 unfoldable pub source_step : Module → List ℕ → State → State
