@@ -15,6 +15,7 @@ use Rattle.ir_core.specs.Stops.{Answer}
 use Rattle.ir_core.specs.Kinds.{literal}
 use Rattle.ir_core.specs.Arithmetic.{modulus, IsOfWidth, is_negative, negated, magnitude, differ, signed_quotient, signed_remainder, sign_shifted, divides_by_zero, overflows, or_divide, binary, cast}
 
+-- a remainder by a width is a number of it
 reduced : (w : Width) (n : ℕ) → IsOfWidth w (n % modulus w)
 reduced w n = mod-lt n (pow_pos (bits w))
 
@@ -23,17 +24,21 @@ if_fits : (b : Bool) (w : Width) (x y : ℕ) → IsOfWidth w x → IsOfWidth w y
 if_fits true w x y p q = p
 if_fits false w x y p q = q
 
+-- an answer has one value
 ok_is : (n k : ℕ) → let x : Answer ℕ = Ok n in x ≡ Ok k → n ≡ k
 ok_is n k e = cc
 
+-- what a division answers fits where its value does
 or_divide_fits : (b : Bool) (w : Width) (n k : ℕ) → IsOfWidth w n → or_divide b n ≡ Ok k → IsOfWidth w k
 or_divide_fits true w n k fits e = absurd (cc)
 or_divide_fits false w n k fits e = subst (IsOfWidth w) (ok_is n k e) fits
 
+-- also where a test comes first
 if_divide_fits : (b : Bool) (w : Width) (r : Answer ℕ) (k : ℕ) → (r ≡ Ok k → IsOfWidth w k) → (if b then Err Divide else r) ≡ Ok k → IsOfWidth w k
 if_divide_fits true w r k fits e = absurd (cc)
 if_divide_fits false w r k fits e = fits e
 
+-- a number that is not below half is less than the whole away from it
 above : (half m a : ℕ) → 0 < half → half ≤ a → a < m → m - a < m
 above half m a p q r = omega arith
 
@@ -45,24 +50,29 @@ magnitude_fits w a fits = of_bool (is_negative w a) refl
     of_bool true e = above (2 ^ (bits w - 1)) (modulus w) a (pow_pos (bits w - 1)) (leb-true (2 ^ (bits w - 1)) a e) fits
     of_bool false e = fits
 
+-- what is no greater fits too
 smaller_fits : (w : Width) (n m : ℕ) → n ≤ m → IsOfWidth w m → IsOfWidth w n
 smaller_fits w n m le fits = omega arith
 
+-- a signed quotient fits
 quotient_fits : (w : Width) (a b : ℕ) → IsOfWidth w a → IsOfWidth w (signed_quotient w a b)
 quotient_fits w a b fits =
     let q = magnitude w a / magnitude w b in
     if_fits (differ (is_negative w a) (is_negative w b)) w (negated w q) q (reduced w (modulus w - q))
     (smaller_fits w q (magnitude w a) (div-le_self (magnitude w a) (magnitude w b)) (magnitude_fits w a fits))
 
+-- a signed remainder fits
 remainder_fits : (w : Width) (a b : ℕ) → IsOfWidth w a → IsOfWidth w (signed_remainder w a b)
 remainder_fits w a b fits =
     let r = magnitude w a % magnitude w b in
     if_fits (is_negative w a) w (negated w r) r (reduced w (modulus w - r))
     (smaller_fits w r (magnitude w a) (mod-le (magnitude w a) (magnitude w b)) (magnitude_fits w a fits))
 
+-- a complement is below the whole
 complement_fits : (m n : ℕ) → 0 < m → m - 1 - n < m
 complement_fits m n p = omega arith
 
+-- a number that was shifted with its sign fits
 shifted_fits : (w : Width) (a by : ℕ) → IsOfWidth w a → IsOfWidth w (sign_shifted w a by)
 shifted_fits w a by fits =
     let up = (modulus w - 1 - a) / 2 ^ by in

@@ -21,6 +21,7 @@ turned_adds s (Ok t) = exchanged t.frames t.objects t.exchange
     exchanged frames objects Take = Takes refl refl refl
 turned_adds s (Err ending) = Silent refl refl
 
+-- what a step adds, by the fields of the state
 adds_at : (m : Module) (input : List ℕ) (frames : List Frame) (objects : Memory) (printed : List ℕ) (taken : ℕ) (ending : Ending) → let s : State = record { frames = frames; objects = objects; printed = printed; taken = taken; ending = ending } in AddsAtMostOne (source_moment s) (source_moment (source_step m input s))
 unfolding source_step
 adds_at m input frames objects printed taken Going =
@@ -32,6 +33,7 @@ adds_at m input frames objects printed taken stopped = Silent refl refl
 pub step_adds : (m : Module) (input : List ℕ) (s : State) → AddsAtMostOne (source_moment s) (source_moment (source_step m input s))
 step_adds m input s = adds_at m input s.frames s.objects s.printed s.taken s.ending
 
+-- a step of a run that has stopped, by the fields of the state
 stays_at : (m : Module) (input : List ℕ) (frames : List Frame) (objects : Memory) (printed : List ℕ) (taken : ℕ) (ending : Ending) → is_going ending ≡ false → let s : State = record { frames = frames; objects = objects; printed = printed; taken = taken; ending = ending } in source_step m input s ≡ s
 unfolding source_step
 stays_at m input frames objects printed taken Going h = absurd (cc)

@@ -4,4 +4,3 @@ pub mod Fits
 pub mod Types
 pub mod Inits
 pub mod Worked
-pub mod Rows

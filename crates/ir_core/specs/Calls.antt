@@ -29,6 +29,7 @@ pub data Outer : Type 0 where
   Lifetime : Outer
   NoOuter : Outer
 
+-- the function of that name
 abbrev pub outer_of : List ℕ → Outer
 outer_of name =
     if same_name name (codes "putchar") then Putchar
@@ -46,15 +47,18 @@ pub data Target : Type 0 where
   Outside : (outer : Outer) → Target
   Inside : (callee : Value) → Target
 
+-- a function of the module comes before one outside of it
 abbrev pub target_named : List ℕ → Option ℕ → Target
 target_named name (Some f) = Inside (Fun f)
 target_named name None = Outside (outer_of name)
 
+-- what the callee of a call is
 abbrev pub target_of : Module → List Local → Operand → Answer Target
 target_of m locals (LocalName name) = after (local_value locals name) (λ v. Ok (Inside v))
 target_of m locals (Global name) = Ok (target_named name (function_number m name))
 target_of m locals other = Err malformed
 
+-- as many, and each the same
 abbrev pub same_kinds : List Kind → List Kind → Bool
 same_kinds [] [] = true
 same_kinds (j ∷ js) (k ∷ ks) = same_kind j k && same_kinds js ks
@@ -71,6 +75,7 @@ bound (p ∷ ps) (v ∷ vs) = record { name = p.name; value = v } ∷ bound ps v
 bound [] vs = []
 bound (p ∷ ps) [] = []
 
+-- a call of a function at its start
 abbrev pub first_frame : ℕ → Function → List Value → Option (List ℕ) → Frame
 first_frame number f arguments into = record { function = number; block = 0; next = 0; locals = bound f.params arguments; objects = []; into = into }
 
@@ -100,6 +105,7 @@ abbrev pub returned : State → Frame → List Frame → Option Value → Answer
 returned s f [] result = Err (last_result result)
 returned s f (g ∷ gs) result = Ok (record { frames = resumed (g ∷ gs) f.into result; objects = without s.objects f.objects; exchange = Nothing })
 
+-- the callers go on with a result, memory as it is
 abbrev pub goes_on : State → List Frame → Option (List ℕ) → Exchange → Option Value → Answer Turn
 goes_on s frames into exchange result = Ok (record { frames = resumed frames into result; objects = s.objects; exchange = exchange })
 
@@ -108,6 +114,7 @@ abbrev pub read_byte : State → List Frame → Option (List ℕ) → Option ℕ
 read_byte s frames into (Some byte) = goes_on s frames into Take (Some (Num W32 byte))
 read_byte s frames into None = goes_on s frames into Nothing (Some (Num W32 (2 ^ 32 - 1)))
 
+-- the callers go on, with other objects in memory
 abbrev pub with_memory : List Frame → Answer Memory → Answer Turn
 with_memory frames objects = after objects (λ m. Ok (record { frames = frames; objects = m; exchange = Nothing }))
 
@@ -122,6 +129,7 @@ outer_turn input s frames into TrapNow arguments = Err Trap
 outer_turn input s frames into Lifetime arguments = goes_on s frames into Nothing None
 outer_turn input s frames into outer arguments = Err malformed
 
+-- a call of what the callee is
 abbrev pub called : Module → List ℕ → State → List Frame → Kind → List Kind → List Value → Option (List ℕ) → Target → Answer Turn
 called m input s callers ret kinds arguments into (Outside outer) = outer_turn input s callers into outer arguments
 called m input s callers ret kinds arguments into (Inside callee) = entered m s callers ret kinds arguments into callee

@@ -15,6 +15,7 @@ pub data Kind : Type 0 where
   Number : (w : Width) → Kind
   Pointer : Kind
 
+-- by the outermost word of the type
 abbrev pub kind_at : Ty-F Ty → Kind
 kind_at Ty-F.Void = NoValue
 kind_at (Ty-F.Int w) = Number w
@@ -24,6 +25,7 @@ kind_at (Ty-F.Struct fields) = NoValue
 kind_at (Ty-F.Packed fields) = NoValue
 kind_at (Ty-F.Named name) = NoValue
 
+-- the kind of a type
 abbrev pub kind_of : Ty → Kind
 kind_of ty = kind_at (out-Ty ty)
 
@@ -48,6 +50,7 @@ literal w (negsuc n) = 2 ^ bits w - 1 - n % 2 ^ bits w
 abbrev pub signed_word : Width → ℕ → ℕ
 signed_word w n = if nat_lt n (2 ^ (bits w - 1)) then n else (n + (2 ^ 64 - 2 ^ bits w))
 
+-- a truth value as a number of one bit
 abbrev pub truth : Bool → Value
 truth holds = if holds then Num W1 1 else Num W1 0
 

@@ -20,9 +20,11 @@ use Rattle.ir_core.specs.State.{Local}
 abbrev pub local_value : List Local → List ℕ → Answer Value
 local_value locals name = found_or (left Unset) (option_map (λ (l : Local). l.value) (first_where (λ (l : Local). same_name l.name name) locals))
 
+-- the number of a global
 abbrev pub global_number : Module → List ℕ → Option ℕ
 global_number m name = number_where (λ g. same_name g.name name) m.globals
 
+-- the number of a function
 abbrev pub function_number : Module → List ℕ → Option ℕ
 function_number m name = number_where (λ f. same_name f.name name) m.functions
 
@@ -32,6 +34,7 @@ named_value (Some g) function = Ok (At g 0)
 named_value None (Some f) = Ok (Fun f)
 named_value None None = Err malformed
 
+-- a literal as a number of a kind
 abbrev pub int_value : Kind → ℤ → Answer Value
 int_value (Number w) n = Ok (Num w (literal w n))
 int_value Pointer n = Err malformed
@@ -47,6 +50,7 @@ abbrev pub bytes_to : Module → Ty → List ℕ → Answer ℕ
 bytes_to m source [] = Ok 0
 bytes_to m source (i ∷ is) = found_or malformed (option_map (λ at. i * (shape_of m.types source).size + at) ((shape_of m.types source).part is))
 
+-- the indices of a constant place
 abbrev pub literal_indices : List Index0 → Answer (List ℕ)
 literal_indices [] = Ok []
 literal_indices (i ∷ is) = after (int_value (kind_of i.ty) i.value) (λ v. after (index_word v) (λ n. after (literal_indices is) (λ ns. Ok (n ∷ ns))))
@@ -73,6 +77,7 @@ abbrev pub values_of : Module → List Local → List Arg → Answer (List Value
 values_of m locals [] = Ok []
 values_of m locals (arg ∷ args) = after (value_of m locals (kind_of arg.ty) arg.value) (λ v. after (values_of m locals args) (λ vs. Ok (v ∷ vs)))
 
+-- indices that were read
 abbrev pub index_words : List Value → Answer (List ℕ)
 index_words [] = Ok []
 index_words (v ∷ vs) = after (index_word v) (λ n. after (index_words vs) (λ ns. Ok (n ∷ ns)))

@@ -29,19 +29,23 @@ use Rattle.ir_core.specs.State.{Local, Frame, State, Nothing, Turn, turned, give
 use Rattle.ir_core.specs.Operands.{value_of, values_of, index_words, bytes_to}
 use Rattle.ir_core.specs.Calls.{target_of, called, returned}
 
+-- two values of a kind by an operation
 abbrev pub binary_value : BinOp → Kind → Value → Value → Answer Value
 binary_value op (Number w) (Num u a) (Num v b) = after (binary op w a b) (λ n. Ok (Num w n))
 binary_value op kind a b = Err malformed
 
+-- two values of a kind compared
 abbrev pub compared_value : Memory → Pred → Kind → Value → Value → Answer Value
 compared_value objects pred (Number w) (Num u a) (Num v b) = Ok (truth (compared pred w a b))
 compared_value objects pred Pointer a b = after (pointers_compared pred objects a b) (λ holds. Ok (truth holds))
 compared_value objects pred kind a b = Err malformed
 
+-- a value as one of another width
 abbrev pub cast_value : CastOp → Kind → Kind → Value → Answer Value
 cast_value op (Number from) (Number to) (Num v n) = Ok (Num to (cast op from to n))
 cast_value op from to v = Err malformed
 
+-- one of two values, by a truth value
 abbrev pub selected : Value → Value → Value → Answer Value
 selected (Num w n) taken other = Ok (if nat_eq n 0 then other else taken)
 selected condition taken other = Err malformed
@@ -63,6 +67,7 @@ result_of m objects locals other = Err malformed
 abbrev pub past : Frame → Frame
 past f = record f { next = f.next + 1 }
 
+-- the instruction gives a value to its local
 abbrev pub gives : State → Frame → List Frame → Option (List ℕ) → Value → Answer Turn
 gives s f callers into v = Ok (record { frames = record f { next = f.next + 1; locals = given into v f.locals } ∷ callers; objects = s.objects; exchange = Nothing })
 
@@ -74,6 +79,7 @@ gives_alloca s f callers into size = Ok (record {
   exchange = Nothing;
 })
 
+-- the instruction changes memory
 abbrev pub stores : State → Frame → List Frame → Answer Memory → Answer Turn
 stores s f callers objects = after objects (λ changed. Ok (record { frames = past f ∷ callers; objects = changed; exchange = Nothing }))
 
@@ -123,6 +129,7 @@ goes_to m s f callers fn from label =
     after (found_or malformed (number_where (λ (b : Block). same_name b.label label) fn.blocks)) (λ number.
     after (found_or malformed (slice_get fn.blocks number)) (λ b. in_block m s f callers from number b))
 
+-- one of two labels, by a truth value
 abbrev pub if_true : Value → List ℕ → List ℕ → Answer (List ℕ)
 if_true (Num w n) taken other = Ok (if nat_eq n 0 then other else taken)
 if_true condition taken other = Err malformed
@@ -147,6 +154,7 @@ terminator m s f callers fn from (Switch ty a default cases) =
     after (value_of m f.locals (kind_of ty) a) (λ v. after (switched m v default cases) (λ to. goes_to m s f callers fn from to))
 terminator m s f callers fn from Unreachable = Err Trap
 
+-- an instruction, or the terminator past the last one
 abbrev pub turn_at : Module → List ℕ → State → Frame → List Frame → Function → Block → Option Inst → Answer Turn
 turn_at m input s f callers fn b (Some i) = instruction m input s f callers i.result i.op
 turn_at m input s f callers fn b None = terminator m s f callers fn b.label b.end
