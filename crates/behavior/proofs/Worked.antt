@@ -1,6 +1,6 @@
 -- What the relation refuses, and a simulation small enough to be read whole.
 use Rattle.std.proofs.Common.{◌≡◌, ℕ, zero, suc, ◌+◌, Bool, List, [], ◌∷◌, ◌++◌, true, false, refl, inl, inr, arith}
-use Rattle.behavior.specs.Ending.{Ending, Going, Ended, Invalid, if_going, is_going}
+use Rattle.behavior.specs.Ending.{Left, Ending, Going, Ended, Invalid, if_going, is_going}
 use Rattle.behavior.specs.Moment.{Moment, IsGoing, Behavior}
 use Rattle.behavior.specs.Preserves.{Preserves}
 use Rattle.behavior.specs.System.{AddsAtMostOne, System, behavior_of}
@@ -51,6 +51,13 @@ print_is_refused B n e p =
       | inl l ↦ let left = l.1 in absurd (cc)
       | inr s ↦ let printed = s.1.printed in absurd (cc)
     ]
+
+-- what leaves its meaning at once owes nothing: any program is its translation
+pub left_at_once_owes_nothing : (reason : ℕ) (B : Behavior) → Preserves (always [] (Left reason)) B
+left_at_once_owes_nothing reason B = record {
+  reaches = λ input bytes k go. absurd (cc);
+  only = λ input bytes n. inl (0, refl);
+}
 
 -- a countdown that prints its number at each step
 record Count : Type 0 where
