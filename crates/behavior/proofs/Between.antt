@@ -11,9 +11,11 @@ pub iter_add : {S : Type 0} (f : S → S) (m n : ℕ) (s : S) → iter f n (iter
 iter_add f zero n s = let e : n ≡ 0 + n = omega arith in ap (λ i. iter f i s) e
 iter_add f (suc m) n s = let e : suc (m + n) ≡ suc m + n = omega arith in iter_add f m n (f s) ∙ ap (λ i. iter f i s) e
 
+-- no growth is growth
 pub grows_refl : (a : Moment) → Grows a a
 grows_refl a = record { more = []; printed = sym (append-nil a.printed); taken = omega arith }
 
+-- growth after growth is growth
 pub grows_trans : (a b c : Moment) → Grows a b → Grows b c → Grows a c
 grows_trans a b c x y = record {
   more = x.more ++ y.more;
@@ -27,6 +29,7 @@ adds_grows a b (Silent p t) = record { more = []; printed = p ∙ sym (append-ni
 adds_grows a b (Prints byte p t g) = record { more = byte ∷ []; printed = p; taken = omega arith }
 adds_grows a b (Takes p t g) = record { more = []; printed = p ∙ sym (append-nil a.printed); taken = omega arith }
 
+-- a run grows over any number of steps
 pub grows_along : {T : Type 0} (B : System T) (n : ℕ) (b : T) → Grows (B.moment b) (B.moment (iter B.step n b))
 grows_along B zero b = grows_refl (B.moment b)
 grows_along B (suc n) b = grows_trans (B.moment b) (B.moment (B.step b)) (B.moment (iter B.step n (B.step b))) (B.grows b) (grows_along B n (B.step b))
@@ -38,14 +41,17 @@ stays_along B (suc n) b h =
     let same = B.stays b h in
     stays_along B n (B.step b) (ap (λ (m : Moment). is_going m.ending) same ∙ h) ∙ same
 
+-- two lists that are empty together are empty: the first
 empty_front : (x y : List ℕ) → x ++ y ≡ [] → x ≡ []
 empty_front [] y e = refl
 empty_front (a ∷ x) y e = absurd (cc)
 
+-- and the second
 empty_back : (x y : List ℕ) → x ++ y ≡ [] → y ≡ []
 empty_back [] y e = e
 empty_back (a ∷ x) y e = absurd (cc)
 
+-- one item in two lists together: one of the two is empty
 one_front : (x y : List ℕ) (c : ℕ) → x ++ y ≡ c ∷ [] → (x ≡ []) ⊎ (y ≡ [])
 one_front [] y c e = inl refl
 one_front (a ∷ x) y c e = let rest : x ++ y ≡ [] = cc in inr (empty_back x y rest)
@@ -66,6 +72,7 @@ one_between p q r x y byte a b c =
       | inr none ↦ inr (sym (append-nil q) ∙ ap (λ l. q ++ l) (sym none) ∙ sym b)
     ]
 
+-- a number between t and t + 1 is one of the two
 next_or_same : (t u v : ℕ) → t ≤ u → u ≤ v → v ≡ t + 1 → (u ≡ t) ⊎ (u ≡ v)
 next_or_same t u v a b c = ⊎_elim (λ e. inl e) (λ e. inr e) (cases u t v a b c)
   where

@@ -152,6 +152,7 @@ module _ {S T : Type 0} (A : System S) (B : System T) (R : S → T → Type 0) (
               ],
             )
 
+-- which of two facts holds, out of the number for which it does
 apart : {P Q : ℕ → Type 0} → (k : ℕ) × (P k ⊎ Q k) → ((k : ℕ) × P k) ⊎ ((k : ℕ) × Q k)
 apart x = elim x.1 [ inl p ↦ inl (x.0, p) | inr q ↦ inr (x.0, q) ]
 

@@ -1,6 +1,6 @@
 -- What the relation refuses, and a simulation small enough to be read whole.
 use Rattle.std.proofs.Common.{◌≡◌, ℕ, zero, suc, ◌+◌, Bool, List, [], ◌∷◌, ◌++◌, true, false, refl, inl, inr, arith}
-use Rattle.behavior.specs.Ending.{Ending, Going, Ended, Invalid, if_going, is_going}
+use Rattle.behavior.specs.Ending.{Left, Ending, Going, Ended, Invalid, if_going, is_going}
 use Rattle.behavior.specs.Moment.{Moment, IsGoing, Behavior}
 use Rattle.behavior.specs.Preserves.{Preserves}
 use Rattle.behavior.specs.System.{AddsAtMostOne, System, behavior_of}
@@ -52,34 +52,48 @@ print_is_refused B n e p =
       | inr s ↦ let printed = s.1.printed in absurd (cc)
     ]
 
+-- what leaves its meaning at once owes nothing: any program is its translation
+pub left_at_once_owes_nothing : (reason : ℕ) (B : Behavior) → Preserves (always [] (Left reason)) B
+left_at_once_owes_nothing reason B = record {
+  reaches = λ input bytes k go. absurd (cc);
+  only = λ input bytes n. inl (0, refl);
+}
+
 -- a countdown that prints its number at each step
 record Count : Type 0 where
   left : ℕ
   out : List ℕ
   ending : Ending
 
+-- the next state of a countdown that goes on
 abbrev count_next : ℕ → List ℕ → Count
 count_next zero out = record { left = 0; out = out; ending = Ended 3 }
 count_next (suc n) out = record { left = n; out = out ++ n ∷ []; ending = Going }
 
+-- a step of it
 abbrev count_step : Count → Count
 count_step s = if_going s.ending (count_next s.left s.out) s
 
+-- what it shows
 abbrev count_moment : Count → Moment
 count_moment s = record { printed = s.out; taken = 0; ending = s.ending }
 
+-- a step of one that goes on prints at most one byte
 count_adds : (n : ℕ) (out : List ℕ) → AddsAtMostOne (record { printed = out; taken = 0; ending = Going }) (count_moment (count_next n out))
 count_adds zero out = AddsAtMostOne.Silent refl refl
 count_adds (suc n) out = AddsAtMostOne.Prints n refl refl refl
 
+-- so does any step
 count_gradual : (left : ℕ) (out : List ℕ) (ending : Ending) → let s : Count = record { left = left; out = out; ending = ending } in AddsAtMostOne (count_moment s) (count_moment (count_step s))
 count_gradual left out Going = count_adds left out
 count_gradual left out other = AddsAtMostOne.Silent refl refl
 
+-- one that has stopped shows the same ever after
 count_stays : (left : ℕ) (out : List ℕ) (ending : Ending) → is_going ending ≡ false → let s : Count = record { left = left; out = out; ending = ending } in count_moment (count_step s) ≡ count_moment s
 count_stays left out Going h = absurd (cc)
 count_stays left out other h = refl
 
+-- the countdown as a system
 abbrev countdown : System Count
 countdown = record {
   step = count_step;
@@ -95,27 +109,33 @@ record Machine : Type 0 where
   scratch : ℕ
   count : Count
 
+-- the next state of the machine: its start-up, then a rest, then a number
 abbrev machine_next : ℕ → Bool → ℕ → Count → Machine
 machine_next (suc boot) half scratch count = record { boot = boot; half = half; scratch = scratch; count = count }
 machine_next zero false scratch count = record { boot = 0; half = true; scratch = scratch + count.left; count = count }
 machine_next zero true scratch count = record { boot = 0; half = false; scratch = scratch; count = count_next count.left count.out }
 
+-- a step of it
 abbrev machine_step : Machine → Machine
 machine_step m = if_going m.count.ending (machine_next m.boot m.half m.scratch m.count) m
 
+-- it shows what its countdown shows
 abbrev machine_moment : Machine → Moment
 machine_moment m = count_moment m.count
 
+-- a step prints at most one byte
 machine_adds : (boot : ℕ) (half : Bool) (scratch left : ℕ) (out : List ℕ) (ending : Ending) → let m : Machine = record { boot = boot; half = half; scratch = scratch; count = record { left = left; out = out; ending = ending } } in AddsAtMostOne (machine_moment m) (machine_moment (machine_step m))
 machine_adds (suc boot) half scratch left out Going = AddsAtMostOne.Silent refl refl
 machine_adds zero false scratch left out Going = AddsAtMostOne.Silent refl refl
 machine_adds zero true scratch left out Going = count_adds left out
 machine_adds boot half scratch left out other = AddsAtMostOne.Silent refl refl
 
+-- a machine that has stopped shows the same ever after
 machine_stays : (boot : ℕ) (half : Bool) (scratch left : ℕ) (out : List ℕ) (ending : Ending) → is_going ending ≡ false → let m : Machine = record { boot = boot; half = half; scratch = scratch; count = record { left = left; out = out; ending = ending } } in machine_moment (machine_step m) ≡ machine_moment m
 machine_stays boot half scratch left out Going h = absurd (cc)
 machine_stays boot half scratch left out other h = refl
 
+-- the machine as a system
 abbrev machine : System Machine
 machine = record {
   step = machine_step;
@@ -124,6 +144,7 @@ machine = record {
   stays = λ m h. machine_stays m.boot m.half m.scratch m.count.left m.count.out m.count.ending h;
 }
 
+-- the state of the machine that stands for one of the countdown
 abbrev spot : Count → ℕ → Machine
 spot c scratch = record { boot = 0; half = false; scratch = scratch; count = c }
 

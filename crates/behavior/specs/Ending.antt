@@ -41,6 +41,7 @@ common NoFlag = NoFlag
 common BadCall = BadCall
 common Strayed = Strayed
 
+-- whether the meaning claims nothing from here on
 abbrev pub is_left : Ending → Bool
 is_left Going = false
 is_left (Ended status) = false
@@ -56,6 +57,7 @@ is_left NoFlag = false
 is_left BadCall = false
 is_left Strayed = false
 
+-- whether the run can take a further step
 abbrev pub is_going : Ending → Bool
 is_going Going = true
 is_going (Ended status) = false

@@ -14,12 +14,15 @@ pub record Agrees (a b : Moment) : Type 0 where
   pub taken : a.taken ≡ b.taken
   pub ending : common a.ending ≡ common b.ending
 
+-- the run is left
 abbrev pub IsLeft : Moment → Type 0
 IsLeft m = is_left m.ending ≡ true
 
+-- the run goes on
 abbrev pub IsGoing : Moment → Type 0
 IsGoing m = is_going m.ending ≡ true
 
+-- the run has stopped
 abbrev pub HasStopped : Moment → Type 0
 HasStopped m = is_going m.ending ≡ false
 

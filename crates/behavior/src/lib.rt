@@ -7,7 +7,8 @@
 //! `proofs/Stretch` has what puts the steps of a pass together.
 #![tactic(auto)]
 
-ghost use Rattle.std.specs.Prelude.{ℕ, ◌+◌, ◌*◌, List};
+ghost use Rattle.std.specs.Prelude.{◌≢◌, ℕ, ◌+◌, ◌*◌, List};
+ghost use Rattle.behavior.specs.Ending.{Strayed};
 ghost use Rattle.behavior.specs.Moment.{Behavior, Agrees, AreBytes};
 ghost use Rattle.behavior.specs.Preserves.{Preserves, ReachesWithin};
 
@@ -24,6 +25,11 @@ pub fn preserves_through()
 /// Programs that show the same at each step mean the same.
 pub fn preserves_same()
     ensures { (A B : Behavior) → ((input : List ℕ) → AreBytes input → (n : ℕ) → Agrees (A input n) (B input n)) → Preserves A B }
+{}
+
+/// Two machines that show the same until the first strays mean the same, for what never strays.
+pub fn preserves_straight()
+    ensures { (A S M : Behavior) → ((input : List ℕ) → AreBytes input → (k : ℕ) → (A input k).ending ≢ Strayed) → ((input : List ℕ) → AreBytes input → (n : ℕ) → (S input n).ending ≢ Strayed → Agrees (S input n) (M input n)) → Preserves A S → Preserves A M }
 {}
 
 /// The bounds of two passes make one bound for both: the costs multiply.

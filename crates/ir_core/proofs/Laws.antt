@@ -1,9 +1,11 @@
 -- What every run of a module has, whatever its instructions do.
-use Rattle.std.proofs.Common.{◌≡◌, ℕ, ◌+◌, List, refl, ap, inl, inr, ◌⊎◌, true, false, Result, Ok, Err}
-use Rattle.behavior.specs.Ending.{Ending, Going, Ended, Divide, Trap, Depth, Left, Invalid, Breakpoint, PageFault, NoForm, NoFlag, BadCall, Strayed, is_going}
-use Rattle.behavior.specs.Moment.{Moment, HasStopped}
+use Rattle.std.proofs.Common.{◌≡◌, ℕ, List, refl, ap, false, Ok, Err}
+use Rattle.behavior.specs.Ending.{Ending, Going, is_going}
+use Rattle.behavior.specs.Moment.{HasStopped}
 use Rattle.behavior.specs.System.{AddsAtMostOne, Silent, Prints, Takes, System, IsGradual, behavior_of}
+use Rattle.behavior.specs.Preserves.{Preserves, ReachesWithin}
 use Rattle.behavior.proofs.Between.{adds_grows}
+use Rattle.behavior.proofs.Follow.{AllFollow, AllStart, simulates, simulates_within}
 use Rattle.ir_core.specs.declared.module.Module.{Module}
 use Rattle.ir_core.specs.Memory.{Memory}
 use Rattle.ir_core.specs.Stops.{Answer}
@@ -21,6 +23,7 @@ turned_adds s (Ok t) = exchanged t.frames t.objects t.exchange
     exchanged frames objects Take = Takes refl refl refl
 turned_adds s (Err ending) = Silent refl refl
 
+-- what a step adds, by the fields of the state
 adds_at : (m : Module) (input : List ℕ) (frames : List Frame) (objects : Memory) (printed : List ℕ) (taken : ℕ) (ending : Ending) → let s : State = record { frames = frames; objects = objects; printed = printed; taken = taken; ending = ending } in AddsAtMostOne (source_moment s) (source_moment (source_step m input s))
 unfolding source_step
 adds_at m input frames objects printed taken Going =
@@ -32,6 +35,7 @@ adds_at m input frames objects printed taken stopped = Silent refl refl
 pub step_adds : (m : Module) (input : List ℕ) (s : State) → AddsAtMostOne (source_moment s) (source_moment (source_step m input s))
 step_adds m input s = adds_at m input s.frames s.objects s.printed s.taken s.ending
 
+-- a step of a run that has stopped, by the fields of the state
 stays_at : (m : Module) (input : List ℕ) (frames : List Frame) (objects : Memory) (printed : List ℕ) (taken : ℕ) (ending : Ending) → is_going ending ≡ false → let s : State = record { frames = frames; objects = objects; printed = printed; taken = taken; ending = ending } in source_step m input s ≡ s
 unfolding source_step
 stays_at m input frames objects printed taken Going h = absurd (cc)
@@ -58,3 +62,21 @@ source_gradual m input s = step_adds m input s
 pub source_run-system : (m : Module) → source_run m ≡ behavior_of (source_system m) (λ input. source_start m)
 unfolding source_run
 source_run-system m = refl
+
+-- a system that follows a module from its start on means the same
+module _ {T : Type 0} (m : Module) (B : List ℕ → System T) (b : List ℕ → T) (R : List ℕ → State → T → Type 0) (weight : List ℕ → State → ℕ) (begin cost : ℕ) where
+  -- every step of the module is met, whatever the input
+  abbrev pub FollowsModule : Type 0
+  FollowsModule = AllFollow (source_system m) B (λ input. source_start m) b R weight begin cost
+
+  -- from the start of a run on
+  abbrev pub StartsModule : Type 0
+  StartsModule = AllStart (source_system m) B (λ input. source_start m) b R weight begin cost
+
+  pub module_simulates : FollowsModule → StartsModule → Preserves (source_run m) (behavior_of B b)
+  unfolding source_run
+  module_simulates follows starts = simulates (source_system m) B (λ input. source_start m) b R weight begin cost follows starts
+
+  pub module_simulates_within : FollowsModule → StartsModule → ReachesWithin begin cost (source_run m) (behavior_of B b)
+  unfolding source_run
+  module_simulates_within follows starts = simulates_within (source_system m) B (λ input. source_start m) b R weight begin cost follows starts

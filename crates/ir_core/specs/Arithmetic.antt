@@ -1,6 +1,6 @@
 -- Arithmetic on numbers of one width, over whole numbers and remainders.
-use Rattle.std.specs.Prelude.{ℕ, ◌+◌, ◌*◌, ◌-◌, ◌/◌, ◌%◌, ◌^◌, Bool, true, false, not, ◌&&◌, nat_eq, nat_lt, nat_le, if◌then◌else◌, Ok, Err, bit_and, bit_or, bit_xor}
-use Rattle.behavior.specs.Ending.{Ending, Divide}
+use Rattle.std.specs.Prelude.{ℕ, ◌+◌, ◌*◌, ◌-◌, ◌/◌, ◌%◌, ◌^◌, ◌<◌, Bool, true, false, not, ◌&&◌, nat_eq, nat_lt, nat_le, if◌then◌else◌, Ok, Err, bit_and, bit_or, bit_xor}
+use Rattle.behavior.specs.Ending.{Divide}
 use Rattle.rd_num.specs.declared.width.Width.{Width}
 use Rattle.rd_num.specs.Number.{bits}
 use Rattle.ir_core.specs.declared.instruction.BinOp.{BinOp}
@@ -15,10 +15,15 @@ use Rattle.ir_core.specs.Stops.{Answer}
 abbrev pub modulus : Width → ℕ
 modulus w = 2 ^ bits w
 
+-- a number of the width
+abbrev pub IsOfWidth : Width → ℕ → Type 0
+IsOfWidth w n = n < modulus w
+
 -- the upper half of the numbers of a width stands for those below zero
 abbrev pub is_negative : Width → ℕ → Bool
 is_negative w n = nat_le (2 ^ (bits w - 1)) n
 
+-- the number that stands for the one below zero
 abbrev pub negated : Width → ℕ → ℕ
 negated w n = (modulus w - n) % modulus w
 
@@ -26,14 +31,16 @@ negated w n = (modulus w - n) % modulus w
 abbrev pub magnitude : Width → ℕ → ℕ
 magnitude w n = if is_negative w n then modulus w - n else n
 
+-- one of the two holds and the other does not
 abbrev pub differ : Bool → Bool → Bool
 differ true b = not b
 differ false b = b
 
--- a division that has no result: by zero, or of the least signed number by -1
+-- no number can be divided by this one
 abbrev pub divides_by_zero : ℕ → Bool
 divides_by_zero b = nat_eq b 0
 
+-- the least signed number divided by -1, which has no quotient of its width
 abbrev pub overflows : Width → ℕ → ℕ → Bool
 overflows w a b = nat_eq a (2 ^ (bits w - 1)) && nat_eq b (modulus w - 1)
 
@@ -53,6 +60,7 @@ signed_remainder w a b =
 abbrev pub sign_shifted : Width → ℕ → ℕ → ℕ
 sign_shifted w a by = if is_negative w a then (modulus w - 1 - (modulus w - 1 - a) / 2 ^ by) else a / 2 ^ by
 
+-- a result, unless the division has none
 abbrev pub or_divide : Bool → ℕ → Answer ℕ
 or_divide wrong n = if wrong then Err Divide else Ok n
 
@@ -76,6 +84,7 @@ binary Xor w a b = Ok (bit_xor a b)
 abbrev pub biased : Width → ℕ → ℕ
 biased w n = (n + 2 ^ (bits w - 1)) % modulus w
 
+-- what a comparison of two numbers of a width says
 abbrev pub compared : Pred → Width → ℕ → ℕ → Bool
 compared Eq w a b = nat_eq a b
 compared Ne w a b = not (nat_eq a b)

@@ -1,17 +1,15 @@
 -- Calls and returns, and the functions that stand outside of a module.
-use Rattle.std.specs.Prelude.{ℕ, zero, suc, ◌+◌, ◌-◌, ◌%◌, ◌^◌, List, [], ◌∷◌, Bool, true, false, ◌&&◌, nat_le, length, map, slice_get, codes, Option, Some, None, Ok, Err, if◌then◌else◌}
-use Rattle.rd_num.specs.declared.width.Width.TheVariants.{W1, W32}
+use Rattle.std.specs.Prelude.{ℕ, ◌-◌, ◌%◌, ◌^◌, List, [], ◌∷◌, Bool, true, false, ◌&&◌, nat_le, length, map, slice_get, codes, Option, Some, None, Ok, Err, if◌then◌else◌}
+use Rattle.rd_num.specs.declared.width.Width.TheVariants.{W32}
 use Rattle.behavior.specs.Ending.{Ending, Ended, Trap, Depth}
 use Rattle.ir_core.specs.declared.TheConstants.{MAX_CALLS}
-use Rattle.ir_core.specs.declared.ty.Ty.{Ty}
 use Rattle.ir_core.specs.declared.operand.Operand.{Operand}
 use Rattle.ir_core.specs.declared.operand.Operand.TheVariants.{Local as LocalName, Global}
-use Rattle.ir_core.specs.declared.instruction.Arg.{Arg}
 use Rattle.ir_core.specs.declared.module.Function.{Function}
 use Rattle.ir_core.specs.declared.module.Param.{Param}
 use Rattle.ir_core.specs.declared.module.Module.{Module}
 use Rattle.ir_core.specs.declared.memory.Value.{Value}
-use Rattle.ir_core.specs.declared.memory.Value.TheVariants.{Num, Null, At, Fun}
+use Rattle.ir_core.specs.declared.memory.Value.TheVariants.{Num, Fun}
 use Rattle.ir_core.specs.declared.memory.Reason.TheVariants.{Callee}
 use Rattle.ir_core.specs.Names.{same_name}
 use Rattle.ir_core.specs.Stops.{Answer, after, found_or, left, malformed}
@@ -31,6 +29,7 @@ pub data Outer : Type 0 where
   Lifetime : Outer
   NoOuter : Outer
 
+-- the function of that name
 abbrev pub outer_of : List ℕ → Outer
 outer_of name =
     if same_name name (codes "putchar") then Putchar
@@ -48,15 +47,18 @@ pub data Target : Type 0 where
   Outside : (outer : Outer) → Target
   Inside : (callee : Value) → Target
 
+-- a function of the module comes before one outside of it
 abbrev pub target_named : List ℕ → Option ℕ → Target
 target_named name (Some f) = Inside (Fun f)
 target_named name None = Outside (outer_of name)
 
+-- what the callee of a call is
 abbrev pub target_of : Module → List Local → Operand → Answer Target
 target_of m locals (LocalName name) = after (local_value locals name) (λ v. Ok (Inside v))
 target_of m locals (Global name) = Ok (target_named name (function_number m name))
 target_of m locals other = Err malformed
 
+-- as many, and each the same
 abbrev pub same_kinds : List Kind → List Kind → Bool
 same_kinds [] [] = true
 same_kinds (j ∷ js) (k ∷ ks) = same_kind j k && same_kinds js ks
@@ -73,6 +75,7 @@ bound (p ∷ ps) (v ∷ vs) = record { name = p.name; value = v } ∷ bound ps v
 bound [] vs = []
 bound (p ∷ ps) [] = []
 
+-- a call of a function at its start
 abbrev pub first_frame : ℕ → Function → List Value → Option (List ℕ) → Frame
 first_frame number f arguments into = record { function = number; block = 0; next = 0; locals = bound f.params arguments; objects = []; into = into }
 
@@ -80,9 +83,9 @@ first_frame number f arguments into = record { function = number; block = 0; nex
 abbrev pub entered : Module → State → List Frame → Kind → List Kind → List Value → Option (List ℕ) → Value → Answer Turn
 entered m s callers ret kinds arguments into (Fun number) =
     after (found_or malformed (slice_get m.functions number)) (λ f.
-        if is_called_as f ret kinds
-        then (if nat_le MAX_CALLS (length s.frames) then Err Depth else Ok (record { frames = first_frame number f arguments into ∷ callers; objects = s.objects; exchange = Nothing }))
-        else Err (left Callee))
+    if is_called_as f ret kinds
+    then (if nat_le MAX_CALLS (length s.frames) then Err Depth else Ok (record { frames = first_frame number f arguments into ∷ callers; objects = s.objects; exchange = Nothing }))
+    else Err (left Callee))
 entered m s callers ret kinds arguments into other = Err (left Callee)
 
 -- the callers once the innermost of them goes on with a result
@@ -102,6 +105,7 @@ abbrev pub returned : State → Frame → List Frame → Option Value → Answer
 returned s f [] result = Err (last_result result)
 returned s f (g ∷ gs) result = Ok (record { frames = resumed (g ∷ gs) f.into result; objects = without s.objects f.objects; exchange = Nothing })
 
+-- the callers go on with a result, memory as it is
 abbrev pub goes_on : State → List Frame → Option (List ℕ) → Exchange → Option Value → Answer Turn
 goes_on s frames into exchange result = Ok (record { frames = resumed frames into result; objects = s.objects; exchange = exchange })
 
@@ -110,6 +114,7 @@ abbrev pub read_byte : State → List Frame → Option (List ℕ) → Option ℕ
 read_byte s frames into (Some byte) = goes_on s frames into Take (Some (Num W32 byte))
 read_byte s frames into None = goes_on s frames into Nothing (Some (Num W32 (2 ^ 32 - 1)))
 
+-- the callers go on, with other objects in memory
 abbrev pub with_memory : List Frame → Answer Memory → Answer Turn
 with_memory frames objects = after objects (λ m. Ok (record { frames = frames; objects = m; exchange = Nothing }))
 
@@ -124,6 +129,7 @@ outer_turn input s frames into TrapNow arguments = Err Trap
 outer_turn input s frames into Lifetime arguments = goes_on s frames into Nothing None
 outer_turn input s frames into outer arguments = Err malformed
 
+-- a call of what the callee is
 abbrev pub called : Module → List ℕ → State → List Frame → Kind → List Kind → List Value → Option (List ℕ) → Target → Answer Turn
 called m input s callers ret kinds arguments into (Outside outer) = outer_turn input s callers into outer arguments
 called m input s callers ret kinds arguments into (Inside callee) = entered m s callers ret kinds arguments into callee

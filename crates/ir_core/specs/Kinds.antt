@@ -1,5 +1,5 @@
 -- What a type says of a value, and literals as numbers of a width.
-use Rattle.std.specs.Prelude.{ℕ, suc, ◌+◌, ◌-◌, ◌/◌, ◌%◌, ◌^◌, Bool, true, false, nat_eq, nat_lt, if◌then◌else◌, ℤ, pos, negsuc, Ok, Err}
+use Rattle.std.specs.Prelude.{ℕ, ◌+◌, ◌-◌, ◌%◌, ◌^◌, Bool, true, false, nat_eq, nat_lt, if◌then◌else◌, ℤ, pos, negsuc, Ok, Err}
 use Rattle.rd_num.specs.declared.width.Width.{Width}
 use Rattle.rd_num.specs.declared.width.Width.TheVariants.{W1}
 use Rattle.rd_num.specs.Number.{bits}
@@ -15,6 +15,7 @@ pub data Kind : Type 0 where
   Number : (w : Width) → Kind
   Pointer : Kind
 
+-- by the outermost word of the type
 abbrev pub kind_at : Ty-F Ty → Kind
 kind_at Ty-F.Void = NoValue
 kind_at (Ty-F.Int w) = Number w
@@ -24,6 +25,7 @@ kind_at (Ty-F.Struct fields) = NoValue
 kind_at (Ty-F.Packed fields) = NoValue
 kind_at (Ty-F.Named name) = NoValue
 
+-- the kind of a type
 abbrev pub kind_of : Ty → Kind
 kind_of ty = kind_at (out-Ty ty)
 
@@ -48,6 +50,7 @@ literal w (negsuc n) = 2 ^ bits w - 1 - n % 2 ^ bits w
 abbrev pub signed_word : Width → ℕ → ℕ
 signed_word w n = if nat_lt n (2 ^ (bits w - 1)) then n else (n + (2 ^ 64 - 2 ^ bits w))
 
+-- a truth value as a number of one bit
 abbrev pub truth : Bool → Value
 truth holds = if holds then Num W1 1 else Num W1 0
 

@@ -4,6 +4,7 @@ pub mod Kinds
 pub mod Arithmetic
 pub mod Shapes
 pub mod Memory
+pub mod Ranges
 pub mod Pointers
 pub mod State
 pub mod Operands

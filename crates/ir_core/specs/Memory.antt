@@ -1,17 +1,13 @@
 -- Memory as a list of objects: what is loaded, stored, copied and compared.
-use Rattle.std.specs.Prelude.{ℕ, ◌+◌, ◌-◌, ◌%◌, ◌^◌, List, [], ◌∷◌, ◌++◌, Bool, true, false, not, ◌&&◌, ◌||◌, nat_eq, nat_lt, nat_le, length, map, take, drop, replicate, slice_get, slice_set, option_map, Option, Some, None, Ok, Err, if◌then◌else◌}
+use Rattle.std.specs.Prelude.{ℕ, ◌+◌, ◌%◌, ◌^◌, List, [], ◌∷◌, ◌++◌, Bool, true, false, not, ◌&&◌, nat_eq, nat_lt, nat_le, length, map, take, drop, replicate, slice_get, slice_set, option_map, Option, Some, None, Ok, Err, if◌then◌else◌}
 use Rattle.rd_num.specs.declared.width.Width.{Width}
-use Rattle.rd_num.specs.declared.width.Width.TheVariants.{W1, W8, W16, W32, W64}
 use Rattle.rd_num.specs.Number.{bits, le_bytes, le_number}
-use Rattle.behavior.specs.Ending.{Ending}
 use Rattle.ir_core.specs.declared.memory.Value.{Value}
 use Rattle.ir_core.specs.declared.memory.Value.TheVariants.{Num, Null, At, Fun}
 use Rattle.ir_core.specs.declared.memory.Cell.{Cell}
 use Rattle.ir_core.specs.declared.memory.Cell.TheVariants.{Unset, Byte, Piece}
 use Rattle.ir_core.specs.declared.memory.Object0.{Object0}
-use Rattle.ir_core.specs.declared.memory.Reason.TheVariants.{Bounds, Dead, Constant, Unset as WasUnset, Mixed, Order, Equal, Overlap, Gep}
-use Rattle.ir_core.specs.declared.instruction.Pred.{Pred}
-use Rattle.ir_core.specs.declared.instruction.Pred.TheVariants.{Eq, Ne, Ult, Ule, Ugt, Uge, Slt, Sle, Sgt, Sge}
+use Rattle.ir_core.specs.declared.memory.Reason.TheVariants.{Bounds, Dead, Constant, Unset as WasUnset, Mixed, Overlap}
 use Rattle.ir_core.specs.Stops.{Answer, after, left, malformed}
 use Rattle.ir_core.specs.Kinds.{Kind, NoValue, Number, Pointer}
 use Rattle.ir_core.specs.Shapes.{bytes_of}
@@ -20,6 +16,7 @@ use Rattle.ir_core.specs.Shapes.{bytes_of}
 abbrev pub Memory : Type 0
 Memory = List Object0
 
+-- whether two values are the same
 abbrev pub same_value : Value → Value → Bool
 same_value (Num v m) (Num w n) = nat_eq (bits v) (bits w) && nat_eq m n
 same_value Null Null = true
@@ -38,6 +35,7 @@ cells_of Null = map Byte (le_bytes 8 0)
 cells_of (At o d) = pieces (At o d)
 cells_of (Fun f) = pieces (Fun f)
 
+-- whether one of the cells is unset
 abbrev pub any_unset : List Cell → Bool
 any_unset [] = false
 any_unset (Unset ∷ cs) = true
@@ -51,6 +49,7 @@ numbers (Byte n ∷ cs) = option_map (λ ns. n ∷ ns) (numbers cs)
 numbers (Unset ∷ cs) = None
 numbers (Piece v k ∷ cs) = None
 
+-- whether two rows of cells are the same, none of them unset
 abbrev pub same_cells : List Cell → List Cell → Bool
 same_cells [] [] = true
 same_cells (Byte m ∷ cs) (Byte n ∷ ds) = nat_eq m n && same_cells cs ds
@@ -62,6 +61,7 @@ abbrev pub number_read : Width → Option (List ℕ) → Answer Value
 number_read w (Some ns) = Ok (Num w (le_number ns % 2 ^ bits w))
 number_read w None = Err (left Mixed)
 
+-- the pieces of one pointer in order, or eight zero bytes for null
 abbrev pub pointer_read : List Cell → Answer Value
 pointer_read (Piece v k ∷ cs) = if same_cells (Piece v k ∷ cs) (pieces v) then Ok v else Err (left Mixed)
 pointer_read cs = if same_cells cs (cells_of Null) then Ok Null else Err (left Mixed)
@@ -72,6 +72,7 @@ value_read NoValue cs = Err malformed
 value_read (Number w) cs = number_read w (numbers cs)
 value_read Pointer cs = pointer_read cs
 
+-- bytes of a value of a kind
 abbrev pub size_of : Kind → ℕ
 size_of NoValue = 0
 size_of (Number w) = bytes_of w
@@ -83,6 +84,7 @@ pub record Range : Type 0 where
   pub offset : ℕ
   pub held : Object0
 
+-- count bytes from an offset of an object
 abbrev pub range_of : ℕ → ℕ → ℕ → Option Object0 → Answer Range
 range_of o d count None = Err (left Bounds)
 range_of o d count (Some x) =
@@ -95,6 +97,7 @@ readable m count (Num w n) = Err (left Bounds)
 readable m count Null = Err (left Bounds)
 readable m count (Fun f) = Err (left Bounds)
 
+-- no store goes to a constant object
 abbrev pub unless_constant : Range → Answer Range
 unless_constant r = if r.held.constant then Err (left Constant) else Ok r
 
@@ -102,9 +105,11 @@ unless_constant r = if r.held.constant then Err (left Constant) else Ok r
 abbrev pub writable : Memory → ℕ → Value → Answer Range
 writable m count p = after (readable m count p) unless_constant
 
+-- the cells of a range
 abbrev pub cells_at : Range → ℕ → List Cell
 cells_at r count = take count (drop r.offset r.held.cells)
 
+-- a load: the tests of its range, then whether its bytes are set, then what they are
 abbrev pub load_at : Memory → Kind → Value → Answer Value
 load_at m kind p = after (readable m (size_of kind) p) (λ r.
     if any_unset (cells_at r (size_of kind)) then Err (left WasUnset) else value_read kind (cells_at r (size_of kind)))
@@ -113,6 +118,7 @@ load_at m kind p = after (readable m (size_of kind) p) (λ r.
 abbrev pub written : Memory → Range → List Cell → Memory
 written m r cells = slice_set m r.object (record r.held { cells = take r.offset r.held.cells ++ cells ++ drop (r.offset + length cells) r.held.cells })
 
+-- a store of a value
 abbrev pub store_at : Memory → Value → Value → Answer Memory
 store_at m v p = after (writable m (length (cells_of v)) p) (λ r. Ok (written m r (cells_of v)))
 
@@ -128,15 +134,17 @@ overlaps count a b = (nat_eq a.object b.object && not (nat_eq a.offset b.offset)
 abbrev pub copied : Memory → Value → Value → ℕ → Answer Memory
 copied m to from count =
     if nat_eq count 0 then Ok m else (after (readable m count from) (λ a. after (writable m count to) (λ b.
-        if overlaps count a b then Err (left Overlap) else Ok (written m b (cells_at a count)))))
+    if overlaps count a b then Err (left Overlap) else Ok (written m b (cells_at a count)))))
 
 -- a new object of unset bytes; its number is the number of objects before it
 abbrev pub with_alloca : Memory → ℕ → Memory
 with_alloca m size = m ++ (record { live = true; constant = false; size = size; cells = replicate size Unset }) ∷ []
 
+-- an object once its call has returned
 abbrev pub dead : Object0 → Object0
 dead x = record x { live = false; cells = [] }
 
+-- memory with that object dead
 abbrev pub dead_at : Memory → ℕ → Option Object0 → Memory
 dead_at m o None = m
 dead_at m o (Some x) = slice_set m o (dead x)
@@ -145,10 +153,3 @@ dead_at m o (Some x) = slice_set m o (dead x)
 abbrev pub without : Memory → List ℕ → Memory
 without m [] = m
 without m (o ∷ os) = without (dead_at m o (slice_get m o)) os
-
-abbrev pub size_at : Memory → ℕ → ℕ
-size_at m o = size_in (slice_get m o)
-  where
-    size_in : Option Object0 → ℕ
-    size_in (Some x) = x.size
-    size_in None = 0

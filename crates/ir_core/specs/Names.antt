@@ -2,6 +2,7 @@
 use Rattle.std.specs.Prelude.{ℕ, suc, List, [], ◌∷◌, Bool, Option, Some, None, option_map, nat_eq, if◌then◌else◌}
 use Rattle.std.specs.Cmp.Lexicographic.{pointwise}
 
+-- whether two names are the same
 abbrev pub same_name : List ℕ → List ℕ → Bool
 same_name = pointwise nat_eq
 

@@ -1,6 +1,5 @@
 -- What operands are in a call.
 use Rattle.std.specs.Prelude.{ℕ, ◌+◌, ◌*◌, ◌%◌, ◌^◌, List, [], ◌∷◌, Option, Some, None, Ok, Err, ℤ, option_map}
-use Rattle.rd_num.specs.declared.width.Width.TheVariants.{W1}
 use Rattle.ir_core.specs.declared.ty.Ty.{Ty}
 use Rattle.ir_core.specs.declared.operand.Operand.{Operand}
 use Rattle.ir_core.specs.declared.operand.Operand.TheVariants.{Int, Bool as Truth, Null as NullWord, Undef, Poison, Local as LocalName, Global, Const}
@@ -21,9 +20,11 @@ use Rattle.ir_core.specs.State.{Local}
 abbrev pub local_value : List Local → List ℕ → Answer Value
 local_value locals name = found_or (left Unset) (option_map (λ (l : Local). l.value) (first_where (λ (l : Local). same_name l.name name) locals))
 
+-- the number of a global
 abbrev pub global_number : Module → List ℕ → Option ℕ
 global_number m name = number_where (λ g. same_name g.name name) m.globals
 
+-- the number of a function
 abbrev pub function_number : Module → List ℕ → Option ℕ
 function_number m name = number_where (λ f. same_name f.name name) m.functions
 
@@ -33,6 +34,7 @@ named_value (Some g) function = Ok (At g 0)
 named_value None (Some f) = Ok (Fun f)
 named_value None None = Err malformed
 
+-- a literal as a number of a kind
 abbrev pub int_value : Kind → ℤ → Answer Value
 int_value (Number w) n = Ok (Num w (literal w n))
 int_value Pointer n = Err malformed
@@ -48,6 +50,7 @@ abbrev pub bytes_to : Module → Ty → List ℕ → Answer ℕ
 bytes_to m source [] = Ok 0
 bytes_to m source (i ∷ is) = found_or malformed (option_map (λ at. i * (shape_of m.types source).size + at) ((shape_of m.types source).part is))
 
+-- the indices of a constant place
 abbrev pub literal_indices : List Index0 → Answer (List ℕ)
 literal_indices [] = Ok []
 literal_indices (i ∷ is) = after (int_value (kind_of i.ty) i.value) (λ v. after (index_word v) (λ n. after (literal_indices is) (λ ns. Ok (n ∷ ns))))
@@ -56,7 +59,7 @@ literal_indices (i ∷ is) = after (int_value (kind_of i.ty) i.value) (λ v. aft
 abbrev pub constant_place : Module → Place0 → Answer Value
 constant_place m p =
     after (found_or malformed (global_number m p.base)) (λ g.
-        after (literal_indices p.indices) (λ is. after (bytes_to m p.source is) (λ by. Ok (At g (by % 2 ^ 64)))))
+    after (literal_indices p.indices) (λ is. after (bytes_to m p.source is) (λ by. Ok (At g (by % 2 ^ 64)))))
 
 -- the value of an operand of a kind; undef and poison are zeros
 abbrev pub value_of : Module → List Local → Kind → Operand → Answer Value
@@ -74,6 +77,7 @@ abbrev pub values_of : Module → List Local → List Arg → Answer (List Value
 values_of m locals [] = Ok []
 values_of m locals (arg ∷ args) = after (value_of m locals (kind_of arg.ty) arg.value) (λ v. after (values_of m locals args) (λ vs. Ok (v ∷ vs)))
 
+-- indices that were read
 abbrev pub index_words : List Value → Answer (List ℕ)
 index_words [] = Ok []
 index_words (v ∷ vs) = after (index_word v) (λ n. after (index_words vs) (λ ns. Ok (n ∷ ns)))

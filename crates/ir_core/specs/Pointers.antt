@@ -11,6 +11,7 @@ use Rattle.ir_core.specs.Stops.{Answer, after, left, malformed}
 use Rattle.ir_core.specs.Arithmetic.{compared}
 use Rattle.ir_core.specs.Memory.{Memory}
 
+-- whether an offset is inside of a live object
 abbrev pub holds_place : Option Object0 → ℕ → Bool
 holds_place (Some x) d = x.live && nat_lt d x.size
 holds_place None d = false
@@ -23,6 +24,7 @@ is_inside m o d = holds_place (slice_get m o) d
 abbrev pub apart_if : Bool → Answer Bool
 apart_if known = if known then Ok false else Err (left Equal)
 
+-- whether two pointers are the same, where that is claimed
 abbrev pub pointers_equal : Memory → Value → Value → Answer Bool
 pointers_equal m Null Null = Ok true
 pointers_equal m Null (Fun g) = Ok false
@@ -35,6 +37,7 @@ pointers_equal m (At o d) (Fun g) = apart_if (is_inside m o d)
 pointers_equal m (At o d) (At p e) = if nat_eq o p then Ok (nat_eq d e) else apart_if (is_inside m o d && is_inside m p e)
 pointers_equal m u v = Err malformed
 
+-- whether an offset is at most the size
 abbrev pub reaches : Option Object0 → ℕ → Bool
 reaches (Some x) d = nat_le d x.size
 reaches None d = false
@@ -45,6 +48,7 @@ pointers_ordered pred m (At o d) (At p e) =
     if nat_eq o p && (reaches (slice_get m o) d && reaches (slice_get m o) e) then Ok (compared pred W64 d e) else Err (left Order)
 pointers_ordered pred m u v = Err (left Order)
 
+-- what a comparison of two pointers says; signed order says nothing of them
 abbrev pub pointers_compared : Pred → Memory → Value → Value → Answer Bool
 pointers_compared Eq m u v = pointers_equal m u v
 pointers_compared Ne m u v = after (pointers_equal m u v) (λ same. Ok (not same))
@@ -57,10 +61,11 @@ pointers_compared Sle m u v = Err (left Order)
 pointers_compared Sgt m u v = Err (left Order)
 pointers_compared Sge m u v = Err (left Order)
 
--- a pointer so many bytes on, modulo 2^64; null and functions stay where they are or nowhere
+-- null and functions can be moved by nothing alone
 abbrev pub unmoved : ℕ → Value → Answer Value
 unmoved by v = if nat_eq (by % 2 ^ 64) 0 then Ok v else Err (left Gep)
 
+-- a pointer so many bytes on, modulo 2^64
 abbrev pub moved : ℕ → Value → Answer Value
 moved by (At o d) = Ok (At o ((d + by) % 2 ^ 64))
 moved by Null = unmoved by Null

@@ -8,7 +8,6 @@ use Rattle.ir_core.specs.declared.module.Function.{Function}
 use Rattle.ir_core.specs.declared.module.Module.{Module}
 use Rattle.ir_core.specs.declared.memory.Value.{Value}
 use Rattle.ir_core.specs.declared.memory.Value.TheVariants.{Num, Null}
-use Rattle.ir_core.specs.Names.{same_name, number_where}
 use Rattle.ir_core.specs.Stops.{malformed}
 use Rattle.ir_core.specs.Memory.{Memory}
 use Rattle.ir_core.specs.Globals.{first_objects}
@@ -21,13 +20,16 @@ use Rattle.ir_core.specs.Step.{source_step}
 abbrev pub first_arguments : List Value
 first_arguments = Num W32 0 ∷ Null ∷ []
 
+-- a state at which nothing was printed or taken
 abbrev pub standing : Memory → List Frame → Ending → State
 standing objects frames ending = record { frames = frames; objects = objects; printed = []; taken = 0; ending = ending }
 
+-- the first call, of the function of that number
 abbrev pub start_in : Module → ℕ → Option Function → State
 start_in m number (Some f) = standing (first_objects m) (first_frame number f first_arguments None ∷ []) Going
 start_in m number None = standing [] [] malformed
 
+-- the first call, where there is a `main`
 abbrev pub start_at : Module → Option ℕ → State
 start_at m (Some number) = start_in m number (slice_get m.functions number)
 start_at m None = standing [] [] malformed

@@ -1,5 +1,5 @@
 -- How types lie in memory: size, alignment, and where their parts stand.
-use Rattle.std.specs.Prelude.{ℕ, zero, suc, ◌+◌, ◌*◌, ◌-◌, ◌/◌, ◌%◌, ◌^◌, max, map, List, [], ◌∷◌, Option, Some, None, option_map, slice_get}
+use Rattle.std.specs.Prelude.{ℕ, zero, suc, ◌+◌, ◌*◌, ◌-◌, ◌/◌, max, map, List, [], ◌∷◌, Option, Some, None, option_map}
 use Rattle.rd_num.specs.declared.width.Width.{Width}
 use Rattle.rd_num.specs.Number.{bits}
 use Rattle.ir_core.specs.declared.ty.Ty.{Ty, fold-Ty}
@@ -17,6 +17,7 @@ pub record Shape : Type 0 where
 abbrev pub rounded : ℕ → ℕ → ℕ
 rounded n to = (n + (to - 1)) / to * to
 
+-- bytes of a number of a width
 abbrev pub bytes_of : Width → ℕ
 bytes_of w = (bits w + 7) / 8
 
@@ -29,6 +30,7 @@ whole (i ∷ is) = None
 abbrev pub single : ℕ → Shape
 single n = record { size = n; align = n; part = whole }
 
+-- what has no bytes
 abbrev pub nothing : Shape
 nothing = record { size = 0; align = 1; part = whole }
 
@@ -37,6 +39,7 @@ abbrev pub part_of_array : Shape → List ℕ → Option ℕ
 part_of_array of [] = Some 0
 part_of_array of (i ∷ is) = option_map (λ at. i * of.size + at) (of.part is)
 
+-- an array is aligned as its elements
 abbrev pub array : ℕ → Shape → Shape
 array n of = record { size = n * of.size; align = of.align; part = part_of_array of }
 
@@ -45,6 +48,7 @@ abbrev pub end_of : ℕ → List Shape → ℕ
 end_of at [] = at
 end_of at (f ∷ fs) = end_of (rounded at f.align + f.size) fs
 
+-- the alignment of a struct
 abbrev pub greatest_align : List Shape → ℕ
 greatest_align [] = 1
 greatest_align (f ∷ fs) = max f.align (greatest_align fs)
@@ -55,10 +59,12 @@ part_of_field at [] i is = None
 part_of_field at (f ∷ fs) zero is = option_map (λ n. rounded at f.align + n) (f.part is)
 part_of_field at (f ∷ fs) (suc i) is = part_of_field (rounded at f.align + f.size) fs i is
 
+-- into a struct
 abbrev pub part_of_struct : List Shape → List ℕ → Option ℕ
 part_of_struct fields [] = Some 0
 part_of_struct fields (i ∷ is) = part_of_field 0 fields i is
 
+-- a struct, whose size is rounded up to its alignment
 abbrev pub struct : List Shape → Shape
 struct fields = record { size = rounded (end_of 0 fields) (greatest_align fields); align = greatest_align fields; part = part_of_struct fields }
 
@@ -76,6 +82,7 @@ shape_at named (Ty-F.Struct fields) = struct fields
 shape_at named (Ty-F.Packed fields) = struct (unaligned fields)
 shape_at named (Ty-F.Named name) = named name
 
+-- the shape of a named type, if there is one
 abbrev pub shape_or_nothing : (Ty → Shape) → Option NamedTy → Shape
 shape_or_nothing shape (Some t) = shape t.fields
 shape_or_nothing shape None = nothing

@@ -25,6 +25,7 @@ pub record Frame : Type 0 where
   -- the local of the caller that gets the result
   pub into : Option (List ℕ)
 
+-- a run after some steps
 pub record State : Type 0 where
   -- the active calls, the innermost first
   pub frames : List Frame
@@ -34,6 +35,7 @@ pub record State : Type 0 where
   pub taken : ℕ
   pub ending : Ending
 
+-- what a state shows
 abbrev pub source_moment : State → Moment
 source_moment s = record { printed = s.printed; taken = s.taken; ending = s.ending }
 
@@ -49,11 +51,13 @@ pub record Turn : Type 0 where
   pub objects : Memory
   pub exchange : Exchange
 
+-- the bytes printed after an exchange
 abbrev pub printed_with : List ℕ → Exchange → List ℕ
 printed_with bytes Nothing = bytes
 printed_with bytes (Print byte) = bytes ++ byte ∷ []
 printed_with bytes Take = bytes
 
+-- the number of bytes taken after an exchange
 abbrev pub taken_with : ℕ → Exchange → ℕ
 taken_with count Nothing = count
 taken_with count (Print byte) = count
@@ -70,6 +74,7 @@ turned s (Ok t) = record {
 }
 turned s (Err ending) = record s { ending = ending }
 
+-- the locals once one more was given a value
 abbrev pub given : Option (List ℕ) → Value → List Local → List Local
 given (Some name) v locals = record { name = name; value = v } ∷ locals
 given None v locals = locals

@@ -1,10 +1,7 @@
 -- One step of a module: an instruction, or a terminator with the phis of the edge that it takes.
-use Rattle.std.specs.Prelude.{ℕ, ◌+◌, ◌*◌, List, [], ◌∷◌, ◌++◌, nat_eq, length, map, slice_get, Option, Some, None, Ok, Err, if◌then◌else◌}
-use Rattle.rd_num.specs.declared.width.Width.{Width}
+use Rattle.std.specs.Prelude.{ℕ, ◌+◌, ◌*◌, List, [], ◌∷◌, nat_eq, length, map, slice_get, Option, Some, None, Ok, Err, if◌then◌else◌}
 use Rattle.rd_num.specs.declared.width.Width.TheVariants.{W1}
-use Rattle.behavior.specs.Ending.{Ending, Trap, if_going}
-use Rattle.ir_core.specs.declared.ty.Ty.{Ty}
-use Rattle.ir_core.specs.declared.operand.Operand.{Operand}
+use Rattle.behavior.specs.Ending.{Trap, if_going}
 use Rattle.ir_core.specs.declared.instruction.BinOp.{BinOp}
 use Rattle.ir_core.specs.declared.instruction.Pred.{Pred}
 use Rattle.ir_core.specs.declared.instruction.CastOp.{CastOp}
@@ -20,10 +17,10 @@ use Rattle.ir_core.specs.declared.module.Block.{Block}
 use Rattle.ir_core.specs.declared.module.Function.{Function}
 use Rattle.ir_core.specs.declared.module.Module.{Module}
 use Rattle.ir_core.specs.declared.memory.Value.{Value}
-use Rattle.ir_core.specs.declared.memory.Value.TheVariants.{Num, Null, At, Fun}
+use Rattle.ir_core.specs.declared.memory.Value.TheVariants.{Num, At}
 use Rattle.ir_core.specs.Names.{same_name, number_where, first_where}
 use Rattle.ir_core.specs.Stops.{Answer, after, found_or, malformed}
-use Rattle.ir_core.specs.Kinds.{Kind, NoValue, Number, Pointer, kind_of, truth}
+use Rattle.ir_core.specs.Kinds.{Kind, Number, Pointer, kind_of, truth}
 use Rattle.ir_core.specs.Arithmetic.{binary, compared, cast}
 use Rattle.ir_core.specs.Shapes.{shape_of}
 use Rattle.ir_core.specs.Memory.{Memory, load_at, store_at, with_alloca}
@@ -32,19 +29,23 @@ use Rattle.ir_core.specs.State.{Local, Frame, State, Nothing, Turn, turned, give
 use Rattle.ir_core.specs.Operands.{value_of, values_of, index_words, bytes_to}
 use Rattle.ir_core.specs.Calls.{target_of, called, returned}
 
+-- two values of a kind by an operation
 abbrev pub binary_value : BinOp → Kind → Value → Value → Answer Value
 binary_value op (Number w) (Num u a) (Num v b) = after (binary op w a b) (λ n. Ok (Num w n))
 binary_value op kind a b = Err malformed
 
+-- two values of a kind compared
 abbrev pub compared_value : Memory → Pred → Kind → Value → Value → Answer Value
 compared_value objects pred (Number w) (Num u a) (Num v b) = Ok (truth (compared pred w a b))
 compared_value objects pred Pointer a b = after (pointers_compared pred objects a b) (λ holds. Ok (truth holds))
 compared_value objects pred kind a b = Err malformed
 
+-- a value as one of another width
 abbrev pub cast_value : CastOp → Kind → Kind → Value → Answer Value
 cast_value op (Number from) (Number to) (Num v n) = Ok (Num to (cast op from to n))
 cast_value op from to v = Err malformed
 
+-- one of two values, by a truth value
 abbrev pub selected : Value → Value → Value → Answer Value
 selected (Num w n) taken other = Ok (if nat_eq n 0 then other else taken)
 selected condition taken other = Err malformed
@@ -66,6 +67,7 @@ result_of m objects locals other = Err malformed
 abbrev pub past : Frame → Frame
 past f = record f { next = f.next + 1 }
 
+-- the instruction gives a value to its local
 abbrev pub gives : State → Frame → List Frame → Option (List ℕ) → Value → Answer Turn
 gives s f callers into v = Ok (record { frames = record f { next = f.next + 1; locals = given into v f.locals } ∷ callers; objects = s.objects; exchange = Nothing })
 
@@ -77,6 +79,7 @@ gives_alloca s f callers into size = Ok (record {
   exchange = Nothing;
 })
 
+-- the instruction changes memory
 abbrev pub stores : State → Frame → List Frame → Answer Memory → Answer Turn
 stores s f callers objects = after objects (λ changed. Ok (record { frames = past f ∷ callers; objects = changed; exchange = Nothing }))
 
@@ -87,7 +90,7 @@ instruction m input s f callers into (Store ty a p) =
     after (value_of m f.locals (kind_of ty) a) (λ x. after (value_of m f.locals Pointer p) (λ y. stores s f callers (store_at s.objects x y)))
 instruction m input s f callers into (Call ret callee arguments) =
     after (target_of m f.locals callee) (λ target. after (values_of m f.locals arguments) (λ values.
-        called m input s (past f ∷ callers) (kind_of ret) (map (λ (a : Arg). kind_of a.ty) arguments) values into target))
+    called m input s (past f ∷ callers) (kind_of ret) (map (λ (a : Arg). kind_of a.ty) arguments) values into target))
 instruction m input s f callers into op = after (result_of m s.objects f.locals op) (λ v. gives s f callers into v)
 
 -- a phi of a block: the local that it gives, and its entries
@@ -118,14 +121,15 @@ given_at_once m locals from (c ∷ cs) = after (chosen m locals from c) (λ v. a
 abbrev pub in_block : Module → State → Frame → List Frame → List ℕ → ℕ → Block → Answer Turn
 in_block m s f callers from number b =
     after (given_at_once m f.locals from (choices_of b.insts)) (λ locals.
-        Ok (record { frames = record f { block = number; next = length (choices_of b.insts); locals = locals } ∷ callers; objects = s.objects; exchange = Nothing }))
+    Ok (record { frames = record f { block = number; next = length (choices_of b.insts); locals = locals } ∷ callers; objects = s.objects; exchange = Nothing }))
 
 -- along the edge to a label
 abbrev pub goes_to : Module → State → Frame → List Frame → Function → List ℕ → List ℕ → Answer Turn
 goes_to m s f callers fn from label =
     after (found_or malformed (number_where (λ (b : Block). same_name b.label label) fn.blocks)) (λ number.
-        after (found_or malformed (slice_get fn.blocks number)) (λ b. in_block m s f callers from number b))
+    after (found_or malformed (slice_get fn.blocks number)) (λ b. in_block m s f callers from number b))
 
+-- one of two labels, by a truth value
 abbrev pub if_true : Value → List ℕ → List ℕ → Answer (List ℕ)
 if_true (Num w n) taken other = Ok (if nat_eq n 0 then other else taken)
 if_true condition taken other = Err malformed
@@ -150,6 +154,7 @@ terminator m s f callers fn from (Switch ty a default cases) =
     after (value_of m f.locals (kind_of ty) a) (λ v. after (switched m v default cases) (λ to. goes_to m s f callers fn from to))
 terminator m s f callers fn from Unreachable = Err Trap
 
+-- an instruction, or the terminator past the last one
 abbrev pub turn_at : Module → List ℕ → State → Frame → List Frame → Function → Block → Option Inst → Answer Turn
 turn_at m input s f callers fn b (Some i) = instruction m input s f callers i.result i.op
 turn_at m input s f callers fn b None = terminator m s f callers fn b.label b.end
@@ -159,7 +164,7 @@ abbrev pub turn_of : Module → List ℕ → State → List Frame → Answer Tur
 turn_of m input s [] = Err malformed
 turn_of m input s (f ∷ callers) =
     after (found_or malformed (slice_get m.functions f.function)) (λ fn.
-        after (found_or malformed (slice_get fn.blocks f.block)) (λ b. turn_at m input s f callers fn b (slice_get b.insts f.next)))
+    after (found_or malformed (slice_get fn.blocks f.block)) (λ b. turn_at m input s f callers fn b (slice_get b.insts f.next)))
 
 -- a run that has stopped stays as it is
 unfoldable pub source_step : Module → List ℕ → State → State

@@ -17,6 +17,7 @@ reason_number Callee = 7
 reason_number Overlap = 8
 reason_number Gep = 9
 
+-- a run that is left for a reason
 abbrev pub left : Reason → Ending
 left reason = Left (reason_number reason)
 

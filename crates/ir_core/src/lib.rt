@@ -7,6 +7,13 @@
 //! integer profile of docs/languages.md.
 #![tactic(auto)]
 
+ghost use Rattle.std.specs.Prelude.{◌≡◌, ℕ, List};
+ghost use Rattle.behavior.specs.Moment.{HasStopped};
+ghost use Rattle.behavior.specs.System.{AddsAtMostOne};
+ghost use Rattle.ir_core.specs.declared.module.Module.{Module};
+ghost use Rattle.ir_core.specs.State.{State, source_moment};
+ghost use Rattle.ir_core.specs.Step.{source_step};
+
 pub mod init;
 pub mod instruction;
 pub mod memory;
@@ -19,3 +26,10 @@ pub const MAX_CALLS: u32 = 1024;
 
 /// How many parameters a function, a declaration or a call can have.
 pub const MAX_PARAMETERS: u32 = 6;
+
+/// What every run of a module has: a step prints at most one byte or takes at most one and then the
+/// run goes on, and a run that has stopped stays as it is.
+pub fn run_laws()
+    ensures adds { (m : Module) (input : List ℕ) (s : State) → AddsAtMostOne (source_moment s) (source_moment (source_step m input s)) }
+    ensures stays { (m : Module) (input : List ℕ) (s : State) → HasStopped (source_moment s) → source_step m input s ≡ s }
+{}
