@@ -107,3 +107,6 @@ pub trait Sink {
     /// Where both are told, the number is that of the bytes.
     ghost counted: { (s : Self) → IsCountOf (total s) (written s) };
 }
+
+#[cfg(test)]
+mod tests;

@@ -76,7 +76,7 @@ fn opened<R: rt::Files>(rt: &R, alloc: Global, name: &str, limit: u64) -> Result
 }
 
 /// All bytes that a reader has left, where they are at most `limit`.
-fn whole<R: Read>(alloc: Global, file: &mut R, limit: u64) -> Result<List<u8>, FileFail>
+pub(crate) fn whole<R: Read>(alloc: Global, file: &mut R, limit: u64) -> Result<List<u8>, FileFail>
     ensures limit { Reads None limit result }
     ensures bytes { Reads (R.remaining file.old) limit result }
 {
@@ -146,7 +146,7 @@ impl Source for StdSource {
 }
 
 /// The next byte of a reader.
-fn one<R: Read>(reader: &mut R) -> Result<Option<u8>, Failed>
+pub(crate) fn one<R: Read>(reader: &mut R) -> Result<Option<u8>, Failed>
     ensures { MatchResult result
         (λ next. MatchOption next (IsAtEnd (R.remaining reader.new)) (λ byte. Consumes (R.remaining reader.old) (R.remaining reader.new) (byte ∷ [])))
         (λ _. Keeps (R.remaining reader.old) (R.remaining reader.new)) }
@@ -232,7 +232,7 @@ impl Sink for ErrSink {
 }
 
 /// Writes all bytes, in as many calls as it takes. A call that takes none of them is a failure.
-fn put_all<W: Write>(writer: &mut W, bytes: &[u8]) -> Result<(), Failed>
+pub(crate) fn put_all<W: Write>(writer: &mut W, bytes: &[u8]) -> Result<(), Failed>
     ensures { PutsAll (W.contents writer.old) (W.contents writer.new) bytes.now result }
 {
     let mut done = 0;
