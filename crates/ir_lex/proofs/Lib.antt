@@ -1,0 +1,6 @@
+pub mod Found
+pub mod Fronts
+pub mod Numbers
+pub mod Quotes
+pub mod Strings
+pub mod Told
