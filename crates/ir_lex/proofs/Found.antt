@@ -1,23 +1,21 @@
 -- Each piece is found: what stands at the front of a text is told with its length.
-use Rattle.std.proofs.Common.{◌≡◌, ℕ, zero, suc, ◌+◌, ◌<◌, ◌≤◌, ◌⊎◌, ◌≢◌, Bool, true, false, not, cond, List, [], ◌∷◌, ◌++◌, length, take, drop, leb, eqb, Option, Some, None, ℤ, codes, arith, ◌∙◌, sym, ap, refl, subst, inl, inr, append_assoc}
+use Rattle.std.proofs.Common.{◌≡◌, ℕ, ◌+◌, ◌⊎◌, true, false, not, cond, List, [], ◌∷◌, ◌++◌, length, take, drop, leb, eqb, Option, Some, None, ℤ, codes, arith, ◌∙◌, sym, ap, refl, subst, inl, inr, append_assoc}
 use Rattle.std.specs.Prelude.{◌&&◌, ◌||◌, ◌==◌}
 use Rattle.std.specs.List.{prefix_len, AllPass, AllByRecursion, list_any}
-use Rattle.std.proofs.lemmas.Bool.{cond-true, cond-false, eqb-true, eq-eqb, ne_eqb, and_parts, and_from, or_cases, false≢true}
-use Rattle.std.proofs.lemmas.List.{length-append, length_push}
+use Rattle.std.proofs.lemmas.Bool.{cond-true, cond-false, eqb-true, ne_eqb, and_parts, and_from, or_cases, false≢true}
+use Rattle.std.proofs.lemmas.List.{length_push}
 use Rattle.std.proofs.lemmas.List.Elements.{All-weaker}
 use Rattle.ir_lex.specs.Tokens.{is_separator, is_run_byte, is_name_byte, is_text_byte, is_mark, in_line, starts, IsRun, IsQuoted, quoted, SpellsNumber, SpellsBytes, SpellsName, HasNoRun, Spells, Piece, separator, comment, token, piece_bytes, IsPiece, HasNoPiece}
-use Rattle.ir_lex.specs.First.{start_of, found_by, found_in, run_by, run_found, run_len_of, number_or_word, run_as, number_of, string_found, string_as, string_from, quote_found, quote_as, quoted_name_at, text_found, name_at, name_found, meta_found, hash_found}
-use Rattle.ir_lex.specs.declared.class.Start.{Start}
+use Rattle.ir_lex.specs.First.{start_of, found_by, found_in, run_by, run_found, run_len_of, number_or_word, run_as, string_found, string_as, quote_found, quote_as, quoted_name_at, text_found, name_at, name_found, meta_found, hash_found}
 use Rattle.ir_lex.specs.declared.class.Start.TheVariants as start
-use Rattle.ir_lex.specs.declared.escape.Escape.TheVariants.{Plain}
 use Rattle.ir_lex.specs.declared.first.Found.{Found}
 use Rattle.ir_lex.specs.declared.first.Found.TheVariants.{Gap, Token, Stray}
 use Rattle.ir_lex.specs.declared.token.TokenKind.{TokenKind}
 use Rattle.ir_lex.specs.declared.token.TokenKind.TheVariants as kind
-use Rattle.ir_lex.proofs.Fronts.{prefix_len-front, take_cut, drop_cut, starts_here, class_excludes, run_len-run, run_len-none}
+use Rattle.ir_lex.proofs.Fronts.{prefix_len-front, take_cut, drop_cut, starts_here, run_len-run, run_len-none}
 use Rattle.ir_lex.proofs.Numbers.{number_of-spelled, number_of-none}
 use Rattle.ir_lex.proofs.Strings.{string_from-spelled}
-use Rattle.ir_lex.proofs.Quotes.{quoted_name_at-name, prefix_len-quote, NameCut, name_cut, name_at-spelled, text_found-quoted, quoted-then}
+use Rattle.ir_lex.proofs.Quotes.{quoted_name_at-name, prefix_len-quote, name_cut, name_at-spelled, text_found-quoted, quoted-then}
 
 -- what is told of a piece
 abbrev pub found_of : Piece → Found
@@ -46,12 +44,15 @@ start-separator b e = last (or_cases ((eqb b 32 || eqb b 9) || eqb b 13) (eqb b 
   where
     same : (k : ℕ) → start_of k ≡ start.Separator → eqb b k ≡ true → start_of b ≡ start.Separator
     same k h t = ap start_of (eqb-true b k t) ∙ h
+
     first : (eqb b 32 ≡ true) ⊎ (eqb b 9 ≡ true) → start_of b ≡ start.Separator
     first (inl t) = same 32 refl t
     first (inr t) = same 9 refl t
+
     second : (eqb b 32 || eqb b 9 ≡ true) ⊎ (eqb b 13 ≡ true) → start_of b ≡ start.Separator
     second (inl t) = first (or_cases (eqb b 32) (eqb b 9) t)
     second (inr t) = same 13 refl t
+
     last : ((eqb b 32 || eqb b 9) || eqb b 13 ≡ true) ⊎ (eqb b 10 ≡ true) → start_of b ≡ start.Separator
     last (inl t) = second (or_cases (eqb b 32 || eqb b 9) (eqb b 13) t)
     last (inr t) = same 10 refl t
@@ -119,7 +120,7 @@ found-label_quoted name text rest q =
     let len : n + 3 ≡ length (quoted name ++ 58 ∷ []) = omega arith in
     let regrouped : ((name ++ 34 ∷ []) ++ 58 ∷ []) ++ rest ≡ behind = append_assoc (name ++ 34 ∷ []) (58 ∷ []) rest ∙ quoted-then name after_it in
     let colon : starts 58 (drop (n + 1) behind) ≡ true =
-      ap (starts 58) (drop_cut (n + 1) behind (name ++ 34 ∷ []) after_it (sym (quoted-then name after_it)) (sym longer)) ∙ starts_here 58 rest in
+    ap (starts 58) (drop_cut (n + 1) behind (name ++ 34 ∷ []) after_it (sym (quoted-then name after_it)) (sym longer)) ∙ starts_here 58 rest in
     ap (λ z. found_in ((z ++ 58 ∷ []) ++ rest)) q.spelling
     ∙ ap quote_found regrouped
     ∙ ap (λ o. quote_as o behind) (quoted_name_at-name name after_it q.filled q.bytes_of_name)
@@ -152,12 +153,13 @@ found-string s rest passes no_label =
   where
     text : List ℕ
     text = s ++ 34 ∷ rest
+
     told : (o : Option ℕ) → quoted_name_at text ≡ o → quote_found text ≡ text_found text
     told None e = ap (λ o. quote_as o text) e
     told (Some n) e =
         let c = name_cut text n e in
         let text_bytes : AllPass is_text_byte c.name =
-          All-weaker (λ z. is_name_byte z ≡ true) (λ z. is_text_byte z ≡ true) name_byte_is_text c.name c.passes in
+        All-weaker (λ z. is_name_byte z ≡ true) (λ z. is_text_byte z ≡ true) name_byte_is_text c.name c.passes in
         let short : prefix_len is_text_byte text ≡ length c.name = ap (prefix_len is_text_byte) c.whole ∙ prefix_len-quote is_text_byte c.name c.rest refl text_bytes in
         let long = prefix_len-quote is_text_byte s rest refl passes in
         let lengths : length s ≡ length c.name = sym long ∙ short in

@@ -1,6 +1,5 @@
 -- Cuts of a text behind its longest front of a class, and the runs among these fronts.
-use Rattle.std.proofs.Common.{◌≡◌, ℕ, zero, suc, ◌+◌, ◌<◌, ◌≤◌, ◌⊎◌, Bool, true, false, cond, List, [], ◌∷◌, ◌++◌, length, take, drop, eqb, arith, ◌∙◌, sym, ap, refl, subst, inl, inr}
-use Rattle.std.specs.Prelude.{codes, ◌==◌, ◌&&◌}
+use Rattle.std.proofs.Common.{◌≡◌, ℕ, ◌+◌, ◌<◌, ◌≤◌, ◌⊎◌, Bool, true, false, List, [], ◌∷◌, ◌++◌, length, take, drop, eqb, arith, ◌∙◌, sym, ap, refl, subst, inl, inr}
 use Rattle.std.specs.List.{prefix_len, AllPass}
 use Rattle.std.proofs.lemmas.Bool.{cond-true, cond-false, eqb-true, eq-eqb, both_ways, cases_Bool, cases_lt, and_parts, and_left, and_right, false_from_ne_true, false≢true}
 use Rattle.std.proofs.lemmas.List.{take_at, drop_at}
@@ -38,14 +37,16 @@ front_of test (x ∷ xs) = front_by test x xs (test x) refl (front_of test xs)
       whole = ap (λ ys. x ∷ ys) f.whole;
       passes = All-cons (λ z. test z ≡ true) x f.front e f.passes;
       stops = f.stops;
-      len = cond-true (test x) (1 + prefix_len test xs) 0 e ∙ (let l = f.len in omega arith); }
+      len = cond-true (test x) (1 + prefix_len test xs) 0 e ∙ (let l = f.len in omega arith);
+    }
     front_by test x xs false e f = record {
       front = [];
       rest = x ∷ xs;
       whole = refl;
       passes = All-nil (λ z. test z ≡ true);
       stops = e;
-      len = cond-false (test x) (1 + prefix_len test xs) 0 e; }
+      len = cond-false (test x) (1 + prefix_len test xs) 0 e;
+    }
 
 -- a cut by the length of its first part
 pub take_cut : (n : ℕ) (text xs ys : List ℕ) → text ≡ xs ++ ys → n ≡ length xs → take n text ≡ xs
@@ -131,8 +132,10 @@ run_cut text h = cut_by (cases_Bool (opens_string text)) (front_of is_run_byte t
             filled = omega arith;
             bytes = f.passes;
             longest = f.stops;
-            no_string = λ c. no_quote f.rest (sym (ap opens_string (f.whole ∙ ap (λ x. x ++ f.rest) c)) ∙ e); };
-          len = len; }
+            no_string = λ c. no_quote f.rest (sym (ap opens_string (f.whole ∙ ap (λ x. x ++ f.rest) c)) ∙ e);
+          };
+          len = len;
+        }
 
 -- where none is found there is none
 pub no_run : (text : List ℕ) → run_len_of text ≡ 0 → HasNoRun text

@@ -1,12 +1,12 @@
 -- Numbers as their digits are read from the left.
-use Rattle.std.proofs.Common.{◌≡◌, ℕ, ◌+◌, ◌-◌, ◌*◌, ◌^◌, ◌<◌, ◌≤◌, ◌⊎◌, Bool, true, false, cond, List, [], ◌∷◌, length, take, get_or, ltb, leb, eqb, Option, Some, None, option_map, ℤ, pos, neg_ℤ, arith, ◌∙◌, sym, ap, refl, inl, inr}
-use Rattle.std.specs.Prelude.{◌&&◌, nat_lt, nat_le, ◌==◌}
-use Rattle.std.specs.List.{list_all, AllPass}
+use Rattle.std.proofs.Common.{◌≡◌, ℕ, ◌+◌, ◌-◌, ◌*◌, ◌^◌, ◌<◌, ◌≤◌, ◌⊎◌, Bool, true, false, List, [], ◌∷◌, length, take, get_or, ltb, leb, eqb, Option, Some, None, option_map, ℤ, pos, neg_ℤ, arith, ◌∙◌, sym, ap, refl, inl, inr}
+use Rattle.std.specs.Prelude.{◌&&◌}
+use Rattle.std.specs.List.{list_all}
 use Rattle.std.specs.Char.{is_ascii_digit, digit_value}
 use Rattle.std.specs.Str.Parse.{digits_value}
 use Rattle.std.proofs.Math.Nat.{pow-le-pow_right}
 use Rattle.std.proofs.lemmas.Grind.{pow_more}
-use Rattle.std.proofs.lemmas.Bool.{cond-true, cond-false, lt-ltb, le-leb, leb-true, ltb-true, eqb-true, and_from, and_parts, cases_Bool, false≢true}
+use Rattle.std.proofs.lemmas.Bool.{cond-true, cond-false, lt-ltb, le-leb, leb-true, ltb-true, eqb-true, and_from, and_parts, cases_Bool}
 use Rattle.std.proofs.lemmas.Bool.Decides.{nat_tests}
 use Rattle.std.proofs.lemmas.Int.Digits.{digits_value_more}
 use Rattle.std.proofs.lemmas.List.Elements.{All-more}
@@ -47,15 +47,19 @@ magnitude_is digits n e = is_by (cases_Bool test)
   where
     test : Bool
     test = ltb 0 (length digits) && leb (length digits) 38 && list_all is_ascii_digit digits
+
     is_by : (test ≡ true) ⊎ (test ≡ false) → AreDigits digits × (n ≡ digits_value 10 digits)
     is_by (inl t) =
         let both = and_parts (ltb 0 (length digits) && leb (length digits) 38) (list_all is_ascii_digit digits) t in
         let counts = and_parts (ltb 0 (length digits)) (leb (length digits) 38) both.0 in
-        let same : Some (digits_value 10 digits) ≡ Some n = sym (cond-true test (Some (digits_value 10 digits)) None t) ∙ e in
-        (record { filled = (let h = ltb-true 0 (length digits) counts.0 in omega arith);
-          few = leb-true (length digits) 38 counts.1;
-          bytes = AllPass-from_list_all is_ascii_digit digits both.1; },
-        cc)
+        let same : Some (digits_value 10 digits) ≡ Some n = sym (cond-true test (Some (digits_value 10 digits)) None t) ∙ e in (
+          record {
+            filled = (let h = ltb-true 0 (length digits) counts.0 in omega arith);
+            few = leb-true (length digits) 38 counts.1;
+            bytes = AllPass-from_list_all is_ascii_digit digits both.1;
+          },
+          cc,
+        )
     is_by (inr f) =
         let none : None ≡ Some n = sym (cond-false test (Some (digits_value 10 digits)) None f) ∙ e in absurd (cc)
 
@@ -83,6 +87,7 @@ number_is (b ∷ bytes) n e = is_by (cases_Bool (eqb b 45))
   where
     minus : ℕ → ℤ
     minus m = neg_ℤ (pos m)
+
     is_by : (eqb b 45 ≡ true) ⊎ (eqb b 45 ≡ false) → SpellsNumber n (b ∷ bytes)
     is_by (inl t) =
         let signed = sym (cond-true (eqb b 45) (option_map (λ m. neg_ℤ (pos m)) (magnitude_of bytes)) (option_map pos (magnitude_of (b ∷ bytes))) t) ∙ e in

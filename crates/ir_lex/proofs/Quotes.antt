@@ -1,17 +1,15 @@
 -- What stands between quotes, and the names behind a sigil.
-use Rattle.std.proofs.Common.{◌≡◌, ℕ, zero, suc, ◌+◌, ◌<◌, ◌≤◌, ◌⊎◌, Bool, true, false, cond, List, [], ◌∷◌, ◌++◌, length, take, drop, ltb, eqb, Option, Some, None, arith, ◌∙◌, sym, ap, refl, subst, inl, inr, append_assoc, append-nil}
-use Rattle.std.specs.Prelude.{◌&&◌, ◌||◌, nat_lt, ◌==◌}
+use Rattle.std.proofs.Common.{◌≡◌, ℕ, ◌+◌, ◌<◌, ◌⊎◌, Bool, true, false, cond, List, [], ◌∷◌, ◌++◌, length, take, drop, ltb, eqb, Option, Some, None, arith, ◌∙◌, sym, ap, refl, subst, inl, inr, append_assoc, append-nil}
+use Rattle.std.specs.Prelude.{◌&&◌}
 use Rattle.std.specs.List.{prefix_len, AllPass}
 use Rattle.std.specs.Char.{is_ascii_digit}
-use Rattle.std.proofs.lemmas.Bool.{cond-true, cond-false, lt-ltb, ltb-true, eqb-true, eq-eqb, and_from, and_parts, or_cases, or_left, or_right, or_from, cases_Bool, both_ways, false≢true}
+use Rattle.std.proofs.lemmas.Bool.{cond-true, cond-false, lt-ltb, ltb-true, eqb-true, eq-eqb, and_from, and_parts, or_cases, or_left, or_right, cases_Bool}
 use Rattle.std.proofs.lemmas.List.{length-append, length_push, nil_from_length}
-use Rattle.std.proofs.lemmas.List.Elements.{All-weaker}
 use Rattle.ir_lex.specs.Tokens.{is_run_byte, is_name_byte, is_text_byte, begins, starts, IsRun, IsQuoted, quoted, MayName, SpellsName}
 use Rattle.ir_lex.specs.First.{closed_at, quoted_name_at, text_by, text_found, may_name, run_name, run_len_of, quoted_as, name_at}
-use Rattle.ir_lex.specs.declared.first.Found.{Found}
 use Rattle.ir_lex.specs.declared.first.Found.TheVariants.{Token, Stray}
 use Rattle.ir_lex.specs.declared.token.TokenKind.TheVariants as kind
-use Rattle.ir_lex.proofs.Fronts.{Front, front_of, prefix_len-front, take_cut, drop_cut, starts_is, starts_here, class_excludes, run_len-run, RunCut, run_cut}
+use Rattle.ir_lex.proofs.Fronts.{front_of, prefix_len-front, take_cut, drop_cut, starts_is, starts_here, class_excludes, run_len-run, run_cut}
 
 -- bytes of a class and a closing quote behind them
 pub record QuoteCut (test : ℕ → Bool) (text : List ℕ) : Type 0 where
@@ -63,8 +61,10 @@ name_cut text n e = cut_by (cases_Bool test)
   where
     front : ℕ
     front = prefix_len is_name_byte text
+
     test : Bool
     test = ltb 0 front && starts 34 (drop front text)
+
     cut_by : (test ≡ true) ⊎ (test ≡ false) → NameCut text n
     cut_by (inl t) =
         let both = and_parts (ltb 0 front) (starts 34 (drop front text)) t in
@@ -80,7 +80,7 @@ name_cut text n e = cut_by (cases_Bool test)
 pub may_name-run : (run : List ℕ) → MayName run → may_name run ≡ true
 may_name-run run (inl all) =
     let len : prefix_len is_ascii_digit run ≡ length run =
-      sym (ap (prefix_len is_ascii_digit) (append-nil run)) ∙ prefix_len-front is_ascii_digit run [] all refl in
+    sym (ap (prefix_len is_ascii_digit) (append-nil run)) ∙ prefix_len-front is_ascii_digit run [] all refl in
     or_right (eqb (prefix_len is_ascii_digit run) 0) (eqb (prefix_len is_ascii_digit run) (length run)) (eq-eqb (prefix_len is_ascii_digit run) (length run) len)
 may_name-run run (inr none) =
     let len : prefix_len is_ascii_digit run ≡ 0 = prefix_len-front is_ascii_digit [] run (λ k d h. absurd (omega arith)) none in
@@ -171,15 +171,18 @@ quoted_name_is text (Some n) told x e =
       rest = c.rest;
       whole = ap (λ z. 34 ∷ z) (c.whole ∙ sym (quoted-then c.name c.rest));
       len = ap (λ (z : List ℕ × ℕ). z.1) (sym same) ∙ two;
-      spells = λ sigil. inr (quoted c.name, refl, record { spelling = ap quoted (sym name); filled = subst (λ z. 0 < length z) (sym name) c.filled; bytes_of_name = subst (AllPass is_name_byte) (sym name) c.passes }); }
+      spells = λ sigil. inr (quoted c.name, refl, record { spelling = ap quoted (sym name); filled = subst (λ z. 0 < length z) (sym name) c.filled; bytes_of_name = subst (AllPass is_name_byte) (sym name) c.passes });
+    }
 
 run_name_is : (text : List ℕ) (x : List ℕ × ℕ) → run_name (run_len_of text) text ≡ Some x → NamedCut text x
 run_name_is text x e = is_by (cases_Bool test)
   where
     n : ℕ
     n = run_len_of text
+
     test : Bool
     test = ltb 0 n && may_name (take n text)
+
     is_by : (test ≡ true) ⊎ (test ≡ false) → NamedCut text x
     is_by (inl t) =
         let both = and_parts (ltb 0 n) (may_name (take n text)) t in
@@ -194,7 +197,8 @@ run_name_is text x e = is_by (cases_Bool test)
           rest = c.rest;
           whole = c.whole;
           len = ap (λ (z : List ℕ × ℕ). z.1) (sym same) ∙ c.len;
-          spells = λ sigil. inl (ap (λ z. sigil ∷ z) (sym name), subst (λ z. IsRun z c.rest) (sym name) c.is, subst MayName (sym name) may); }
+          spells = λ sigil. inl (ap (λ z. sigil ∷ z) (sym name), subst (λ z. IsRun z c.rest) (sym name) c.is, subst MayName (sym name) may);
+        }
     is_by (inr f) = let none : None ≡ Some x = sym (cond-false test (Some (take n text, n)) None f) ∙ e in absurd (cc)
 
 -- what is told behind a sigil is a name
@@ -205,8 +209,10 @@ name_at_is (b ∷ text) x e = is_by (cases_Bool (eqb b 34))
   where
     quote : Option (List ℕ × ℕ)
     quote = quoted_as (quoted_name_at text) text
+
     run : Option (List ℕ × ℕ)
     run = run_name (run_len_of (b ∷ text)) (b ∷ text)
+
     is_by : (eqb b 34 ≡ true) ⊎ (eqb b 34 ≡ false) → NamedCut (b ∷ text) x
     is_by (inl t) =
         subst (λ z. NamedCut (z ∷ text) x) (sym (eqb-true b 34 t))

@@ -1,7 +1,7 @@
 -- The bytes of a `c` string: what reads them byte by byte tells exactly their spellings.
-use Rattle.std.proofs.Common.{◌≡◌, ℕ, suc, ◌+◌, ◌*◌, ◌⊎◌, Bool, true, false, List, [], ◌∷◌, ◌++◌, length, Option, Some, None, eqb, refl, sym, ap, ◌∙◌, subst, inl, inr, arith}
+use Rattle.std.proofs.Common.{◌≡◌, ℕ, suc, ◌+◌, ◌*◌, Bool, true, false, List, [], ◌∷◌, ◌++◌, length, Option, Some, None, eqb, refl, sym, ap, ◌∙◌, subst, inl, inr}
 use Rattle.std.specs.Char.{is_ascii_hexdigit, digit_value}
-use Rattle.std.proofs.lemmas.Bool.{cond-true, cond-false, eqb-true, eqb-false, ne_eqb, cases_Bool}
+use Rattle.std.proofs.lemmas.Bool.{cond-true, cond-false, eqb-true, eqb-false, ne_eqb}
 use Rattle.ir_lex.specs.Tokens.{SpellsByte, SpellsBytes}
 use Rattle.ir_lex.specs.First.{string_from, step_of, after, with_byte, with_spelling, hex_of, pair_of}
 use Rattle.ir_lex.specs.declared.escape.Escape.{Escape}
@@ -93,7 +93,8 @@ go_on at next b text x e cut more =
       rest = c.rest;
       whole = ap (λ z. b ∷ z) c.whole;
       len = subst (λ (z : List ℕ × ℕ). z.1 ≡ suc (length c.inner)) w.2 (ap suc c.len);
-      spells = subst (λ (z : List ℕ × ℕ). SpellsFrom at z.0 (b ∷ c.inner)) w.2 (more w.0.0 c.inner c.spells); }
+      spells = subst (λ (z : List ℕ × ℕ). SpellsFrom at z.0 (b ∷ c.inner)) w.2 (more w.0.0 c.inner c.spells);
+    }
 
 put_on : (at : Escape) (b byte : ℕ) (text : List ℕ) (x : List ℕ × ℕ) → with_byte byte (string_from Plain text) ≡ Some x
     → ((y : List ℕ × ℕ) → string_from Plain text ≡ Some y → StringCut Plain text y)
@@ -106,7 +107,8 @@ put_on at b byte text x e cut more =
       rest = c.rest;
       whole = ap (λ z. b ∷ z) c.whole;
       len = subst (λ (z : List ℕ × ℕ). z.1 ≡ suc (length c.inner)) w.2 (ap suc c.len);
-      spells = subst (λ (z : List ℕ × ℕ). SpellsFrom at z.0 (b ∷ c.inner)) w.2 (more w.0.0 c.inner c.spells); }
+      spells = subst (λ (z : List ℕ × ℕ). SpellsFrom at z.0 (b ∷ c.inner)) w.2 (more w.0.0 c.inner c.spells);
+    }
 
 -- one more byte, outside an escape and within one
 cut_plain : (b : ℕ) (text : List ℕ) (x : List ℕ × ℕ) → ((at : Escape) (y : List ℕ × ℕ) → string_from at text ≡ Some y → StringCut at text y)
@@ -119,7 +121,8 @@ cut_plain b text x cut true slash q s e =
       rest = text;
       whole = ap (λ z. z ∷ text) (eqb-true b 34 q);
       len = ap (λ (z : List ℕ × ℕ). z.1) (sym told);
-      spells = subst (λ (z : List ℕ × ℕ). SpellsBytes z.0 []) told refl; }
+      spells = subst (λ (z : List ℕ × ℕ). SpellsBytes z.0 []) told refl;
+    }
 cut_plain b text x cut false true q s e =
     let goes : step_of Plain b ≡ Within Backslash = cond-false (eqb b 34) End _ q ∙ cond-true (eqb b 92) (Within Backslash) (Byte b) s in
     go_on Plain Backslash b text x (sym (stepped Plain b text (Within Backslash) goes) ∙ e) (cut Backslash)
@@ -150,13 +153,13 @@ cut_high h b text x cut true true d f e =
     (λ t inner sp. λ _. (92 ∷ h ∷ b ∷ [], inner, refl, inr (inr (h, b, refl, d, f, refl)), sp))
 cut_high h b text x cut true false d f e =
     let wrong : step_of (High h) b ≡ Wrong =
-      ap (λ o. pair_of o (hex_of b)) (cond-true (is_ascii_hexdigit h) (Some (digit_value h)) None d)
-      ∙ ap (λ o. pair_of (Some (digit_value h)) o) (cond-false (is_ascii_hexdigit b) (Some (digit_value b)) None f) in
+    ap (λ o. pair_of o (hex_of b)) (cond-true (is_ascii_hexdigit h) (Some (digit_value h)) None d)
+    ∙ ap (λ o. pair_of (Some (digit_value h)) o) (cond-false (is_ascii_hexdigit b) (Some (digit_value b)) None f) in
     let none : None ≡ Some x = sym (stepped (High h) b text Wrong wrong) ∙ e in
     absurd (cc)
 cut_high h b text x cut false low d f e =
     let wrong : step_of (High h) b ≡ Wrong =
-      ap (λ o. pair_of o (hex_of b)) (cond-false (is_ascii_hexdigit h) (Some (digit_value h)) None d) in
+    ap (λ o. pair_of o (hex_of b)) (cond-false (is_ascii_hexdigit h) (Some (digit_value h)) None d) in
     let none : None ≡ Some x = sym (stepped (High h) b text Wrong wrong) ∙ e in
     absurd (cc)
 

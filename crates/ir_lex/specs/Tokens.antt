@@ -1,9 +1,11 @@
 -- The tokens of a text. A text is a row of separators, comments and tokens; which bytes spell which
 -- token, before which rest, is said for each kind of token by itself.
-use Rattle.std.specs.Prelude.{◌≡◌, ℕ, ◌+◌, ◌*◌, ◌<◌, ◌≤◌, ◌⊎◌, ◌≢◌, Bool, true, false, ◌&&◌, ◌||◌, not, List, [], ◌∷◌, ◌++◌, length, ◌==◌, nat_lt, nat_le, IsTrue, ℤ, pos, neg_ℤ, codes, ⊤}
+use Rattle.std.specs.Prelude.{◌≡◌, ℕ, ◌+◌, ◌*◌, ◌<◌, ◌≤◌, ◌⊎◌, ◌≢◌, Bool, false, ◌&&◌, ◌||◌, not, List, [], ◌∷◌, ◌++◌, length, ◌==◌, nat_le, IsTrue, ℤ, pos, neg_ℤ, codes}
 use Rattle.std.specs.List.{flat_map, list_any, AllPass}
 use Rattle.std.specs.Char.{is_ascii_alphanumeric, is_ascii_digit, is_ascii_hexdigit, digit_value}
 use Rattle.std.specs.Str.Parse.{digits_value}
+use Rattle.ir_lex.specs.declared.LexFault.{LexFault}
+use Rattle.ir_lex.specs.declared.LexFault.TheVariants.{At, NoMemory}
 use Rattle.ir_lex.specs.declared.token.Token.{Token}
 use Rattle.ir_lex.specs.declared.token.TokenKind.{TokenKind}
 use Rattle.ir_lex.specs.declared.token.TokenKind.TheVariants.{Label, CStr, Int, Word, Global, Local, Meta, Hash, Str, Mark}
@@ -176,3 +178,8 @@ pub record Stops (text : List ℕ) (place : ℕ) : Type 0 where
   pub at : place ≡ length (row_bytes pieces)
   pub some_left : 0 < length rest
   pub none : HasNoPiece rest
+
+-- what a fault says of the text; want of memory says nothing
+abbrev pub Faults : List ℕ → LexFault → Type 0
+Faults text (At place) = Stops text place × ((tokens : List Token) → ¬ (Scans text tokens))
+Faults text NoMemory = Unit {0}

@@ -68,8 +68,20 @@ fn marks(b: u8) -> bool
     ensures { result ≡ is_mark b }
 {
     match b {
-        b'=' | b',' | b'(' | b')' | b'[' | b']' | b'{' | b'}' | b'<' | b'>' | b'*' | b'|'
-        | b'+' | b':' => true,
+        b'='
+        | b','
+        | b'('
+        | b')'
+        | b'['
+        | b']'
+        | b'{'
+        | b'}'
+        | b'<'
+        | b'>'
+        | b'*'
+        | b'|'
+        | b'+'
+        | b':' => true,
         _ => false,
     }
 }

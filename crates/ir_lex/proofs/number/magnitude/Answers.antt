@@ -1,4 +1,4 @@
-use Rattle.std.proofs.Common.{◌≡◌, ◌<◌, ◌≤◌, ◌^◌, length, arith, sym, ◌∙◌, ap, subst, ◌+◌, ◌-◌, ◌*◌, get_or, ℕ, true}
+use Rattle.std.proofs.Common.{◌≡◌, arith, sym, ◌∙◌, ap, ◌+◌, ◌*◌, get_or, true}
 use Rattle.std.specs.Char.{is_ascii_digit}
 use Rattle.ir_lex.proofs.Numbers.{below_power, digit-value, next-fits, next-value, next-digits}
 use Rattle.ir_lex.proofs.number.magnitude.Goals as goal
@@ -22,7 +22,8 @@ loop-d-preserved c =
     record {
       fits = next-fits c.loop-d.n i c.from.result old.fits (omega arith);
       value = ap (λ x. c.loop-d.n * 10 + x) c.from.ensures ∙ next-value c.loop-d.n i ds c.loop-d-test.true old.value digit;
-      digits = next-digits i ds c.loop-d-test.true old.digits digit; }
+      digits = next-digits i ds c.loop-d-test.true old.digits digit;
+    }
 
 pub returns-clause-small : goal.returns-clause-small
 returns-clause-small c = below_power c.loop-d.n c.loop-d.d-index 38 c.loop-d.invariant.fits (omega arith)
