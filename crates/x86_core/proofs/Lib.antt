@@ -3,3 +3,4 @@ pub mod Good
 pub mod Rows
 pub mod Whole
 pub mod Back
+pub mod Laws
