@@ -1,0 +1,83 @@
+-- Reading and writing homes.
+use Rattle.std.proofs.Common.{◌≡◌, ℕ, ◌+◌, ◌-◌, ◌*◌, ◌/◌, ◌%◌, ◌^◌, ◌<◌, ◌≤◌, Bool, true, false, ◌&&◌, List, [], ◌∷◌, ◌++◌, length, take, drop, Option, Some, None, if◌then◌else◌, refl, sym, ◌∙◌, ap, arith, length-append}
+use Rattle.std.specs.Prelude.{pos, nat_le}
+use Rattle.std.proofs.lemmas.Bool.{le-leb, and_from}
+use Rattle.std.proofs.lemmas.List.{drop-drop, drop_at, append_assoc, length-take, length-drop, take-append-le}
+use Rattle.std.proofs.Math.Seq.{take-append_seam}
+use Rattle.rd_num.specs.Number.{le_bytes, le_number}
+use Rattle.x86_core.specs.declared.image.Segment.{Segment}
+use Rattle.x86_core.specs.Arithmetic.{moved}
+use Rattle.x86_core.proofs.Parts.{number_back4}
+use Rattle.machine_core.specs.Memory.{holds, read_at, write_at, with_bytes}
+use Rattle.machine_core.specs.Data.{stack_start, segment}
+use Rattle.rd_compile.specs.NarrowCode.{frame_bytes}
+use Rattle.rd_compile.specs.Frame.{frame_start, home_offset, HomeHolds, stack_of}
+
+-- the bytes of the stack are all there
+abbrev pub IsStack : List ℕ → Type 0
+IsStack bytes = length bytes ≡ 67112960
+
+module _ (results k : ℕ) (few : results ≤ 4000) (below : k < results) where
+  abbrev address : ℕ
+  address = moved (frame_start results) (pos (8 * k))
+
+  address_is : address ≡ frame_start results + 8 * k
+  address_is = omega arith
+
+  low : stack_start ≤ address
+  low = omega arith
+
+  high : (n : ℕ) → n ≤ 8 → address + n ≤ stack_start + 67112960
+  high n le = omega arith
+
+  inside : (bytes : List ℕ) → IsStack bytes → holds (segment stack_start bytes 6) address 4 ≡ true
+  inside bytes h = let e : length bytes ≡ 67112960 = h in and_from _ _ (le-leb stack_start address low) (le-leb (address + 4) (stack_start + length bytes) (omega (arith, e, high 4 (omega arith))))
+
+  offset_is : address - stack_start ≡ home_offset results k
+  offset_is = ap (λ a. a - stack_start) address_is
+
+  pub read_home : (bytes : List ℕ) → IsStack bytes → read_at (stack_of bytes) address 4 ≡ Some (take 4 (drop (home_offset results k) bytes))
+  read_home bytes h =
+      ap (λ b. if b then Some (take 4 (drop (address - stack_start) bytes)) else None) (inside bytes h) ∙
+      ap (λ d. Some (take 4 (drop d bytes))) offset_is
+
+  -- the bytes with a home written
+  abbrev pub with_home : List ℕ → ℕ → List ℕ
+  with_home bytes w = take (home_offset results k) bytes ++ (le_bytes 4 w ++ drop (home_offset results k + 4) bytes)
+
+  pub write_home : (bytes : List ℕ) (w : ℕ) → IsStack bytes → write_at (stack_of bytes) address (le_bytes 4 w) ≡ Some (stack_of (with_home bytes w))
+  write_home bytes w h =
+      ap (λ b. if b then Some (with_bytes (segment stack_start bytes 6) address (le_bytes 4 w) ∷ []) else None) (inside bytes h) ∙
+      ap (λ d. Some (segment stack_start (take d bytes ++ (le_bytes 4 w ++ drop (d + 4) bytes)) 6 ∷ [])) offset_is
+
+  within : home_offset results k + 8 ≤ 67112960
+  within = omega arith
+
+  pub home_stack : (bytes : List ℕ) (w : ℕ) → IsStack bytes → IsStack (with_home bytes w)
+  home_stack bytes w h =
+      let e : length bytes ≡ 67112960 = h in
+      let front = take (home_offset results k) bytes in
+      let back = drop (home_offset results k + 4) bytes in
+      omega (arith, e, within, length-append front (le_bytes 4 w ++ back), length-append (le_bytes 4 w) back, length-take (home_offset results k) bytes, length-drop (home_offset results k + 4) bytes)
+
+  front_long : (bytes : List ℕ) → IsStack bytes → length (take (home_offset results k) bytes) ≡ home_offset results k
+  front_long bytes h = let e : length bytes ≡ 67112960 = h in omega (arith, e, within, length-take (home_offset results k) bytes)
+
+  -- what was written is there
+  pub home_written : (bytes : List ℕ) (w : ℕ) → w < 2 ^ 32 → IsStack bytes → HomeHolds results (with_home bytes w) k w
+  home_written bytes w lt h =
+      ap (λ r. le_number (take 4 r)) (drop_at (take (home_offset results k) bytes) (le_bytes 4 w ++ drop (home_offset results k + 4) bytes) (home_offset results k) (front_long bytes h)) ∙
+      ap le_number (take-append_seam (le_bytes 4 w) (drop (home_offset results k + 4) bytes)) ∙
+      number_back4 w lt
+
+  -- and the homes before it are as they were
+  pub home_kept : (bytes : List ℕ) (w j v : ℕ) → IsStack bytes → j < k → HomeHolds results bytes j v → HomeHolds results (with_home bytes w) j v
+  home_kept bytes w j v h lt holds =
+      let front = take (home_offset results k) bytes in
+      let back = drop (home_offset results k + 4) bytes in
+      let room : home_offset results j + 4 ≤ home_offset results k = omega arith in
+      let same : take 4 (drop (home_offset results j) (front ++ (le_bytes 4 w ++ back))) ≡ take 4 (drop (home_offset results j) bytes) = unchanged bytes (home_offset results j) (home_offset results k) (le_bytes 4 w ++ back) room (let e : length bytes ≡ 67112960 = h in omega (arith, e, within)) in
+      ap le_number same ∙ holds
+    where
+      unchanged : (xs : List ℕ) (i n : ℕ) (ys : List ℕ) → i + 4 ≤ n → n ≤ length xs → take 4 (drop i (take n xs ++ ys)) ≡ take 4 (drop i xs)
+      unchanged xs i n ys le long = ?
