@@ -99,14 +99,15 @@ pub record Choice : Type 0 where
   pub kind : Kind
   pub entries : List Entry
 
+-- an instruction in front of others: only a phi goes on with their phis
+abbrev pub choices_with : Option (List ℕ) → Op → List Choice → List Choice
+choices_with into (Phi ty entries) others = record { into = into; kind = kind_of ty; entries = entries } ∷ others
+choices_with into op others = []
+
 -- the phis with which a block begins
 abbrev pub choices_of : List Inst → List Choice
 choices_of [] = []
-choices_of (i ∷ is) = choice_of i.result i.op (choices_of is)
-  where
-    choice_of : Option (List ℕ) → Op → List Choice → List Choice
-    choice_of into (Phi ty entries) others = record { into = into; kind = kind_of ty; entries = entries } ∷ others
-    choice_of into other others = []
+choices_of (i ∷ is) = choices_with i.result i.op (choices_of is)
 
 -- the first entry of the block from which the edge comes
 abbrev pub chosen : Module → List Local → List ℕ → Choice → Answer Value
@@ -134,14 +135,15 @@ abbrev pub if_true : Value → List ℕ → List ℕ → Answer (List ℕ)
 if_true (Num w n) taken other = Ok (if nat_eq n 0 then other else taken)
 if_true condition taken other = Err malformed
 
+-- a label where two numbers are equal, and otherwise what other cases give
+abbrev pub to_if_equal : Value → Value → List ℕ → Answer (List ℕ) → Answer (List ℕ)
+to_if_equal (Num u a) (Num w b) to others = if nat_eq a b then Ok to else others
+to_if_equal x y to others = Err malformed
+
 -- the label of the first case that is the number, or the default
 abbrev pub switched : Module → Value → List ℕ → List Case → Answer (List ℕ)
 switched m v default [] = Ok default
-switched m v default (c ∷ cs) = after (value_of m [] (kind_of c.ty) c.value) (λ x. if_equal x v c.to (switched m v default cs))
-  where
-    if_equal : Value → Value → List ℕ → Answer (List ℕ) → Answer (List ℕ)
-    if_equal (Num u a) (Num w b) to others = if nat_eq a b then Ok to else others
-    if_equal x y to others = Err malformed
+switched m v default (c ∷ cs) = after (value_of m [] (kind_of c.ty) c.value) (λ x. to_if_equal x v c.to (switched m v default cs))
 
 -- the end of a block
 abbrev pub terminator : Module → State → Frame → List Frame → Function → List ℕ → Term → Answer Turn
