@@ -1,8 +1,8 @@
 -- Reading and writing homes.
-use Rattle.std.proofs.Common.{◌≡◌, ℕ, ◌+◌, ◌-◌, ◌*◌, ◌/◌, ◌%◌, ◌^◌, ◌<◌, ◌≤◌, Bool, true, false, ◌&&◌, List, [], ◌∷◌, ◌++◌, length, take, drop, Option, Some, None, if◌then◌else◌, refl, sym, ◌∙◌, ap, arith, length-append}
+use Rattle.std.proofs.Common.{◌≡◌, ℕ, zero, suc, ◌+◌, ◌-◌, ◌*◌, ◌/◌, ◌%◌, ◌^◌, ◌<◌, ◌≤◌, Bool, true, false, ◌&&◌, List, [], ◌∷◌, ◌++◌, length, take, drop, Option, Some, None, if◌then◌else◌, refl, sym, ◌∙◌, ap, arith, length-append}
 use Rattle.std.specs.Prelude.{pos, nat_le}
 use Rattle.std.proofs.lemmas.Bool.{le-leb, and_from}
-use Rattle.std.proofs.lemmas.List.{drop-drop, drop_at, append_assoc, length-take, length-drop, take-append-le}
+use Rattle.std.proofs.lemmas.List.{drop-drop, drop_at, append_assoc, length-take, length-drop, take-append-le, drop-append-le, drop-take}
 use Rattle.std.proofs.Math.Seq.{take-append_seam}
 use Rattle.rd_num.specs.Number.{le_bytes, le_number}
 use Rattle.x86_core.specs.declared.image.Segment.{Segment}
@@ -16,6 +16,23 @@ use Rattle.rd_compile.specs.Frame.{frame_start, home_offset, HomeHolds, stack_of
 -- the bytes of the stack are all there
 abbrev pub IsStack : List ℕ → Type 0
 IsStack bytes = length bytes ≡ 67112960
+
+take_within : (n m : ℕ) (xs : List ℕ) → n ≤ m → take n (take m xs) ≡ take n xs
+take_within zero m xs le = refl
+take_within (suc n) zero xs le = absurd (omega arith)
+take_within (suc n) (suc m) [] le = refl
+take_within (suc n) (suc m) (x ∷ xs) le = ap (λ r. x ∷ r) (take_within n m xs (omega arith))
+
+-- a part of the front is as it was, whatever stands behind the front
+unchanged : (xs : List ℕ) (i n : ℕ) (ys : List ℕ) → i + 4 ≤ n → n ≤ length xs → take 4 (drop i (take n xs ++ ys)) ≡ take 4 (drop i xs)
+unchanged xs i n ys le long =
+    let m = n - i in
+    let e : n ≡ i + m = omega arith in
+    let front : i ≤ length (take n xs) = omega (arith, length-take n xs) in
+    let part : 4 ≤ length (take m (drop i xs)) = omega (arith, length-take m (drop i xs), length-drop i xs) in
+    ap (take 4) (drop-append-le i (take n xs) ys front ∙ ap (λ k. drop i (take k xs) ++ ys) e ∙ ap (λ r. r ++ ys) (drop-take i m xs)) ∙
+    take-append-le 4 (take m (drop i xs)) ys part ∙
+    take_within 4 m (drop i xs) (omega arith)
 
 module _ (results k : ℕ) (few : results ≤ 4000) (below : k < results) where
   abbrev address : ℕ
@@ -78,6 +95,3 @@ module _ (results k : ℕ) (few : results ≤ 4000) (below : k < results) where
       let room : home_offset results j + 4 ≤ home_offset results k = omega arith in
       let same : take 4 (drop (home_offset results j) (front ++ (le_bytes 4 w ++ back))) ≡ take 4 (drop (home_offset results j) bytes) = unchanged bytes (home_offset results j) (home_offset results k) (le_bytes 4 w ++ back) room (let e : length bytes ≡ 67112960 = h in omega (arith, e, within)) in
       ap le_number same ∙ holds
-    where
-      unchanged : (xs : List ℕ) (i n : ℕ) (ys : List ℕ) → i + 4 ≤ n → n ≤ length xs → take 4 (drop i (take n xs ++ ys)) ≡ take 4 (drop i xs)
-      unchanged xs i n ys le long = ?
