@@ -1,3 +1,4 @@
 pub mod Places
 pub mod Homes
 pub mod Values
+pub mod Templates
