@@ -2,3 +2,5 @@ pub mod Places
 pub mod Homes
 pub mod Values
 pub mod Templates
+pub mod Held
+pub mod Narrow
