@@ -7,7 +7,7 @@
 ghost use Rattle.std.specs.Prelude.{◌≡◌, ◌≢◌, true, false, None, Ok, Err};
 ghost use Rattle.rd_io.specs.Causes.{Caused, PutCaused};
 ghost use Rattle.rd_io.specs.Held.{name_or_empty};
-ghost use Rattle.rd_io.specs.Outside.{Takes, Ends, Appends, Totals, Reads};
+ghost use Rattle.rd_io.specs.Outside.{Ends, Reads};
 ghost use Rattle.rd_io.specs.Streams.{PutsAll, TakesNext};
 
 use crate::{Failed, FileFail, Files, PutFail, Sink, Source};
