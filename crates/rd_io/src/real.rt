@@ -1,14 +1,14 @@
 //! The outside over std, which tells no content.
 //!
-//! Each object is a few lines over calls of std that are trusted, and counts each error that they
-//! answer. What a call of std does to a reader's or a writer's bytes, where those are known, the
-//! private functions pass on; of a disk and of the standard streams nothing is known.
+//! Each object is a few lines over calls of std that are trusted, and counts the errors that they
+//! answer. Where std knows the bytes of a reader or a writer, `StreamSource` and `StreamSink` say what
+//! they do to them; of the standard streams and of a disk nothing is known.
 
-ghost use Rattle.std.specs.Prelude.{◌≡◌, [], ◌∷◌, false, None, MatchResult, MatchOption};
-ghost use Rattle.std.specs.Io.KnownBytes.{Consumes, IsAtEnd, Keeps};
+ghost use Rattle.std.specs.Prelude.{◌≡◌, ◌≢◌, true, false, None, Ok, Err};
+ghost use Rattle.rd_io.specs.Causes.{Caused, PutCaused};
 ghost use Rattle.rd_io.specs.Held.{name_or_empty};
-ghost use Rattle.rd_io.specs.Outside.{Reads};
-ghost use Rattle.rd_io.specs.Streams.{PutsAll};
+ghost use Rattle.rd_io.specs.Outside.{Ends, Reads};
+ghost use Rattle.rd_io.specs.Streams.{PutsAll, TakesNext};
 
 use crate::{Failed, FileFail, Files, PutFail, Sink, Source};
 use rd_num::copied::copy_list;
@@ -99,39 +99,47 @@ pub(crate) fn whole<R: Read>(alloc: Global, file: &mut R, limit: u64) -> Result<
     }
 }
 
-/// The standard input, which is not asked again once it has ended.
+/// A source over a reader, which is not asked again once it has ended.
 #[derive(Drop)]
-pub struct StdSource {
-    stdin: Stdin,
+pub struct StreamSource<R> {
+    reader: R,
     ended: bool,
     faults: u64,
 }
 
-impl StdSource {
-    /// The standard input. Takes no memory.
-    pub fn new(stdin: Stdin) -> StdSource
-        ensures { result ≡ record { stdin = stdin; ended = false; faults = 0 } }
+/// The standard input.
+pub type StdSource = StreamSource<Stdin>;
+
+impl<R: Read> StreamSource<R> {
+    /// A source of the bytes that a reader has left. Takes no memory.
+    pub fn new(reader: R) -> StreamSource<R>
+        ensures { result ≡ record { reader = reader; ended = false; faults = 0 } }
     {
-        StdSource {
-            stdin,
+        StreamSource {
+            reader,
             ended: false,
             faults: 0,
         }
     }
 }
 
-impl Source for StdSource {
+impl<R: Read> Source for StreamSource<R> {
     ghost left = { λ s. None };
 
     ghost ended = { λ s. s.ended };
 
     ghost faults = { λ s. s.faults };
 
-    fn take(&mut self) -> Result<Option<u8>, Failed> {
+    fn take(&mut self) -> Result<Option<u8>, Failed>
+        ensures stream { self.old.ended ≡ false → TakesNext (R.remaining self.old.reader) (R.remaining self.new.reader) result }
+        ensures stopped { self.old.ended ≡ true → (result ≡ Ok None) × (self.new ≡ self.old) }
+        ensures end { Ends self.old.ended self.new.ended result }
+        ensures cause { Caused self.old.faults self.new.faults result }
+    {
         if self.ended {
             return Ok(None);
         }
-        match one(&mut self.stdin) {
+        match next(&mut self.reader) {
             Ok(Some(byte)) => Ok(Some(byte)),
             Ok(None) => {
                 self.ended = true;
@@ -146,10 +154,8 @@ impl Source for StdSource {
 }
 
 /// The next byte of a reader.
-pub(crate) fn one<R: Read>(reader: &mut R) -> Result<Option<u8>, Failed>
-    ensures { MatchResult result
-        (λ next. MatchOption next (IsAtEnd (R.remaining reader.new)) (λ byte. Consumes (R.remaining reader.old) (R.remaining reader.new) (byte ∷ [])))
-        (λ _. Keeps (R.remaining reader.old) (R.remaining reader.new)) }
+fn next<R: Read>(reader: &mut R) -> Result<Option<u8>, Failed>
+    ensures { TakesNext (R.remaining reader.old) (R.remaining reader.new) result }
 {
     let mut block = [0u8; 1];
     match reader.read(&mut block) {
@@ -159,59 +165,29 @@ pub(crate) fn one<R: Read>(reader: &mut R) -> Result<Option<u8>, Failed>
     }
 }
 
-/// The standard output.
+/// A sink over a writer.
 #[derive(Drop)]
-pub struct StdSink {
-    stdout: Stdout,
+pub struct StreamSink<W> {
+    writer: W,
     faults: u64,
 }
 
-impl StdSink {
-    /// The standard output. Takes no memory.
-    pub fn new(stdout: Stdout) -> StdSink
-        ensures { result ≡ record { stdout = stdout; faults = 0 } }
-    {
-        StdSink { stdout, faults: 0 }
-    }
-}
-
-impl Sink for StdSink {
-    ghost written = { λ s. None };
-
-    ghost total = { λ s. None };
-
-    ghost faults = { λ s. s.faults };
-
-    ghost counted = { λ s. tt };
-
-    fn put(&mut self, bytes: &[u8]) -> Result<(), PutFail> {
-        match put_all(&mut self.stdout, bytes) {
-            Ok(()) => Ok(()),
-            Err(_) => {
-                self.faults = self.faults.saturating_add(1);
-                Err(PutFail::Failed)
-            }
-        }
-    }
-}
+/// The standard output.
+pub type StdSink = StreamSink<Stdout>;
 
 /// The standard error output.
-#[derive(Drop)]
-pub struct ErrSink {
-    stderr: Stderr,
-    faults: u64,
-}
+pub type ErrSink = StreamSink<Stderr>;
 
-impl ErrSink {
-    /// The standard error output. Takes no memory.
-    pub fn new(stderr: Stderr) -> ErrSink
-        ensures { result ≡ record { stderr = stderr; faults = 0 } }
+impl<W: Write> StreamSink<W> {
+    /// A sink that puts bytes to a writer. Takes no memory.
+    pub fn new(writer: W) -> StreamSink<W>
+        ensures { result ≡ record { writer = writer; faults = 0 } }
     {
-        ErrSink { stderr, faults: 0 }
+        StreamSink { writer, faults: 0 }
     }
 }
 
-impl Sink for ErrSink {
+impl<W: Write> Sink for StreamSink<W> {
     ghost written = { λ s. None };
 
     ghost total = { λ s. None };
@@ -220,8 +196,13 @@ impl Sink for ErrSink {
 
     ghost counted = { λ s. tt };
 
-    fn put(&mut self, bytes: &[u8]) -> Result<(), PutFail> {
-        match put_all(&mut self.stderr, bytes) {
+    /// Takes no memory of its own. A call of std that takes none of a nonempty piece is a fault.
+    fn put(&mut self, bytes: &[u8]) -> Result<(), PutFail>
+        ensures stream { PutsAll (W.contents self.old.writer) (W.contents self.new.writer) bytes.now result }
+        ensures memory { result ≢ Err PutFail.NoMemory }
+        ensures cause { PutCaused self.old.faults self.new.faults result }
+    {
+        match put_all(&mut self.writer, bytes) {
             Ok(()) => Ok(()),
             Err(_) => {
                 self.faults = self.faults.saturating_add(1);
@@ -231,8 +212,8 @@ impl Sink for ErrSink {
     }
 }
 
-/// Writes all bytes, in as many calls as it takes. A call that takes none of them is a failure.
-pub(crate) fn put_all<W: Write>(writer: &mut W, bytes: &[u8]) -> Result<(), Failed>
+/// Writes all bytes, in as many calls as it takes.
+fn put_all<W: Write>(writer: &mut W, bytes: &[u8]) -> Result<(), Failed>
     ensures { PutsAll (W.contents writer.old) (W.contents writer.new) bytes.now result }
 {
     let mut done = 0;

@@ -1,6 +1,6 @@
 //! Files, a source and sinks that never fail, whose counts of faults stay at zero.
 
-ghost use Rattle.std.specs.Prelude.{◌≡◌, ◌≢◌, ◌+◌, ◌-◌, ◌^◌, ◌≤◌, min, [], length, drop, nat_le, refl, None, Some, Err, IsOk, OnOk, OnErr, ◌++◌};
+ghost use Rattle.std.specs.Prelude.{◌≡◌, ◌≢◌, ◌-◌, ◌^◌, min, [], length, drop, nat_le, refl, None, Some, Err, IsOk, OnOk, OnErr, ◌++◌};
 ghost use Rattle.rd_io.specs.Held.{content_or_empty};
 ghost use Rattle.rd_io.specs.Outside.{Takes, Ends, Reads, Counts};
 

@@ -3,7 +3,7 @@
 ghost use Rattle.std.specs.Prelude.{◌≤◌, IfOk};
 
 use crate::memory::{File, MemFiles, MemSink, MemSource};
-use crate::real::{DiskFiles, ErrSink, StdSink, StdSource, put_all, whole};
+use crate::real::{DiskFiles, ErrSink, StdSink, StdSource, StreamSink, StreamSource, whole};
 use crate::sure::{CountSink, SureFiles, SureSink, SureSource};
 use crate::{Failed, FileFail, Files, PutFail, Sink, Source};
 use rd_num::copied::copy_list;
@@ -224,13 +224,18 @@ impl Read for Slow {
 
 #[test]
 fn slow_streams_are_moved_whole_or_fail(rt: HostRuntime) {
-    for (fails, want) in [(0, Ok(())), (1, Err(Failed)), (3, Err(Failed)), (4, Ok(()))] {
-        let mut writer = Slow::new(fails);
-        assert_eq!(rt; put_all(&mut writer, b"abcde"), want, "failing at {fails}");
+    let failed = Err(PutFail::Failed);
+    for (fails, want) in [(0, Ok(())), (1, failed), (3, failed), (4, Ok(()))] {
+        let mut sink = StreamSink::new(Slow::new(fails));
+        assert_eq!(rt; sink.put(b"abcde"), want, "failing at {fails}");
     }
     let mut room = [0u8; 3];
-    let mut full = &mut room[..];
-    assert_eq!(rt; put_all(&mut full, b"abcde"), Err(Failed));
+    let mut full = StreamSink::new(&mut room[..]);
+    assert_eq!(rt; full.put(b"abcde"), failed);
+    let mut source = StreamSource::new(Slow::new(2));
+    for want in [Ok(Some(0)), Err(Failed), Ok(Some(0)), Ok(None), Ok(None)] {
+        assert_eq!(rt; source.take(), want);
+    }
     let reads: [(u64, u64, Content); 4] = [
         (0, 6, Ok(&[0; 6])),
         (0, 5, Err(FileFail::TooLong)),
