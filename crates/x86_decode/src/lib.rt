@@ -53,3 +53,6 @@ fn first_instruction(bytes: &[u8]) -> Decoded
         }
     }
 }
+
+#[cfg(test)]
+mod tests;
