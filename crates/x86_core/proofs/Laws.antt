@@ -94,6 +94,9 @@ cut_short bs h c = answer (decode bs) refl where
 pub unknown_none : (bs : List ℕ) (i : Instr) → decode bs ≡ Unknown → Begins bs i → ⊥
 unknown_none bs i e b = cc (sym (begins_one bs i b) ∙ e)
 
+pub cut_unknown : (bs : List ℕ) → All (λ b. b < 256) bs → decode bs ≡ Unknown → IsCut bs → ⊥
+cut_unknown bs h e c = cc (sym (cut_short bs h c) ∙ e)
+
 pub none_unknown : (bs : List ℕ) → All (λ b. b < 256) bs → ((i : Instr) → Begins bs i → ⊥) → (IsCut bs → ⊥) → decode bs ≡ Unknown
 none_unknown bs h none whole = answer (decode bs) refl where
   answer : (d : Decoded) → decode bs ≡ d → decode bs ≡ Unknown
