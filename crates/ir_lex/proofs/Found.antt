@@ -32,12 +32,14 @@ one_of P (m ∷ bytes) b all e = either (or_cases (eqb m b) (list_any (λ z. z =
     either (inl h) go = subst P (eqb-true m b h) all.0
     either (inr h) go = go h
 
+-- punctuation begins a mark
 start-mark : (b : ℕ) → is_mark b ≡ true → start_of b ≡ start.Mark
 unfolding start_of is_run_byte is_separator is_mark
 start-mark b e =
     one_of (λ z. start_of z ≡ start.Mark) (codes "=,()[]{}<>*|+:") b
     (refl, (refl, (refl, (refl, (refl, (refl, (refl, (refl, (refl, (refl, (refl, (refl, (refl, (refl, tt)))))))))))))) e
 
+-- a separator begins itself
 start-separator : (b : ℕ) → is_separator b ≡ true → start_of b ≡ start.Separator
 unfolding start_of is_run_byte is_separator
 start-separator b e = last (or_cases ((eqb b 32 || eqb b 9) || eqb b 13) (eqb b 10) e)
@@ -62,6 +64,7 @@ start-run : (b : ℕ) → is_run_byte b ≡ true → start_of b ≡ start.Run
 unfolding start_of
 start-run b e = cond-true (is_run_byte b) start.Run _ e
 
+-- a text with a run in front is read as one that begins with a run
 pub found_in-run : (run rest : List ℕ) → IsRun run rest → found_in (run ++ rest) ≡ run_found (run ++ rest)
 unfolding found_in
 found_in-run [] rest r = absurd (let h = r.filled in omega arith)
@@ -79,6 +82,7 @@ run_found-run run rest r =
     ∙ ap (λ z. cond (starts 58 z) (Token (kind.Label (take n text)) (n + 1)) (number_or_word (take n text))) (drop_cut n text run rest refl refl)
     ∙ ap (λ z. cond (starts 58 rest) (Token (kind.Label z) (n + 1)) (number_or_word z)) (take_cut n text run rest refl refl)
 
+-- a run and a colon are found
 found-label_run : (name rest : List ℕ) → IsRun name (58 ∷ rest) → found_in ((name ++ 58 ∷ []) ++ rest) ≡ Token (kind.Label name) (length (name ++ 58 ∷ []))
 found-label_run name rest r =
     ap found_in (append_assoc name (58 ∷ []) rest)
@@ -86,6 +90,7 @@ found-label_run name rest r =
     ∙ run_found-run name (58 ∷ rest) r
     ∙ ap (Token (kind.Label name)) (sym (length_push name 58))
 
+-- a number is found
 found-number : (n : ℤ) (run rest : List ℕ) → IsRun run rest → starts 58 rest ≡ false → SpellsNumber n run → found_in (run ++ rest) ≡ Token (kind.Int n) (length run)
 found-number n run rest r e spells =
     found_in-run run rest r
@@ -93,6 +98,7 @@ found-number n run rest r e spells =
     ∙ cond-false (starts 58 rest) (Token (kind.Label run) (length run + 1)) (number_or_word run) e
     ∙ ap (λ o. run_as o run) (number_of-spelled n run spells)
 
+-- a word is found
 found-word : (run rest : List ℕ) → IsRun run rest → starts 58 rest ≡ false → ((n : ℤ) → ¬ (SpellsNumber n run)) → found_in (run ++ rest) ≡ Token (kind.Word run) (length run)
 found-word run rest r e none =
     found_in-run run rest r
@@ -100,6 +106,7 @@ found-word run rest r e none =
     ∙ cond-false (starts 58 rest) (Token (kind.Label run) (length run + 1)) (number_or_word run) e
     ∙ ap (λ o. run_as o run) (number_of-none run none)
 
+-- a `c` string is found
 found-c_string : (s inner rest : List ℕ) → SpellsBytes s inner → found_in ((99 ∷ quoted inner) ++ rest) ≡ Token (kind.CStr s) (length (99 ∷ quoted inner))
 unfolding found_in start_of is_run_byte run_found
 found-c_string s inner rest h =
@@ -109,6 +116,7 @@ found-c_string s inner rest h =
     ∙ ap string_as (string_from-spelled s inner rest h)
     ∙ ap (Token (kind.CStr s)) len
 
+-- a quoted name and a colon are found
 found-label_quoted : (name text rest : List ℕ) → IsQuoted name text → found_in ((text ++ 58 ∷ []) ++ rest) ≡ Token (kind.Label name) (length (text ++ 58 ∷ []))
 unfolding found_in start_of is_run_byte is_separator quote_found
 found-label_quoted name text rest q =
@@ -138,6 +146,7 @@ name_byte_is_text b e =
     let low = and_parts (leb 32 b) (leb b 126) front.0 in
     and_from (leb 32 b) (not (eqb b 34)) low.0 front.1
 
+-- a string is found, where it is no label
 found-string : (s rest : List ℕ) → AllPass is_text_byte s → ((name : List ℕ) → IsQuoted name (quoted s) → starts 58 rest ≡ false)
     → found_in (quoted s ++ rest) ≡ Token (kind.Str s) (length (quoted s))
 unfolding found_in start_of is_run_byte is_separator quote_found is_text_byte
@@ -171,6 +180,7 @@ found-string s rest passes no_label =
         ap (λ o. quote_as o text) e
         ∙ cond-false (starts 58 (drop (n + 1) text)) (Token (kind.Label (take n text)) (n + 3)) (text_found text) (ap (starts 58) behind ∙ quiet)
 
+-- a sigil and a name are found
 found-name : (sigil : ℕ) (make : List ℕ → TokenKind) → ((text : List ℕ) → found_in (sigil ∷ text) ≡ name_found make (name_at text))
     → (name bytes rest : List ℕ) → SpellsName sigil name bytes rest → found_in (bytes ++ rest) ≡ Token (make name) (length bytes)
 found-name sigil make begins_name name bytes rest h =
@@ -182,6 +192,7 @@ found-name sigil make begins_name name bytes rest h =
     ∙ ap (Token (make name)) len
     ∙ ap (λ z. Token (make name) (length z)) (sym t.1)
 
+-- `!` and its run are found
 found-meta : (text rest : List ℕ) → IsRun text rest ⊎ ((text ≡ []) × HasNoRun rest) → found_in ((33 ∷ text) ++ rest) ≡ Token (kind.Meta text) (length (33 ∷ text))
 unfolding found_in start_of is_run_byte is_separator
 found-meta text rest h =
@@ -194,6 +205,7 @@ found-meta text rest h =
     run_by_cases (inl r) = run_len-run text rest r
     run_by_cases (inr x) = ap (λ z. run_len_of (z ++ rest)) x.0 ∙ run_len-none rest x.1 ∙ ap length (sym x.0)
 
+-- `#` and its run are found
 found-hash : (text rest : List ℕ) → IsRun text rest → found_in ((35 ∷ text) ++ rest) ≡ Token (kind.Hash text) (length (35 ∷ text))
 unfolding found_in start_of is_run_byte is_separator
 found-hash text rest r =
@@ -204,14 +216,17 @@ found-hash text rest r =
     ∙ ap (λ z. Token (kind.Hash z) (length text + 1)) (take_cut (length text) (text ++ rest) text rest refl refl)
     ∙ ap (Token (kind.Hash text)) len
 
+-- what `@` begins
 begins-global : (text : List ℕ) → found_in (64 ∷ text) ≡ name_found kind.Global (name_at text)
 unfolding found_in start_of is_run_byte is_separator
 begins-global text = refl
 
+-- what `%` begins
 begins-local : (text : List ℕ) → found_in (37 ∷ text) ≡ name_found kind.Local (name_at text)
 unfolding found_in start_of is_run_byte is_separator
 begins-local text = refl
 
+-- punctuation is found
 found-mark : (m : ℕ) (rest : List ℕ) → is_mark m ≡ true → found_in (m ∷ rest) ≡ Token (kind.Mark m) 1
 unfolding found_in
 found-mark m rest is = ap (λ s. found_by s m rest) (start-mark m is)

@@ -52,6 +52,7 @@ front_of test (x ∷ xs) = front_by test x xs (test x) refl (front_of test xs)
 pub take_cut : (n : ℕ) (text xs ys : List ℕ) → text ≡ xs ++ ys → n ≡ length xs → take n text ≡ xs
 take_cut n text xs ys e l = ap (take n) e ∙ take_at xs ys n (sym l)
 
+-- the rest behind such a cut
 pub drop_cut : (n : ℕ) (text xs ys : List ℕ) → text ≡ xs ++ ys → n ≡ length xs → drop n text ≡ ys
 drop_cut n text xs ys e l = ap (drop n) e ∙ drop_at xs ys n (sym l)
 
@@ -60,6 +61,7 @@ pub starts_is : (b : ℕ) (text : List ℕ) → starts b text ≡ true → (rest
 starts_is b [] e = absurd (false≢true e)
 starts_is b (c ∷ text) e = (text, ap (λ x. x ∷ text) (eqb-true c b e))
 
+-- a byte and a rest start with the byte
 pub starts_here : (b : ℕ) (text : List ℕ) → starts b (b ∷ text) ≡ true
 starts_here b text = eq-eqb b b refl
 
@@ -71,14 +73,17 @@ opens_is (a ∷ b ∷ rest) e =
     let both = and_parts (eqb a 99) (eqb b 34) e in
     (rest, ap (λ x. x ∷ b ∷ rest) (eqb-true a 99 both.0) ∙ ap (λ x. 99 ∷ x ∷ rest) (eqb-true b 34 both.1))
 
+-- what follows a `c` that begins no string starts with no quote
 no_quote : (rest : List ℕ) → opens_string (99 ∷ rest) ≡ false → starts 34 rest ≡ false
 no_quote [] e = refl
 no_quote (b ∷ rest) e = e
 
+-- and a `c` before no quote begins no string
 opens_not : (rest : List ℕ) → starts 34 rest ≡ false → opens_string (99 ∷ rest) ≡ false
 opens_not [] e = refl
 opens_not (b ∷ rest) e = e
 
+-- nor does another byte
 opens_other : (a : ℕ) (rest : List ℕ) → eqb a 99 ≡ false → opens_string (a ∷ rest) ≡ false
 opens_other a [] e = refl
 opens_other a (b ∷ rest) e = and_left (eqb a 99) (eqb b 34) e
@@ -142,6 +147,7 @@ pub no_run : (text : List ℕ) → run_len_of text ≡ 0 → HasNoRun text
 no_run text e run rest w r =
     let len = sym (ap run_len_of w ∙ run_len-run run rest r) ∙ e in let h = r.filled in omega arith
 
+-- where there is no run none is found
 pub run_len-none : (text : List ℕ) → HasNoRun text → run_len_of text ≡ 0
 run_len-none text none = none_by (cases_lt 0 (run_len_of text))
   where

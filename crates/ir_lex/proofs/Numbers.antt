@@ -19,17 +19,21 @@ use Rattle.std.proofs.lemmas.List.Sums.{AllPass-from_list_all, list_all-from_All
 pub below_power : (n i k : ℕ) → n < 10 ^ i → i ≤ k → n < 10 ^ k
 below_power n i k h le = let p : 10 ^ i ≤ 10 ^ k = pow-le-pow_right {n = 10} (omega arith) {i = i} {j = k} le in omega arith
 
+-- the value of a digit
 pub digit-value : (b : ℕ) → is_ascii_digit b ≡ true → (48 ≤ b) × (b < 58) × (digit_value b ≡ b - 48)
 digit-value b h = grind (arith, nat_tests)
 
+-- one digit more takes one power of ten more
 pub next-fits : (n i d : ℕ) → n < 10 ^ i → d < 10 → n * 10 + d < 10 ^ (i + 1)
 next-fits n i d h l = omega (arith, pow_more 10 i)
 
+-- one digit more in the value
 pub next-value : (n i : ℕ) (ds : List ℕ) → i < length ds → n ≡ digits_value 10 (take i ds) → is_ascii_digit (get_or ds i 0) ≡ true → n * 10 + (get_or ds i 0 - 48) ≡ digits_value 10 (take (i + 1) ds)
 next-value n i ds l e h =
     let d = digit-value (get_or ds i 0) h in
     ap (λ m. m * 10 + (get_or ds i 0 - 48)) e ∙ ap (λ v. digits_value 10 (take i ds) * 10 + v) (sym d.2) ∙ sym (digits_value_more 10 ds i l)
 
+-- one digit more among the digits
 pub next-digits : (i : ℕ) (ds : List ℕ) → i < length ds → list_all is_ascii_digit (take i ds) ≡ true → is_ascii_digit (get_or ds i 0) ≡ true → list_all is_ascii_digit (take (i + 1) ds) ≡ true
 next-digits i ds l all h =
     list_all-from_AllPass is_ascii_digit (take (i + 1) ds) (All-more (λ x. is_ascii_digit x ≡ true) ds i 0 l (AllPass-from_list_all is_ascii_digit (take i ds) all) h)
@@ -42,6 +46,7 @@ magnitude_of-digits digits d =
     (and_from (ltb 0 (length digits)) (leb (length digits) 38) (lt-ltb 0 (length digits) (let h = d.filled in omega arith)) (le-leb (length digits) 38 d.few))
     (list_all-from_AllPass is_ascii_digit digits d.bytes))
 
+-- what has a magnitude is digits
 magnitude_is : (digits : List ℕ) (n : ℕ) → magnitude_of digits ≡ Some n → AreDigits digits × (n ≡ digits_value 10 digits)
 magnitude_is digits n e = is_by (cases_Bool test)
   where
@@ -63,6 +68,7 @@ magnitude_is digits n e = is_by (cases_Bool test)
     is_by (inr f) =
         let none : None ≡ Some n = sym (cond-false test (Some (digits_value 10 digits)) None f) ∙ e in absurd (cc)
 
+-- what a mapped option holds comes from what it held
 mapped_some : {A B : Type 0} (f : A → B) (o : Option A) (y : B) → option_map f o ≡ Some y → (x : A) × (o ≡ Some x) × (f x ≡ y)
 mapped_some f None y e = absurd (cc)
 mapped_some f (Some x) y e = (x, refl, cc)

@@ -86,6 +86,7 @@ may_name-run run (inr none) =
     let len : prefix_len is_ascii_digit run ≡ 0 = prefix_len-front is_ascii_digit [] run (λ k d h. absurd (omega arith)) none in
     or_left (eqb (prefix_len is_ascii_digit run) 0) (eqb (prefix_len is_ascii_digit run) (length run)) (eq-eqb (prefix_len is_ascii_digit run) 0 len)
 
+-- a front of no bytes is none
 begins-none : (test : ℕ → Bool) (text : List ℕ) → prefix_len test text ≡ 0 → begins test text ≡ false
 begins-none test [] e = refl
 begins-none test (b ∷ text) e = none_by (test b) refl
@@ -94,6 +95,7 @@ begins-none test (b ∷ text) e = none_by (test b) refl
     none_by false f = f
     none_by true t = let l = sym (cond-true (test b) (1 + prefix_len test text) 0 t) ∙ e in absurd (omega arith)
 
+-- a front as long as the text is the text
 all-passes : (test : ℕ → Bool) (text : List ℕ) → prefix_len test text ≡ length text → AllPass test text
 all-passes test text e =
     let f = front_of test text in
@@ -103,6 +105,7 @@ all-passes test text e =
     let none : f.rest ≡ [] = nil_from_length f.rest (omega arith) in
     subst (AllPass test) (sym (f.whole ∙ ap (λ z. f.front ++ z) none ∙ append-nil f.front)) f.passes
 
+-- and what is told to be one is one
 pub may_name_is : (run : List ℕ) → may_name run ≡ true → MayName run
 may_name_is run e = is_by (or_cases (eqb (prefix_len is_ascii_digit run) 0) (eqb (prefix_len is_ascii_digit run) (length run)) e)
   where
@@ -125,6 +128,7 @@ name_at-run (b ∷ bytes) rest r m =
     ∙ cond-true (ltb 0 n && may_name name) (Some (name, n)) None
     (and_from (ltb 0 n) (may_name name) (lt-ltb 0 n r.filled) (may_name-run name m))
 
+-- what follows a closing quote
 pub quoted-then : (inner rest : List ℕ) → (inner ++ 34 ∷ []) ++ rest ≡ inner ++ 34 ∷ rest
 quoted-then inner rest = append_assoc inner (34 ∷ []) rest
 
@@ -157,6 +161,7 @@ pub record NamedCut (text : List ℕ) (told : List ℕ × ℕ) : Type 0 where
   pub len : told.1 ≡ length tail
   pub spells : (sigil : ℕ) → SpellsName sigil told.0 (sigil ∷ tail) rest
 
+-- a quoted name behind a sigil, by its length
 quoted_name_is : (text : List ℕ) (o : Option ℕ) → quoted_name_at text ≡ o → (x : List ℕ × ℕ) → quoted_as o text ≡ Some x → NamedCut (34 ∷ text) x
 quoted_name_is text None told x e = absurd (cc)
 quoted_name_is text (Some n) told x e =
@@ -174,6 +179,7 @@ quoted_name_is text (Some n) told x e =
       spells = λ sigil. inr (quoted c.name, refl, record { spelling = ap quoted (sym name); filled = subst (λ z. 0 < length z) (sym name) c.filled; bytes_of_name = subst (AllPass is_name_byte) (sym name) c.passes });
     }
 
+-- a run behind a sigil, by its length
 run_name_is : (text : List ℕ) (x : List ℕ × ℕ) → run_name (run_len_of text) text ≡ Some x → NamedCut text x
 run_name_is text x e = is_by (cases_Bool test)
   where

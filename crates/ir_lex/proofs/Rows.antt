@@ -1,5 +1,6 @@
 -- Rows of pieces: a text is one at most, and a row is read piece by piece.
-use Rattle.std.proofs.Common.{◌≡◌, ℕ, suc, ◌+◌, ◌<◌, ◌≤◌, List, [], ◌∷◌, ◌++◌, length, drop, arith, ◌∙◌, sym, ap, refl, subst, inl, inr, append_assoc, append-nil}
+use Rattle.std.proofs.Common.{◌≡◌, ℕ, zero, suc, ◌+◌, ◌<◌, ◌≤◌, ◌⊎◌, List, [], ◌∷◌, ◌++◌, length, drop, arith, ◌∙◌, sym, ap, refl, subst, inl, inr, append_assoc, append-nil}
+use Rattle.std.proofs.lemmas.Bool.{cases_lt}
 use Rattle.std.proofs.lemmas.List.{length-append, length-drop, length_push, drop-drop, drop_all}
 use Rattle.ir_lex.specs.Tokens.{Piece, separator, comment, token, piece_bytes, IsPiece, row_bytes, IsRow, tokens_from, Scans, HasNoPiece, Stops, Spells, SpellsName}
 use Rattle.ir_lex.specs.First.{found_in}
@@ -24,11 +25,13 @@ emitted (Gap n) place more = more
 emitted (Token kind n) place more = record { kind = kind; place = place; len = n } ∷ more
 emitted Stray place more = more
 
+-- a piece has as many bytes as are told
 length-piece : (p : Piece) → length (piece_bytes p) ≡ size_of (found_of p)
 length-piece (separator b) = refl
 length-piece (comment bytes) = omega arith
 length-piece (token kind bytes) = refl
 
+-- the tokens of a row begin with what is told of its first piece
 tokens_from-piece : (place : ℕ) (p : Piece) (ps : List Piece) → tokens_from place (p ∷ ps) ≡ emitted (found_of p) place (tokens_from (place + size_of (found_of p)) ps)
 tokens_from-piece place (separator b) ps = refl
 tokens_from-piece place (comment bytes) ps = refl
@@ -101,17 +104,21 @@ pub record ReadTo (text : List ℕ) (place : ℕ) (tokens : List the_token.Token
 pub read_none : (text : List ℕ) → ReadTo text 0 []
 read_none text = record { pieces = []; cut = refl; row = tt; at = refl; same = refl }
 
+-- the bytes of a row with one piece more
 row_bytes-push : (ps : List Piece) (p : Piece) → row_bytes (ps ++ p ∷ []) ≡ row_bytes ps ++ piece_bytes p
 row_bytes-push [] p = append-nil (piece_bytes p)
 row_bytes-push (q ∷ ps) p = ap (λ z. piece_bytes q ++ z) (row_bytes-push ps p) ∙ sym (append_assoc (piece_bytes q) (row_bytes ps) (piece_bytes p))
 
+-- the same before a rest
 bytes-push : (ps : List Piece) (p : Piece) (r : List ℕ) → row_bytes (ps ++ p ∷ []) ++ r ≡ row_bytes ps ++ (piece_bytes p ++ r)
 bytes-push ps p r = ap (λ z. z ++ r) (row_bytes-push ps p) ∙ append_assoc (row_bytes ps) (piece_bytes p) r
 
+-- a row with one piece more is a row
 row_push : (ps : List Piece) (p : Piece) (r : List ℕ) → IsRow ps (piece_bytes p ++ r) → IsPiece p r → IsRow (ps ++ p ∷ []) r
 row_push [] p r row is = (is, tt)
 row_push (q ∷ ps) p r row is = (subst (IsPiece q) (sym (bytes-push ps p r)) row.0, row_push ps p r row.1 is)
 
+-- the tokens of a row with one piece more
 tokens-push : (place : ℕ) (ps : List Piece) (p : Piece) → tokens_from place (ps ++ p ∷ []) ≡ tokens_from place ps ++ tokens_from (place + length (row_bytes ps)) (p ∷ [])
 tokens-push place [] p = ap (λ n. tokens_from n (p ∷ [])) (omega arith)
 tokens-push place (separator b ∷ ps) p =
@@ -153,10 +160,12 @@ read_piece text place tokens found r t =
           ∙ sym (tokens-push 0 r.pieces t.piece);
     }
 
+-- no name behind a sigil is empty
 name_filled : (sigil : ℕ) (name bytes rest : List ℕ) → SpellsName sigil name bytes rest → 0 < length bytes
 name_filled sigil name bytes rest (inl x) = let l = ap length x.0 in omega arith
 name_filled sigil name bytes rest (inr x) = let l = ap length x.1 in omega arith
 
+-- no token is empty
 token_filled : (kind : TokenKind) (bytes rest : List ℕ) → Spells kind bytes rest → 0 < length bytes
 token_filled (kinds.Label name) bytes rest h = let l = ap length h.1 in let p = length_push h.0 58 in omega arith
 token_filled (kinds.CStr s) bytes rest h = let l = ap length h.1 in omega arith
@@ -169,6 +178,7 @@ token_filled (kinds.Hash text) bytes rest h = let l = ap length h.0 in omega ari
 token_filled (kinds.Str s) bytes rest h = let l = ap length h.0 in omega arith
 token_filled (kinds.Mark m) bytes rest h = let l = ap length h.0 in omega arith
 
+-- no piece is empty
 piece_filled : (piece : Piece) (rest : List ℕ) → IsPiece piece rest → 0 < length (piece_bytes piece)
 piece_filled (separator b) rest is = omega arith
 piece_filled (comment bytes) rest is = omega arith
@@ -180,20 +190,25 @@ pub record ReadOn (text : List ℕ) (place : ℕ) (tokens : List the_token.Token
   pub grows : 0 < size_of found
   pub within : place + size_of found ≤ length text
 
+-- a piece more is read, and reading comes nearer to the end
+pub read_told : (text : List ℕ) (place : ℕ) (tokens : List the_token.Token) (found : Found) → place ≤ length text → ReadTo text place tokens
+    → Told (drop place text) found → ReadOn text place tokens found
+read_told text place tokens found low r t =
+    let size : size_of found ≡ length (piece_bytes t.piece) = ap size_of (sym t.same) ∙ sym (length-piece t.piece) in
+    let filled = piece_filled t.piece t.rest t.is in
+    let whole = ap length t.whole in
+    let parts = length-append (piece_bytes t.piece) t.rest in
+    let left = length-drop place text in
+    record { read = read_piece text place tokens found r t; grows = omega arith; within = omega arith }
+
+-- where something is found reading goes on
 pub read_on : (text : List ℕ) (place : ℕ) (tokens : List the_token.Token) (found : Found) → place ≤ length text → ReadTo text place tokens
     → found ≡ found_in (drop place text) → (found ≡ Stray → ⊥) → ReadOn text place tokens found
 read_on text place tokens found low r e some = on_by (told (drop place text))
   where
     on_by : Answers (drop place text) (found_in (drop place text)) → ReadOn text place tokens found
     on_by (inl none) = absurd (some (e ∙ none))
-    on_by (inr t) =
-        let here : Told (drop place text) found = subst (Told (drop place text)) (sym e) t in
-        let size : size_of found ≡ length (piece_bytes here.piece) = ap size_of (sym here.same) ∙ sym (length-piece here.piece) in
-        let filled = piece_filled here.piece here.rest here.is in
-        let whole = ap length here.whole in
-        let parts = length-append (piece_bytes here.piece) here.rest in
-        let left = length-drop place text in
-        record { read = read_piece text place tokens found r here; grows = omega arith; within = omega arith }
+    on_by (inr t) = read_told text place tokens found low r (subst (Told (drop place text)) (sym e) t)
 
 -- where nothing is found the text stops
 pub stops_here : (text : List ℕ) (place : ℕ) (tokens : List the_token.Token) → place < length text → ReadTo text place tokens → Stray ≡ found_in (drop place text)
@@ -213,3 +228,29 @@ pub scans_here : (text : List ℕ) (place : ℕ) (tokens : List the_token.Token)
 scans_here text place tokens end r =
     let none : drop place text ≡ [] = drop_all place text end in
     (r.pieces, r.cut ∙ ap (λ z. row_bytes r.pieces ++ z) none ∙ append-nil (row_bytes r.pieces), subst (IsRow r.pieces) none r.row, r.same)
+
+-- a text has tokens, or it stops
+abbrev pub Decided : List ℕ → Type 0
+Decided text = ((tokens : List the_token.Token) × Scans text tokens) ⊎ ((place : ℕ) × Stops text place)
+
+-- reading on comes to either, in as many steps as there are bytes at most
+decided_from : (text : List ℕ) (steps place : ℕ) (tokens : List the_token.Token) → length text ≤ place + steps → place ≤ length text → ReadTo text place tokens → Decided text
+decided_from text zero place tokens enough low r = inl (tokens, scans_here text place tokens (omega arith) r)
+decided_from text (suc steps) place tokens enough low r =
+    step_by (cases_lt place (length text)) (told (drop place text)) (λ place tokens. decided_from text steps place tokens)
+  where
+    found : Found
+    found = found_in (drop place text)
+
+    step_by : (place < length text) ⊎ (length text ≤ place) → Answers (drop place text) found
+        → ((place : ℕ) (tokens : List the_token.Token) → length text ≤ place + steps → place ≤ length text → ReadTo text place tokens → Decided text) → Decided text
+    step_by (inr end) answer go = inl (tokens, scans_here text place tokens end r)
+    step_by (inl more) (inl none) go = inr (place, stops_here text place tokens more r (sym none))
+    step_by (inl more) (inr t) go =
+        let on = read_told text place tokens found low r t in
+        let nearer = on.grows in
+        go (place + size_of found) (tokens ++ emitted found place []) (omega arith) on.within on.read
+
+-- so each text is decided
+pub decided : (text : List ℕ) → Decided text
+decided text = decided_from text (length text) 0 [] (omega arith) (omega arith) (read_none text)

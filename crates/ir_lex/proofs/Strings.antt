@@ -15,15 +15,18 @@ abbrev pub onto : List ℕ → ℕ → Option (List ℕ × ℕ) → Option (List
 onto front n None = None
 onto front n (Some x) = Some (front ++ x.0, n + x.1)
 
+-- a byte that stands for itself
 step-byte : (b : ℕ) → eqb b 34 ≡ false → eqb b 92 ≡ false → step_of Plain b ≡ Byte b
 step-byte b q s =
     cond-false (eqb b 34) End _ q ∙ cond-false (eqb b 92) (Within Backslash) (Byte b) s
 
+-- the first digit of an escape
 step-high : (h : ℕ) → is_ascii_hexdigit h ≡ true → step_of Backslash h ≡ Within (High h)
 step-high h e =
     cond-false (eqb h 92) (Byte h) _ (class_excludes is_ascii_hexdigit 92 h refl e)
     ∙ cond-true (is_ascii_hexdigit h) (Within (High h)) Wrong e
 
+-- its second digit
 step-low : (h l : ℕ) → is_ascii_hexdigit h ≡ true → is_ascii_hexdigit l ≡ true → step_of (High h) l ≡ Byte (16 * digit_value h + digit_value l)
 step-low h l e f =
     ap (λ o. pair_of o (hex_of l)) (cond-true (is_ascii_hexdigit h) (Some (digit_value h)) None e)
@@ -33,6 +36,7 @@ step-low h l e f =
 stepped : (at : Escape) (b : ℕ) (text : List ℕ) (s : Step) → step_of at b ≡ s → string_from at (b ∷ text) ≡ after s (λ next. string_from next text)
 stepped at b text s e = ap (λ z. after z (λ next. string_from next text)) e
 
+-- the first byte of a string is told, whichever way it is spelled
 first_told : (b : ℕ) (bs first more rest : List ℕ) → SpellsByte b first → string_from Plain (more ++ 34 ∷ rest) ≡ Some (bs, length more)
     → string_from Plain ((first ++ more) ++ 34 ∷ rest) ≡ Some (b ∷ bs, length (first ++ more))
 first_told b bs first more rest (inl x) e =
@@ -73,10 +77,12 @@ pub record StringCut (at : Escape) (text : List ℕ) (told : List ℕ × ℕ) : 
   pub len : told.1 ≡ length inner
   pub spells : SpellsFrom at told.0 inner
 
+-- a string with a byte more comes from one without it
 with_byte_some : (b : ℕ) (o : Option (List ℕ × ℕ)) (x : List ℕ × ℕ) → with_byte b o ≡ Some x → (y : List ℕ × ℕ) × (o ≡ Some y) × ((b ∷ y.0, suc y.1) ≡ x)
 with_byte_some b None x e = absurd (cc)
 with_byte_some b (Some y) x e = (y, refl, cc)
 
+-- and a longer spelling from a shorter one
 with_spelling_some : (o : Option (List ℕ × ℕ)) (x : List ℕ × ℕ) → with_spelling o ≡ Some x → (y : List ℕ × ℕ) × (o ≡ Some y) × ((y.0, suc y.1) ≡ x)
 with_spelling_some None x e = absurd (cc)
 with_spelling_some (Some y) x e = (y, refl, cc)
@@ -96,6 +102,7 @@ go_on at next b text x e cut more =
       spells = subst (λ (z : List ℕ × ℕ). SpellsFrom at z.0 (b ∷ c.inner)) w.2 (more w.0.0 c.inner c.spells);
     }
 
+-- what a cut behind a byte that is complete gives
 put_on : (at : Escape) (b byte : ℕ) (text : List ℕ) (x : List ℕ × ℕ) → with_byte byte (string_from Plain text) ≡ Some x
     → ((y : List ℕ × ℕ) → string_from Plain text ≡ Some y → StringCut Plain text y)
     → ((s inner : List ℕ) → SpellsBytes s inner → SpellsFrom at (byte ∷ s) (b ∷ inner)) → StringCut at (b ∷ text) x
@@ -131,6 +138,7 @@ cut_plain b text x cut false false q s e =
     put_on Plain b b text x (sym (stepped Plain b text (Byte b) (step-byte b q s)) ∙ e) (cut Plain)
     (λ t inner h. (b ∷ [], inner, refl, inl (refl, eqb-false b 34 q, eqb-false b 92 s), h))
 
+-- the byte behind a backslash
 cut_backslash : (b : ℕ) (text : List ℕ) (x : List ℕ × ℕ) → ((at : Escape) (y : List ℕ × ℕ) → string_from at text ≡ Some y → StringCut at text y)
     → (slash hex : Bool) → eqb b 92 ≡ slash → is_ascii_hexdigit b ≡ hex → string_from Backslash (b ∷ text) ≡ Some x → StringCut Backslash (b ∷ text) x
 cut_backslash b text x cut true hex s d e =
@@ -145,6 +153,7 @@ cut_backslash b text x cut false false s d e =
     let none : None ≡ Some x = sym (stepped Backslash b text Wrong wrong) ∙ e in
     absurd (cc)
 
+-- the second digit of an escape
 cut_high : (h b : ℕ) (text : List ℕ) (x : List ℕ × ℕ) → ((at : Escape) (y : List ℕ × ℕ) → string_from at text ≡ Some y → StringCut at text y)
     → (high low : Bool) → is_ascii_hexdigit h ≡ high → is_ascii_hexdigit b ≡ low → string_from (High h) (b ∷ text) ≡ Some x → StringCut (High h) (b ∷ text) x
 cut_high h b text x cut true true d f e =

@@ -30,6 +30,7 @@ pub record Told (text : List ℕ) (found : Found) : Type 0 where
 abbrev pub Answers : List ℕ → Found → Type 0
 Answers text found = (found ≡ Stray) ⊎ Told text found
 
+-- a `c` string
 told-string : (text : List ℕ) (o : Option (List ℕ × ℕ)) → string_from Plain text ≡ o → Answers (99 ∷ 34 ∷ text) (string_as o)
 told-string text None e = inl refl
 told-string text (Some x) e =
@@ -45,6 +46,7 @@ told-string text (Some x) e =
       same = ap (Token (kind.CStr x.0)) len;
     })
 
+-- a number or a word
 told-word : (run rest : List ℕ) → IsRun run rest → starts 58 rest ≡ false → (o : Option ℤ) → number_of run ≡ o → Answers (run ++ rest) (run_as o run)
 told-word run rest r e None none =
     inr (record {
@@ -57,6 +59,7 @@ told-word run rest r e None none =
 told-word run rest r e (Some n) some =
     inr (record { piece = token (kind.Int n) run; rest = rest; whole = refl; is = (r, e, number_is run n some); same = refl })
 
+-- a label, a number or a word
 told-run : (run rest : List ℕ) → IsRun run rest → Answers (run ++ rest) (run_found (run ++ rest))
 told-run run rest r =
     subst (Answers (run ++ rest)) (sym (run_found-run run rest r)) (told_by (cases_Bool (starts 58 rest)))
@@ -78,6 +81,7 @@ told-run run rest r =
     told_by (inr f) =
         subst (Answers (run ++ rest)) (sym (cond-false (starts 58 rest) label (number_or_word run) f)) (told-word run rest r f (number_of run) refl)
 
+-- what a byte of a run begins
 told-run_byte : (b : ℕ) (text : List ℕ) → is_run_byte b ≡ true → Answers (b ∷ text) (run_found (b ∷ text))
 unfolding run_found is_run_byte
 told-run_byte b text e = told_by (cases_Bool (opens_string (b ∷ text)))
@@ -99,6 +103,7 @@ told-run_byte b text e = told_by (cases_Bool (opens_string (b ∷ text)))
 quoted_once : (s t : List ℕ) → quoted s ≡ quoted t → s ≡ t
 quoted_once s t e = let tails : s ++ 34 ∷ [] ≡ t ++ 34 ∷ [] = cc in (same_from_push s t 34 34 tails).0
 
+-- a string, where it is no label
 told-text : (text : List ℕ) → ((s rest : List ℕ) → text ≡ s ++ 34 ∷ rest → IsQuoted s (quoted s) → starts 58 rest ≡ false) → Answers (34 ∷ text) (text_found text)
 told-text text no_label = told_by (cases_Bool (starts 34 (drop n text)))
   where
@@ -129,6 +134,7 @@ told-text text no_label = told_by (cases_Bool (starts 34 (drop n text)))
         subst (Answers (34 ∷ text)) (sym (cond-true (starts 34 (drop n text)) string Stray t)) (inr told)
     told_by (inr f) = inl (cond-false (starts 34 (drop n text)) string Stray f)
 
+-- what a quote begins
 told-quote : (text : List ℕ) (o : Option ℕ) → quoted_name_at text ≡ o → Answers (34 ∷ text) (quote_as o text)
 told-quote text None e =
     told-text text (λ s rest whole q. (let some = ap quoted_name_at whole ∙ quoted_name_at-name s rest q.filled q.bytes_of_name in
@@ -167,6 +173,7 @@ told-quote text (Some n) e = told_by (cases_Bool (starts 58 (drop (n + 1) text))
         sym (ap (starts 58) drops) ∙ f)) in
         subst (Answers (34 ∷ text)) (sym (cond-false (starts 58 (drop (n + 1) text)) label (text_found text) f)) text_told
 
+-- what a sigil begins
 told-name : (sigil : ℕ) (make : List ℕ → TokenKind) → ((name bytes rest : List ℕ) → SpellsName sigil name bytes rest → Spells (make name) bytes rest)
     → (text : List ℕ) (o : Option (List ℕ × ℕ)) → name_at text ≡ o → Answers (sigil ∷ text) (name_found make o)
 told-name sigil make spells text None e = inl refl
@@ -182,6 +189,7 @@ told-name sigil make spells text (Some x) e =
       same = ap (Token (make x.0)) len;
     })
 
+-- what `!` begins
 told-meta : (text : List ℕ) → Answers (33 ∷ text) (meta_found (run_len_of text) text)
 told-meta text = told_by (cases_lt 0 (run_len_of text))
   where
@@ -207,6 +215,7 @@ told-meta text = told_by (cases_lt 0 (run_len_of text))
           same = ap (λ n. meta_found n text) (sym none);
         })
 
+-- what `#` begins
 told-hash : (text : List ℕ) → Answers (35 ∷ text) (hash_found (run_len_of text) text)
 told-hash text = told_by (cases_lt 0 (run_len_of text))
   where
@@ -244,6 +253,7 @@ StartIs b start.Hash = b ≡ 35
 StartIs b start.Mark = is_mark b ≡ true
 StartIs b start.Nothing = Unit {0}
 
+-- it is known of each byte
 start_is : (b : ℕ) → StartIs b (start_of b)
 unfolding start_of
 start_is b =
@@ -257,6 +267,7 @@ start_is b =
     (λ _. cond_both (eqb b 35) start.Hash _ (StartIs b) (eqb-true b 35)
     (λ _. cond_both (is_mark b) start.Mark start.Nothing (StartIs b) (λ e. e) (λ _. tt)))))))))
 
+-- what each byte begins
 told_by_start : (s : Start) (b : ℕ) (text : List ℕ) → StartIs b s → Answers (b ∷ text) (found_by s b text)
 unfolding quote_found
 told_by_start start.Run b text e = told-run_byte b text e

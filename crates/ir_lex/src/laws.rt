@@ -1,6 +1,6 @@
-//! Laws of tokens: a text has one list of tokens or one place at which it stops, and never both.
+//! Laws of tokens: a text has one list of tokens, or one place at which it stops, and never both.
 
-ghost use Rattle.std.specs.Prelude.{◌≡◌, ℕ, List};
+ghost use Rattle.std.specs.Prelude.{◌≡◌, ℕ, List, ◌⊎◌};
 ghost use Rattle.ir_lex.specs.declared.token.Token.{Token};
 ghost use Rattle.ir_lex.specs.Tokens.{Scans, Stops};
 
@@ -17,4 +17,9 @@ pub fn one_place()
 /// A text that stops has no tokens.
 pub fn never_both()
     ensures { (text : List ℕ) (place : ℕ) (tokens : List Token) → Stops text place → ¬ (Scans text tokens) }
+{}
+
+/// A text has tokens, or it stops.
+pub fn either()
+    ensures { (text : List ℕ) → ((tokens : List Token) × Scans text tokens) ⊎ ((place : ℕ) × Stops text place) }
 {}

@@ -5,7 +5,7 @@
 //! `specs/Tokens.antt`; that a text has one list of tokens at most, and faults at one place, in `laws`.
 #![tactic(auto)]
 
-ghost use Rattle.std.specs.Prelude.{◌≡◌, List as Row, IfOk, IfErr};
+ghost use Rattle.std.specs.Prelude.{IfOk, IfErr};
 ghost use Rattle.ir_lex.specs.Tokens.{Scans, Faults};
 
 mod class;
@@ -13,6 +13,8 @@ mod escape;
 mod first;
 pub mod laws;
 mod number;
+#[cfg(test)]
+mod tests;
 pub mod token;
 
 use crate::first::{Found, find};
@@ -21,7 +23,7 @@ use rd_num::list::List;
 use std::alloc::Global;
 
 /// Why a text has no tokens: at `place` begins the first piece that is no token, or memory is wanting.
-#[derive(Clone, Copy, PartialEq, Eq, Debug)]
+#[derive(Clone, Copy, Debug)]
 pub enum LexFault {
     At { place: u64 },
     NoMemory,
