@@ -4,3 +4,5 @@ pub mod Values
 pub mod Templates
 pub mod Held
 pub mod Narrow
+pub mod Fit
+pub mod WellFormed

@@ -19,7 +19,7 @@ use Rattle.obj_core.specs.Cut.{spelled}
 use Rattle.rd_compile.specs.NarrowCode.{instruction_code, instructions_code, end_code, main_bytes, frame_bytes, frame_code, value_into, operation_code, home, HasPlaces, AllHavePlaces}
 
 pub wider : (k n : ℕ) (v : Value) → k ≤ n → HasPlaces k v → HasPlaces n v
-wider k n (Number m) le h = tt
+wider k n (Number m) le h = h
 wider k n (Earlier j) le h = omega arith
 
 pub spelled-append : (xs ys : List Instr) → spelled (xs ++ ys) ≡ spelled xs ++ spelled ys

@@ -31,7 +31,7 @@ turned : (n : ℕ) → n ≤ 2147483648 → (b : Bool) → nat_eq n 0 ≡ b → 
 turned n le true e = record { is_same = refl; small = omega arith }
 turned n le false e = record { is_same = omega arith; small = omega arith }
 
-integer_word : (v : List ℕ) (z : ℤ) → integer_of v ≡ Some z → IsWord z
+pub integer_word : (v : List ℕ) (z : ℤ) → integer_of v ≡ Some z → IsWord z
 integer_word [] z h = absurd (cc)
 integer_word (c ∷ cs) z h = by_sign (nat_eq c 45) h
   where
