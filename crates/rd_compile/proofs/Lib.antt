@@ -6,3 +6,4 @@ pub mod Held
 pub mod Narrow
 pub mod Fit
 pub mod WellFormed
+pub mod Compiled
