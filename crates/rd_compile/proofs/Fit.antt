@@ -34,9 +34,11 @@ value_fits names v x h = by_form (behind_percent v) h
     by_integer : (o : Option ℤ) → integer_of v ≡ o → number o ≡ Some x → HasPlaces (length names) x
     by_integer None e k = absurd (cc)
     by_integer (Some z) e k = let s : Number (word_of z) ≡ x = cc in subst (HasPlaces (length names)) s (integer_word v z e).small
+
     by_place : (q : List ℕ) (o : Option ℕ) → place_of names q ≡ o → earlier o ≡ Some x → HasPlaces (length names) x
     by_place q None e k = absurd (cc)
     by_place q (Some j) e k = let s : Earlier j ≡ x = cc in subst (HasPlaces (length names)) s (place_below names q j e)
+
     by_form : (o : Option (List ℕ)) → value_or names v o ≡ Some x → HasPlaces (length names) x
     by_form None k = by_integer (integer_of v) refl k
     by_form (Some q) k = by_place q (place_of names q) refl k

@@ -187,8 +187,8 @@ module _ (slot_seed reg_seed : ℕ) (p : Program) (n : Narrow) (few : length n.i
       let value : value_of (names_of before) p.result ≡ Some n.result = ap (λ rs. value_of (names_of rs) p.result) (sym rows) ∙ resolved.result in
       let x = operand_value m results (names_of before) locals bytes held p.result n.result value in
       let returns : source_step m input s ≡ record s { ending = Ended (x.number % 256) } =
-          last_return_here m input s (call_at (length before) locals) main block word_type (operand_of p.result) W32 x.number refl refl (stands (length before) locals None past) refl
-          (ap (λ k. module_value m locals k (operand_of p.result)) (kind-int W32) ∙ x.in_module) in
+      last_return_here m input s (call_at (length before) locals) main block word_type (operand_of p.result) W32 x.number refl refl (stands (length before) locals None past) refl
+      (ap (λ k. module_value m locals k (operand_of p.result)) (kind-int W32) ∙ x.in_module) in
       let count : length (names_of before) ≡ results = names_long before ∙ same ∙ ap length (sym (code ∙ append-nil done)) in
       let in_object : IsValue results results bytes n.result x.number = subst (λ c. IsValue results c bytes n.result x.number) count x.in_object in
       let instr = value_instr Rdi n.result results bytes x.number few x.small in_object in
@@ -212,16 +212,16 @@ module _ (slot_seed reg_seed : ℕ) (p : Program) (n : Narrow) (few : length n.i
       let kb : k ≡ length before = names_long before in
       let kd : k ≡ length done = kb ∙ same in
       let here : slice_get (map instruction_of_row p.rows) (length before) ≡ Some (instruction_of_row r) =
-          ap (λ rs. slice_get (map instruction_of_row rs) (length before)) split ∙ ap (λ l. slice_get l (length before)) (map-append instruction_of_row before (r ∷ rows)) ∙
-          ap (slice_get (map instruction_of_row before ++ instruction_of_row r ∷ map instruction_of_row rows)) (sym (length-map before instruction_of_row)) ∙ get_behind (map instruction_of_row before) (map instruction_of_row rows) (instruction_of_row r) in
+      ap (λ rs. slice_get (map instruction_of_row rs) (length before)) split ∙ ap (λ l. slice_get l (length before)) (map-append instruction_of_row before (r ∷ rows)) ∙
+      ap (slice_get (map instruction_of_row before ++ instruction_of_row r ∷ map instruction_of_row rows)) (sym (length-map before instruction_of_row)) ∙ get_behind (map instruction_of_row before) (map instruction_of_row rows) (instruction_of_row r) in
       let a = operand_value m results names locals bytes held r.left i.left match.left in
       let b = operand_value m results names locals bytes held r.right i.right match.right in
       let w = result_of i.operation a.number b.number in
       let op = binary_is i.operation a.number b.number in
       let does : binary (operation_in_module r.operation) W32 a.number b.number ≡ Ok w = ap (λ o. binary (operation_in_module o) W32 a.number b.number) match.operation ∙ op in
       let steps : source_step m input s ≡ source_at (length before + 1) (record { name = r.name; value = Num W32 w } ∷ locals) =
-          binary_here m input s (call_at (length before) locals) [] main block (Some r.name) (operation_in_module r.operation) word_type (operand_of r.left) (operand_of r.right) W32 W32 W32 a.number b.number w refl refl
-          (stands (length before) locals (Some (instruction_of_row r)) here) (kind-int W32) a.in_module b.in_module does in
+      binary_here m input s (call_at (length before) locals) [] main block (Some r.name) (operation_in_module r.operation) word_type (operand_of r.left) (operand_of r.right) W32 W32 W32 a.number b.number w refl refl
+      (stands (length before) locals (Some (instruction_of_row r)) here) (kind-int W32) a.in_module b.in_module does in
       let long : length n.instructions ≡ length done + length (i ∷ todo) = ap length code ∙ length-append done (i ∷ todo) in
       let below : k < results = omega (arith, long, kd) in
       let fewer : k ≤ 4000 = omega (arith, below, few) in
@@ -233,16 +233,16 @@ module _ (slot_seed reg_seed : ℕ) (p : Program) (n : Narrow) (few : length n.i
       let si : 8 * k < 2 ^ 31 = omega (arith, fewer) in
       let more_code = instructions_code (k + 1) todo ++ end_code n.result in
       let around : main_code n ≡ (frame_code results ++ instructions_code 0 done) ++ (instruction_code k i ++ more_code) =
-          code_around done (i ∷ todo) code ∙ ap (λ j. (frame_code results ++ instructions_code 0 done) ++ (instructions_code j (i ∷ todo) ++ end_code n.result)) (sym kd) ∙
-          ap (λ c. (frame_code results ++ instructions_code 0 done) ++ c) (append_assoc (instruction_code k i) (instructions_code (k + 1) todo) (end_code n.result)) in
+      code_around done (i ∷ todo) code ∙ ap (λ j. (frame_code results ++ instructions_code 0 done) ++ (instructions_code j (i ∷ todo) ++ end_code n.result)) (sym kd) ∙
+      ap (λ c. (frame_code results ++ instructions_code 0 done) ++ c) (append_assoc (instruction_code k i) (instructions_code (k + 1) todo) (end_code n.result)) in
       let stood = stands_in (frame_code results ++ instructions_code 0 done) (instruction_code k i) more_code (li, (ri, (oi, (si, tt)))) around in
       let stood2 : Stand (main_bytes n) (offset done) (instruction_code k i ++ []) = stood in
       let comes = instruction_comes slot_seed reg_seed n few input (offset done) k rax rcx 0 a.number b.number flags bytes i [] below a.small b.small (result_small i.operation a.number b.number) stack left right stood2 in
       let x = held_more results few names locals bytes stack r.name match.fresh below w (result_small i.operation a.number b.number) held in
       let ends : offset done + length (spelled (instruction_code k i)) ≡ offset (done ++ i ∷ []) =
-          sym (length-spelled-append (frame_code results ++ instructions_code 0 done) (instruction_code k i)) ∙
-          ap (λ c. length (spelled c)) (append_assoc (frame_code results) (instructions_code 0 done) (instruction_code k i)) ∙
-          ap (λ c. length (spelled (frame_code results ++ c))) (one_code done i k kd) in
+      sym (length-spelled-append (frame_code results ++ instructions_code 0 done) (instruction_code k i)) ∙
+      ap (λ c. length (spelled c)) (append_assoc (frame_code results) (instructions_code 0 done) (instruction_code k i)) ∙
+      ap (λ c. length (spelled (frame_code results ++ c))) (one_code done i k kd) in
       let changed = comes.0 in
       let t = spot slot_seed reg_seed n few input (offset done + length (spelled (instruction_code k i))) w b.number 0 changed (written results few names locals bytes stack r.name match.fresh below w (result_small i.operation a.number b.number)) in
       let stage : Stage input (source_at (length before + 1) (record { name = r.name; value = Num W32 w } ∷ locals)) t = record {

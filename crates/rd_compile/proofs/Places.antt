@@ -99,7 +99,7 @@ main_long n =
     let es = spelled (end_code n.result) in
     let fs = spelled (frame_code (length n.instructions)) in
     let e =
-        ap length (spelled-append (frame_code (length n.instructions)) (instructions_code 0 n.instructions ++ end_code n.result)) ∙
-        length-append fs (spelled (instructions_code 0 n.instructions ++ end_code n.result)) ∙
-        ap (λ r. length fs + r) (ap length (spelled-append (instructions_code 0 n.instructions) (end_code n.result)) ∙ length-append is es) in
+    ap length (spelled-append (frame_code (length n.instructions)) (instructions_code 0 n.instructions ++ end_code n.result)) ∙
+    length-append fs (spelled (instructions_code 0 n.instructions ++ end_code n.result)) ∙
+    ap (λ r. length fs + r) (ap length (spelled-append (instructions_code 0 n.instructions) (end_code n.result)) ∙ length-append is es) in
     record { most = omega (arith, a, b.0, e); least = omega (arith, b.1, e) }

@@ -55,11 +55,10 @@ store_quiet k lt = record { instr = omega arith; bytes = (omega arith, (omega ar
 
 instructions_quiet : (k : ℕ) (is : List Instruction) → k + length is ≤ 4000 → AllHavePlaces k is → Each IsQuiet (instructions_code k is)
 instructions_quiet k [] le h = tt
-instructions_quiet k (i ∷ is) le h =
-    (
-      value_quiet Rax tt i.left (wider k 4000 i.left (omega arith) h.0.0),
-      (value_quiet Rcx tt i.right (wider k 4000 i.right (omega arith) h.0.1), (operation_quiet i.operation, (store_quiet k (omega arith), instructions_quiet (k + 1) is (omega arith) h.1))),
-    )
+instructions_quiet k (i ∷ is) le h = (
+  value_quiet Rax tt i.left (wider k 4000 i.left (omega arith) h.0.0),
+  (value_quiet Rcx tt i.right (wider k 4000 i.right (omega arith) h.0.1), (operation_quiet i.operation, (store_quiet k (omega arith), instructions_quiet (k + 1) is (omega arith) h.1))),
+)
 
 constant_quiet : IsQuiet (MovImm32 Rax 60)
 constant_quiet = record { instr = omega arith; bytes = (omega arith, (omega arith, (omega arith, (omega arith, (omega arith, tt))))); inside = refl; straight = refl }
@@ -122,11 +121,10 @@ module _ (n : Narrow) (fit : IsFit n) where
 
   quiet : Each IsQuiet front
   quiet =
-      let few : length n.instructions ≤ 4000 = fit.few in
-      (
+      let few : length n.instructions ≤ 4000 = fit.few in (
         record { instr = omega arith; bytes = (omega arith, (omega arith, (omega arith, (omega arith, (omega arith, (omega arith, (omega arith, tt))))))); inside = refl; straight = refl },
         each_append IsQuiet (instructions_code 0 n.instructions) (value_into Rdi n.result ∷ MovImm32 Rax 60 ∷ []) (instructions_quiet 0 n.instructions (omega arith) fit.places)
-        (value_quiet Rdi tt n.result (wider (length n.instructions) 4000 n.result few fit.result_place), (constant_quiet, tt)),
+            (value_quiet Rdi tt n.result (wider (length n.instructions) 4000 n.result few fit.result_place), (constant_quiet, tt)),
       )
 
   -- where the jump to the system call begins
@@ -161,7 +159,7 @@ module _ (n : Narrow) (fit : IsFit n) where
   links_good =
       let e : nat_eq (turn + 5) (length (main_bytes n) - 6 + 4) ≡ true = eq-eqb _ _ (sym link_end) in
       let f : fills_zero (found (main_code n)) (length (main_bytes n) - 6) ≡ true =
-          ap (λ xs. fills_zero xs (length (main_bytes n) - 6)) whole ∙ fills_behind (found_from 0 front) (record { at = turn; instr = Jmp (pos 0) }) _ (length (main_bytes n) - 6) (ap (λ b. b && true) e) in
+      ap (λ xs. fills_zero xs (length (main_bytes n) - 6)) whole ∙ fills_behind (found_from 0 front) (record { at = turn; instr = Jmp (pos 0) }) _ (length (main_bytes n) - 6) (ap (λ b. b && true) e) in
       ap (λ b. if b && true then [] else (length (main_bytes n) - 6) ∷ []) f
 
   branches_good : bad_branches links (found (main_code n)) (found (main_code n)) ≡ []
@@ -179,7 +177,7 @@ module _ (n : Narrow) (fit : IsFit n) where
   back_starts : starts_at (found (main_code n)) (length (main_bytes n) - 2) ≡ true
   back_starts =
       let two : found (main_code n) ≡ (found_from 0 front ++ record { at = turn; instr = Jmp (pos 0) } ∷ []) ++ record { at = turn + 5; instr = Ud2 } ∷ [] =
-          whole ∙ sym (append_assoc (found_from 0 front) (record { at = turn; instr = Jmp (pos 0) } ∷ []) (record { at = turn + 5; instr = Ud2 } ∷ [])) in
+      whole ∙ sym (append_assoc (found_from 0 front) (record { at = turn; instr = Jmp (pos 0) } ∷ []) (record { at = turn + 5; instr = Ud2 } ∷ [])) in
       ap (λ xs. starts_at xs (length (main_bytes n) - 2)) two ∙ starts_behind (found_from 0 front ++ record { at = turn; instr = Jmp (pos 0) } ∷ []) (record { at = turn + 5; instr = Ud2 }) [] (length (main_bytes n) - 2) (eq-eqb _ _ back_at)
 
   module _ (slot_seed reg_seed : ℕ) (slot_fits : slot_seed < 2 ^ 64) (reg_fits : reg_seed < 2 ^ 64) where

@@ -26,12 +26,7 @@ pub mod compile;
 pub mod words;
 
 /// Does what the words ask for; puts nothing on the sink for messages.
-fn work<F: Files, O: Sink>(
-    alloc: Global,
-    words: &[String],
-    files: &mut F,
-    out: &mut O,
-) -> Answer
+fn work<F: Files, O: Sink>(alloc: Global, words: &[String], files: &mut F, out: &mut O) -> Answer
     ensures words { (result ≡ Answer.Words) ↔ (reading_of (map string_bytes words.now) ≡ Option.None) }
     ensures done { result ≡ Answer.Done → Writes (F.held files.old) (reading_of (map string_bytes words.now)) (record { written = O.written out.old; total = O.total out.old }) (record { written = O.written out.new; total = O.total out.new }) }
     ensures failed { result ≡ Answer.File → Rose (F.faults files.old) (F.faults files.new) × Names (reading_of (map string_bytes words.now)) (F.lost files.new) }
@@ -43,11 +38,13 @@ fn work<F: Files, O: Sink>(
 {
     match read_words(words) {
         None => Answer::Words,
-        Some(Command::Compile {
-            file,
-            slot_seed,
-            reg_seed,
-        }) => compile_file(alloc, file, slot_seed, reg_seed, files, out),
+        Some(
+            Command::Compile {
+                file,
+                slot_seed,
+                reg_seed,
+            },
+        ) => compile_file(alloc, file, slot_seed, reg_seed, files, out),
     }
 }
 
