@@ -133,7 +133,7 @@ module _ (front : Bool → Bool → List ℕ) (pre : Bool → Bool → Prefix) (
   two_row_back make opens x y rest =
       let f : List ℕ = front (extended x) (extended y) in
       let whole : (f ++ (op ++ (registers x y ∷ []))) ++ rest ≡ f ++ (op ++ (registers x y ∷ rest)) =
-          append_assoc f (op ++ (registers x y ∷ [])) rest ∙ ap (λ (xs : List ℕ). f ++ xs) (append_assoc op (registers x y ∷ []) rest)
+      append_assoc f (op ++ (registers x y ∷ [])) rest ∙ ap (λ (xs : List ℕ). f ++ xs) (append_assoc op (registers x y ∷ []) rest)
       in
       let size : length f + (length op + 1) ≡ length (f ++ (op ++ (registers x y ∷ []))) = omega (arith, length-append f (op ++ (registers x y ∷ [])), length-append op (registers x y ∷ [])) in
       ap decode whole ∙ opens (extended x) (extended y) x y rest ∙
@@ -147,10 +147,10 @@ module _ (front : Bool → Bool → List ℕ) (pre : Bool → Bool → Prefix) (
   memory_row_back make opens x m rest h =
       let f : List ℕ = front (extended x) (extended m.base) in
       let whole : (f ++ (op ++ memory x m)) ++ rest ≡ f ++ (op ++ (memory x m ++ rest)) =
-          append_assoc f (op ++ memory x m) rest ∙ ap (λ (xs : List ℕ). f ++ xs) (append_assoc op (memory x m) rest)
+      append_assoc f (op ++ memory x m) rest ∙ ap (λ (xs : List ℕ). f ++ xs) (append_assoc op (memory x m) rest)
       in
       let size : length f + (length op + 5) + length (index_of m.base) ≡ length (f ++ (op ++ memory x m)) =
-          omega (arith, length-append f (op ++ memory x m), length-append op (memory x m), length-append (index_of m.base) (number32 m.disp))
+      omega (arith, length-append f (op ++ memory x m), length-append op (memory x m), length-append (index_of m.base) (number32 m.disp))
       in
       ap decode whole ∙ opens (extended x) (extended m.base) x m rest ∙
       memory_back make (length f + (length op + 5)) (pre (extended x) (extended m.base)) x m rest h (reg_is (extended x) (extended m.base)) (rm_is (extended x) (extended m.base)) ∙
@@ -274,7 +274,7 @@ module _ (front : Bool → List ℕ) (pre : Bool → Prefix) (op : List ℕ) (rm
   digit_row_back n y tail rest h =
       let f : List ℕ = front (extended y) in
       let whole : (f ++ (op ++ (digit n y ∷ tail))) ++ rest ≡ f ++ (op ++ (digit n y ∷ (tail ++ rest))) =
-          append_assoc f (op ++ (digit n y ∷ tail)) rest ∙ ap (λ (xs : List ℕ). f ++ xs) (append_assoc op (digit n y ∷ tail) rest)
+      append_assoc f (op ++ (digit n y ∷ tail)) rest ∙ ap (λ (xs : List ℕ). f ++ xs) (append_assoc op (digit n y ∷ tail) rest)
       in
       ap decode whole ∙ opens (extended y) (digit n y ∷ (tail ++ rest)) ∙ digit_back (row (extended y)) (pre (extended y)) n y (tail ++ rest) h (rm_is (extended y))
 

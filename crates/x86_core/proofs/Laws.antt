@@ -78,8 +78,10 @@ pub cut_short : (bs : List ℕ) → All (λ b. b < 256) bs → IsCut bs → deco
 cut_short bs h c = answer (decode bs) refl where
   more : List ℕ
   more = c.next ∷ c.more
+
   whole : decode (bs ++ more) ≡ One c.whole (length (encoding c.whole))
   whole = ap decode (sym c.goes_on) ∙ whole_back c.whole c.is_instr
+
   answer : (d : Decoded) → decode bs ≡ d → decode bs ≡ Short
   answer Short e = e
   answer Unknown e = absurd (cc (sym (decode_good.stays bs more e) ∙ whole))

@@ -31,24 +31,24 @@ push_good : (p : Prefix) (n : ℕ) → n < 8 → Good (Rows.spelled p ++ (0x50 +
 push_good p n h =
     good_where _ (is_narrow p && not (reg_bit p)) (λ bs. One (Push (reg_at (rm_bit p) n)) (prefix_size p + 1))
     (λ t. row (Rows.left_true (is_narrow p) (not (reg_bit p)) t) (Rows.not_true (reg_bit p) (Rows.right_true (is_narrow p) (not (reg_bit p)) t))) where
-  row : is_narrow p ≡ true → reg_bit p ≡ false → Good (Rows.spelled p ++ (0x50 + n) ∷ []) (λ bs. One (Push (reg_at (rm_bit p) n)) (prefix_size p + 1))
-  row e none =
-      let r : HasBits (reg_at (rm_bit p) n) (rm_bit p) n = reg_at_bits (rm_bit p) n h in
-      good_one _ (Push (reg_at (rm_bit p) n)) (prefix_size p + 1) tt
-      (ap (λ (k : ℕ). rex_if false false (extended (reg_at (rm_bit p) n)) ++ ((0x50 + k) ∷ [])) r.below ∙ ap (λ (xs : List ℕ). xs ++ ((0x50 + n) ∷ [])) (Rows.narrow_front p false _ (sym none) r.above e))
-      (Rows.sized_front p ((0x50 + n) ∷ []) 1 refl)
+      row : is_narrow p ≡ true → reg_bit p ≡ false → Good (Rows.spelled p ++ (0x50 + n) ∷ []) (λ bs. One (Push (reg_at (rm_bit p) n)) (prefix_size p + 1))
+      row e none =
+          let r : HasBits (reg_at (rm_bit p) n) (rm_bit p) n = reg_at_bits (rm_bit p) n h in
+          good_one _ (Push (reg_at (rm_bit p) n)) (prefix_size p + 1) tt
+          (ap (λ (k : ℕ). rex_if false false (extended (reg_at (rm_bit p) n)) ++ ((0x50 + k) ∷ [])) r.below ∙ ap (λ (xs : List ℕ). xs ++ ((0x50 + n) ∷ [])) (Rows.narrow_front p false _ (sym none) r.above e))
+          (Rows.sized_front p ((0x50 + n) ∷ []) 1 refl)
 
 -- 58 to 5F
 pop_good : (p : Prefix) (n : ℕ) → n < 8 → Good (Rows.spelled p ++ (0x58 + n) ∷ []) (λ bs. Decoding.pop_row p n)
 pop_good p n h =
     good_where _ (is_narrow p && not (reg_bit p)) (λ bs. One (Pop (reg_at (rm_bit p) n)) (prefix_size p + 1))
     (λ t. row (Rows.left_true (is_narrow p) (not (reg_bit p)) t) (Rows.not_true (reg_bit p) (Rows.right_true (is_narrow p) (not (reg_bit p)) t))) where
-  row : is_narrow p ≡ true → reg_bit p ≡ false → Good (Rows.spelled p ++ (0x58 + n) ∷ []) (λ bs. One (Pop (reg_at (rm_bit p) n)) (prefix_size p + 1))
-  row e none =
-      let r : HasBits (reg_at (rm_bit p) n) (rm_bit p) n = reg_at_bits (rm_bit p) n h in
-      good_one _ (Pop (reg_at (rm_bit p) n)) (prefix_size p + 1) tt
-      (ap (λ (k : ℕ). rex_if false false (extended (reg_at (rm_bit p) n)) ++ ((0x58 + k) ∷ [])) r.below ∙ ap (λ (xs : List ℕ). xs ++ ((0x58 + n) ∷ [])) (Rows.narrow_front p false _ (sym none) r.above e))
-      (Rows.sized_front p ((0x58 + n) ∷ []) 1 refl)
+      row : is_narrow p ≡ true → reg_bit p ≡ false → Good (Rows.spelled p ++ (0x58 + n) ∷ []) (λ bs. One (Pop (reg_at (rm_bit p) n)) (prefix_size p + 1))
+      row e none =
+          let r : HasBits (reg_at (rm_bit p) n) (rm_bit p) n = reg_at_bits (rm_bit p) n h in
+          good_one _ (Pop (reg_at (rm_bit p) n)) (prefix_size p + 1) tt
+          (ap (λ (k : ℕ). rex_if false false (extended (reg_at (rm_bit p) n)) ++ ((0x58 + k) ∷ [])) r.below ∙ ap (λ (xs : List ℕ). xs ++ ((0x58 + n) ∷ [])) (Rows.narrow_front p false _ (sym none) r.above e))
+          (Rows.sized_front p ((0x58 + n) ∷ []) 1 refl)
 
 -- B8 to BF
 module _ (p : Prefix) (n : ℕ) (h : n < 8) where
@@ -242,6 +242,7 @@ second_good (Word r b) = record { says = λ bs h. says bs; stays = stays } where
   says : (bs : List ℕ) → Says ((Rows.spelled (Word r b) ++ 0x0F ∷ []) ++ bs) (Decoding.second (Word r b) bs)
   says [] = tt
   says (c ∷ bs) = tt
+
   stays : (bs more : List ℕ) → Decoding.second (Word r b) bs ≡ Unknown → Decoding.second (Word r b) (bs ++ more) ≡ Unknown
   stays [] [] e = refl
   stays [] (c ∷ more) e = refl
@@ -331,8 +332,8 @@ word_prefixed_good =
     good_next (0x66 ∷ []) Decoding.word_prefixed (λ b bs. if is_rex b then Decoding.after_word (rex_of b) bs else opcode_rows (Word false false) b bs)
     refl (λ b bs. refl) (cut_of (0x66 ∷ []) (High HighSize.W16) 0x99 [] tt refl)
     (λ b. good_if (0x66 ∷ b ∷ []) (is_rex b) (Decoding.after_word (rex_of b)) (opcode_rows (Word false false) b) (rexed b) (λ e. opcode_good (Word false false) b)) where
-  rexed : (b : ℕ) → is_rex b ≡ true → Good (0x66 ∷ b ∷ []) (Decoding.after_word (rex_of b))
-  rexed b e = subst (λ (x : ℕ). Good (0x66 ∷ x ∷ []) (Decoding.after_word (rex_of b))) (rex_back b e) (after_good (nat_eq (b / 8 % 2) 1) (nat_eq (b / 4 % 2) 1) (nat_eq (b % 2) 1))
+      rexed : (b : ℕ) → is_rex b ≡ true → Good (0x66 ∷ b ∷ []) (Decoding.after_word (rex_of b))
+      rexed b e = subst (λ (x : ℕ). Good (0x66 ∷ x ∷ []) (Decoding.after_word (rex_of b))) (rex_back b e) (after_good (nat_eq (b / 8 % 2) 1) (nat_eq (b / 4 % 2) 1) (nat_eq (b % 2) 1))
 
 -- all bytes
 pub decode_good : Good [] decode
@@ -342,5 +343,5 @@ decode_good =
     refl (λ b bs. refl) (cut_of [] Nop 0x90 [] tt refl)
     (λ b. good_byte [] b 0x66 Decoding.word_prefixed (λ bs. if is_rex b then opcode (rex_of b) bs else opcode_rows Plain b bs) word_prefixed_good
     (good_if (b ∷ []) (is_rex b) (opcode (rex_of b)) (opcode_rows Plain b) (rexed b) (λ e. opcode_good Plain b))) where
-  rexed : (b : ℕ) → is_rex b ≡ true → Good (b ∷ []) (opcode (rex_of b))
-  rexed b e = subst (λ (x : ℕ). Good (x ∷ []) (opcode (rex_of b))) (rex_back b e) (prefixed_good (rex_of b) refl)
+      rexed : (b : ℕ) → is_rex b ≡ true → Good (b ∷ []) (opcode (rex_of b))
+      rexed b e = subst (λ (x : ℕ). Good (x ∷ []) (opcode (rex_of b))) (rex_back b e) (prefixed_good (rex_of b) refl)
