@@ -1,7 +1,7 @@
 //! Effects at the edges of numbers and flags, as an x86-64 processor gives them; flags that the
 //! manual leaves undefined are unknown here. Each word stands whole, so that what a row keeps shows.
 
-use crate::effect::{Access, Next, effect};
+use crate::effect::{Access, Change, Next, effect};
 use crate::flags::{Flag, Flags};
 use crate::instr::{AluOp, Cond, HighSize, ImmOp, Instr, Mem, ShiftOp, Size, Wide, WidenKind};
 use crate::reg::{Reg, Regs};
@@ -25,6 +25,14 @@ fn words(rax: u64, rcx: u64, rdx: u64) -> Regs {
     regs.set(Reg::Rcx, rcx);
     regs.set(Reg::Rdx, rdx);
     regs
+}
+
+// Whether rax and rdx, the flags and the next place are these.
+fn leaves(change: &Change, rax: u64, rdx: u64, known: [Flag; 4], next: Next) -> bool {
+    change.regs.get(Reg::Rax) == rax
+        && change.regs.get(Reg::Rdx) == rdx
+        && change.flags == flags(known)
+        && change.next == next
 }
 
 #[test]
@@ -69,8 +77,7 @@ fn sums_differences_and_bits(rt: HostRuntime) {
         (AluOp::Test, Wide::W32, 0x1111111100F0F0F0, 0x22222222000F0F0F, 0x1111111100F0F0F0, [N, Y, N, N]),
     ] {
         let change = effect(&Instr::Alu(op, w, Reg::Rax, Reg::Rcx), &words(a, b, 0), &flags([U, U, U, U]));
-        assert_eq!(rt; change.regs.get(Reg::Rax), result, "of {a:x} and {b:x}");
-        assert!(rt; change.flags == flags(after), "after {a:x} and {b:x}");
+        assert!(rt; leaves(&change, result, 0, after, Next::Fall), "of {a:x} and {b:x}");
     }
 }
 
@@ -92,8 +99,7 @@ fn operations_with_constants(rt: HostRuntime) {
         (ImmOp::Cmp, Wide::W64, 0x8000000000000001, -2147483648, 0x8000000000000001, [Y, N, Y, N]),
     ] {
         let change = effect(&Instr::AluImm(op, w, Reg::Rax, n), &words(a, 0, 0), &flags([U, U, U, U]));
-        assert_eq!(rt; change.regs.get(Reg::Rax), result, "of {a:x} and {n}");
-        assert!(rt; change.flags == flags(after), "after {a:x} and {n}");
+        assert!(rt; leaves(&change, result, 0, after, Next::Fall), "of {a:x} and {n}");
     }
 }
 
@@ -141,8 +147,7 @@ fn shifts_by_the_low_byte_of_rcx(rt: HostRuntime) {
         (ShiftOp::Sar, Wide::W64, 0x40, 0x8765432187654321, [Y, Y, Y, Y]),
     ] {
         let change = effect(&Instr::Shift(op, w, Reg::Rax), &words(0x8765432187654321, by, 0), &flags([Y, Y, Y, Y]));
-        assert_eq!(rt; change.regs.get(Reg::Rax), result, "by {by:x}");
-        assert!(rt; change.flags == flags(after), "after {by:x}");
+        assert!(rt; leaves(&change, result, 0, after, Next::Fall), "by {by:x}");
     }
 }
 
@@ -196,14 +201,11 @@ fn divisions_and_their_faults(rt: HostRuntime) {
         (true, Size::W64, 1, 0, 0, None),
     ] {
         let change = effect(&Instr::Div(signed, size, Reg::Rcx), &words(rax, rcx, rdx), &flags([Y, N, Y, N]));
-        let (answer, known, next) = match after {
-            Some(words) => (words, [U, U, U, U], Next::Fall),
-            None => ((rax, rdx), [Y, N, Y, N], Next::Divide),
+        let right = match after {
+            Some((quotient, remainder)) => leaves(&change, quotient, remainder, [U, U, U, U], Next::Fall),
+            None => leaves(&change, rax, rdx, [Y, N, Y, N], Next::Divide),
         };
-        assert_eq!(rt; change.regs.get(Reg::Rax), answer.0, "of {rdx:x} {rax:x} by {rcx:x}");
-        assert_eq!(rt; change.regs.get(Reg::Rdx), answer.1, "of {rdx:x} {rax:x} by {rcx:x}");
-        assert!(rt; change.flags == flags(known), "after {rdx:x} {rax:x} by {rcx:x}");
-        assert!(rt; change.next == next, "next of {rdx:x} {rax:x} by {rcx:x}");
+        assert!(rt; right, "of {rdx:x} {rax:x} by {rcx:x}");
     }
 }
 
@@ -237,12 +239,39 @@ fn moves_products_and_signs(rt: HostRuntime) {
         (Instr::Lea(Reg::Rax, Mem { base: Reg::Rcx, disp: 0x7FFFFFFF }), 0xFFFFFFFFFFFFFFFF, 0xFFFFFFFFFFFFFFFB, 0, 0x7FFFFFFA, 0),
     ] {
         let change = effect(&instr, &words(rax, rcx, rdx), &flags([Y, N, Y, N]));
-        assert_eq!(rt; change.regs.get(Reg::Rax), after, "of {rax:x} {rcx:x} {rdx:x}");
-        assert_eq!(rt; change.regs.get(Reg::Rdx), last, "of {rax:x} {rcx:x} {rdx:x}");
-        assert_eq!(rt; change.regs.get(Reg::Rcx), rcx, "of {rax:x} {rcx:x} {rdx:x}");
         let known = if matches!(&instr, Instr::Imul(_, _, _)) { [U, U, U, U] } else { [Y, N, Y, N] };
-        assert!(rt; change.flags == flags(known), "after {rax:x} {rcx:x} {rdx:x}");
+        assert!(rt; leaves(&change, after, last, known, Next::Fall), "of {rax:x} {rcx:x} {rdx:x}");
     }
+}
+
+// A condition's effects on words that differ: on a byte, on a register, on the next place.
+fn sets(c: Cond, known: [Flag; 4]) -> u64 {
+    let regs = words(0x1111111111111111, 0x2222222222222222, 0);
+    effect(&Instr::SetCond(c, Reg::Rax), &regs, &flags(known))
+        .regs
+        .get(Reg::Rax)
+}
+
+fn moves(c: Cond, known: [Flag; 4]) -> u64 {
+    let regs = words(0x1111111111111111, 0x2222222222222222, 0);
+    effect(&Instr::Cmov(c, Reg::Rax, Reg::Rcx), &regs, &flags(known))
+        .regs
+        .get(Reg::Rax)
+}
+
+fn branches(c: Cond, known: [Flag; 4]) -> Next {
+    effect(&Instr::Jcc(c, -6), &words(0, 0, 0), &flags(known)).next
+}
+
+// Whether a condition that lacks a flag stops, even where both answers are one.
+fn stops(c: Cond, known: [Flag; 4]) -> bool {
+    let set = effect(&Instr::SetCond(c, Reg::Rax), &words(0, 0, 0), &flags(known));
+    let choose = effect(
+        &Instr::Cmov(c, Reg::Rax, Reg::Rax),
+        &words(0, 0, 0),
+        &flags(known),
+    );
+    set.next == Next::NoFlag && choose.next == Next::NoFlag && branches(c, known) == Next::NoFlag
 }
 
 #[test]
@@ -272,19 +301,9 @@ fn conditions_need_the_flags_that_they_name(rt: HostRuntime) {
         (Cond::G, [U, N, Y, Y], [U, N, Y, N], [Y, N, U, Y]),
         (Cond::G, [U, N, Y, Y], [U, N, N, Y], [Y, N, Y, U]),
     ] {
-        let regs = words(0x1111111111111111, 0x2222222222222222, 0);
-        let set = Instr::SetCond(c, Reg::Rax);
-        let choose = Instr::Cmov(c, Reg::Rax, Reg::Rcx);
-        let branch = Instr::Jcc(c, -6);
-        assert_eq!(rt; effect(&set, &regs, &flags(holding)).regs.get(Reg::Rax), 0x1111111111111101);
-        assert_eq!(rt; effect(&set, &regs, &flags(failing)).regs.get(Reg::Rax), 0x1111111111111100);
-        assert!(rt; effect(&set, &regs, &flags(unknown)).next == Next::NoFlag);
-        assert_eq!(rt; effect(&choose, &regs, &flags(holding)).regs.get(Reg::Rax), 0x2222222222222222);
-        assert_eq!(rt; effect(&choose, &regs, &flags(failing)).regs.get(Reg::Rax), 0x1111111111111111);
-        assert!(rt; effect(&choose, &regs, &flags(unknown)).next == Next::NoFlag);
-        assert!(rt; effect(&branch, &regs, &flags(holding)).next == Next::Branch(-6));
-        assert!(rt; effect(&branch, &regs, &flags(failing)).next == Next::Fall);
-        assert!(rt; effect(&branch, &regs, &flags(unknown)).next == Next::NoFlag);
+        let holds = sets(c, holding) == 0x1111111111111101 && moves(c, holding) == 0x2222222222222222 && branches(c, holding) == Next::Branch(-6);
+        let fails = sets(c, failing) == 0x1111111111111100 && moves(c, failing) == 0x1111111111111111 && branches(c, failing) == Next::Fall;
+        assert!(rt; holds && fails && stops(c, unknown));
     }
 }
 
@@ -313,10 +332,8 @@ fn accesses_the_stack_and_next_places(rt: HostRuntime) {
         let mut regs = words(8, 0x123456789ABCDEF, 0);
         regs.set(Reg::Rsp, 0x1000);
         let change = effect(&instr, &regs, &flags([Y, N, Y, U]));
-        assert_eq!(rt; change.regs.get(Reg::Rsp), stack);
-        assert_eq!(rt; change.regs.get(Reg::Rcx), 0x123456789ABCDEF, "rsp is {stack:x}");
-        assert!(rt; change.access == access, "rsp is {stack:x}");
-        assert!(rt; change.next == next, "rsp is {stack:x}");
-        assert!(rt; change.flags == flags([Y, N, Y, U]), "rsp is {stack:x}");
+        let words = change.regs.get(Reg::Rsp) == stack && change.regs.get(Reg::Rcx) == 0x123456789ABCDEF;
+        let rest = change.access == access && change.next == next && change.flags == flags([Y, N, Y, U]);
+        assert!(rt; words && rest, "where rsp is {stack:x} after");
     }
 }
