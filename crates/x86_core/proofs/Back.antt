@@ -1,8 +1,7 @@
 -- The instruction that an encoding begins with.
-use Rattle.std.proofs.Common.{◌≡◌, ℕ, ◌+◌, ◌*◌, ◌/◌, ◌%◌, ◌-◌, ◌^◌, ◌<◌, Bool, true, false, List, [], ◌∷◌, ◌++◌, length, Option, Some, None, refl, sym, ◌∙◌, ap, append_assoc, length-append, add-zero, lit<, arith}
-use Rattle.std.specs.Prelude.{ℤ, pos, nat_eq, if◌then◌else◌}
+use Rattle.std.proofs.Common.{◌≡◌, ℕ, ◌+◌, ◌/◌, ◌%◌, ◌^◌, ◌<◌, Bool, true, false, List, [], ◌∷◌, ◌++◌, length, Option, Some, refl, sym, ◌∙◌, ap, append_assoc, length-append, add-zero, lit<, arith}
+use Rattle.std.specs.Prelude.{ℤ, nat_eq, if◌then◌else◌}
 use Rattle.std.proofs.lemmas.Bool.{eq-eqb, ne_eqb}
-use Rattle.rd_num.specs.Number.{le_bytes, le_number}
 use Rattle.x86_core.specs.declared.reg.Reg.{Reg}
 use Rattle.x86_core.specs.declared.reg.Reg.TheVariants.{Rax, Rsp, R12}
 use Rattle.x86_core.specs.declared.instr.Wide.{Wide}
@@ -15,9 +14,9 @@ use Rattle.x86_core.specs.declared.instr.ShiftOp.{ShiftOp}
 use Rattle.x86_core.specs.declared.instr.WidenKind.{WidenKind}
 use Rattle.x86_core.specs.declared.instr.Cond.{Cond}
 use Rattle.x86_core.specs.declared.instr.Instr.{Instr}
-use Rattle.x86_core.specs.declared.instr.Instr.TheVariants.{Mov, MovImm64, MovImm32, Alu, AluImm, Imul, Shift, Div, High, Widen, Load, Store, Lea, Push, Pop, SetCond, Cmov, Jcc, Jmp, Call, Ret, CallR11, JmpR11, Syscall, Ud2, Int3, Nop}
+use Rattle.x86_core.specs.declared.instr.Instr.TheVariants.{Mov, MovImm64, MovImm32, Alu, AluImm, Imul, Shift, Div, High, Widen, Load, Store, Lea, Push, Pop, SetCond, Cmov, Jcc, Jmp, Call}
 use Rattle.x86_core.specs.declared.instr.Decoded.{Decoded}
-use Rattle.x86_core.specs.declared.instr.Decoded.TheVariants.{One, Short, Unknown}
+use Rattle.x86_core.specs.declared.instr.Decoded.TheVariants.{One, Unknown}
 use Rattle.x86_core.specs.declared.instr.Prefix.{Prefix}
 use Rattle.x86_core.specs.declared.instr.Prefix.TheVariants.{Plain, Rex, Word}
 use Rattle.x86_core.specs.Encoding.{encoding, IsInstr, IsNumber32, rex, rex_if, is_wide, extended, low3, modrm, registers, digit, memory, index_of, number32, low32, alu_opcode, imm_digit, shift_digit, div_digit, cond_code}

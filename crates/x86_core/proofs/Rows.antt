@@ -1,12 +1,9 @@
 -- What the prefixes spell, and that each row's answers are right.
-use Rattle.std.proofs.Common.{◌≡◌, ℕ, zero, suc, ◌+◌, ◌*◌, ◌/◌, ◌%◌, ◌-◌, ◌^◌, ◌<◌, ◌≤◌, Bool, true, false, List, [], ◌∷◌, ◌++◌, length, Option, Some, None, refl, sym, ◌∙◌, ap, subst, append_assoc, length-append, lit<, arith}
-use Rattle.std.specs.Prelude.{ℤ, pos, not, ◌&&◌, ◌||◌, nat_eq, if◌then◌else◌}
+use Rattle.std.proofs.Common.{◌≡◌, ℕ, suc, ◌+◌, Bool, true, false, List, [], ◌∷◌, ◌++◌, length, Option, Some, None, refl, sym, ◌∙◌, ap, append_assoc, length-append, lit<, arith}
+use Rattle.std.specs.Prelude.{ℤ, pos, not, ◌&&◌, nat_eq, if◌then◌else◌}
 use Rattle.std.proofs.lemmas.Bool.{eqb-true}
-use Rattle.rd_num.specs.Number.{le_bytes, le_number}
 use Rattle.x86_core.specs.declared.reg.Reg.{Reg}
-use Rattle.x86_core.specs.declared.instr.Wide.{Wide}
 use Rattle.x86_core.specs.declared.instr.Size.{Size}
-use Rattle.x86_core.specs.declared.instr.HighSize.{HighSize}
 use Rattle.x86_core.specs.declared.instr.Mem.{Mem}
 use Rattle.x86_core.specs.declared.instr.AluOp.{AluOp}
 use Rattle.x86_core.specs.declared.instr.ImmOp.{ImmOp}
@@ -14,16 +11,15 @@ use Rattle.x86_core.specs.declared.instr.ShiftOp.{ShiftOp}
 use Rattle.x86_core.specs.declared.instr.WidenKind.{WidenKind}
 use Rattle.x86_core.specs.declared.instr.Cond.{Cond}
 use Rattle.x86_core.specs.declared.instr.Instr.{Instr}
-use Rattle.x86_core.specs.declared.instr.Instr.TheVariants.{Mov, MovImm64, MovImm32, Alu, AluImm, Imul, Shift, Div, High, Widen, Load, Store, Lea, Push, Pop, SetCond, Cmov, Jcc, Jmp, Call, Ret, CallR11, JmpR11, Syscall, Ud2, Int3, Nop}
-use Rattle.x86_core.specs.declared.instr.Decoded.{Decoded}
-use Rattle.x86_core.specs.declared.instr.Decoded.TheVariants.{One, Short, Unknown}
+use Rattle.x86_core.specs.declared.instr.Instr.TheVariants.{Mov, Alu, AluImm, Imul, Shift, Div, Widen, Load, Store, Lea, SetCond, Cmov}
+use Rattle.x86_core.specs.declared.instr.Decoded.TheVariants.{One, Unknown}
 use Rattle.x86_core.specs.declared.instr.Prefix.{Prefix}
 use Rattle.x86_core.specs.declared.instr.Prefix.TheVariants.{Plain, Rex, Word}
-use Rattle.x86_core.specs.Encoding.{encoding, IsInstr, IsNumber32, IsCut, bit, rex, rex_if, is_wide, extended, low3, modrm, registers, digit, memory, number32, alu_opcode, imm_digit, shift_digit, div_digit, cond_code}
+use Rattle.x86_core.specs.Encoding.{encoding, IsInstr, IsNumber32, rex, rex_if, is_wide, extended, registers, digit, memory, number32, alu_opcode, imm_digit, shift_digit, div_digit, cond_code}
 use Rattle.x86_core.specs.Decoding
 use Rattle.x86_core.specs.Decoding.{wide_bit, reg_bit, rm_bit, prefix_size, is_plain, is_free, is_sized, is_narrow, is_long, is_byte, is_usual, wide_at, size_at, reg_at, imm_at, shift_at, div_at, cond_at, first4, first8, taken, with_number, two_registers, with_digit, at_memory, by_mode}
-use Rattle.x86_core.proofs.Parts.{IsBytes, HasBits, reg_at_bits, ImmHas, imm_at_digit, ShiftHas, shift_at_digit, DivHas, div_at_digit, CondHas, cond_at_code, bytes_back}
-use Rattle.x86_core.proofs.Good.{Good, Says, Spells, good_unknown, good_if, good_where, good_byte, good_next, good_one, cut_of, good_two, good_digit, good_taken4, good_number, good_memory, good_mode}
+use Rattle.x86_core.proofs.Parts.{HasBits, reg_at_bits, ImmHas, imm_at_digit, ShiftHas, shift_at_digit, DivHas, div_at_digit, CondHas}
+use Rattle.x86_core.proofs.Good.{Good, good_unknown, good_where, good_one, cut_of, good_two, good_digit, good_number, good_memory}
 
 -- the bytes of a prefix
 abbrev pub spelled : Prefix → List ℕ

@@ -1,29 +1,25 @@
 -- The whole decoding is right: rows by opcodes, prefixes, bytes.
-use Rattle.std.proofs.Common.{◌≡◌, ℕ, zero, suc, ◌+◌, ◌*◌, ◌/◌, ◌%◌, ◌-◌, ◌^◌, ◌<◌, ◌≤◌, Bool, true, false, List, [], ◌∷◌, ◌++◌, length, Option, Some, None, refl, sym, ◌∙◌, ap, subst, append_assoc, length-append, lit<, arith}
-use Rattle.std.specs.Prelude.{ℤ, pos, not, ◌&&◌, ◌||◌, nat_eq, if◌then◌else◌}
+use Rattle.std.proofs.Common.{◌≡◌, ℕ, ◌+◌, ◌/◌, ◌%◌, ◌<◌, Bool, true, false, List, [], ◌∷◌, ◌++◌, length, Option, Some, None, refl, sym, ◌∙◌, ap, subst, append_assoc, arith}
+use Rattle.std.specs.Prelude.{not, ◌&&◌, ◌||◌, nat_eq, if◌then◌else◌}
 use Rattle.std.proofs.lemmas.Bool.{eqb-true}
 use Rattle.std.proofs.lemmas.List.{append-nil}
 use Rattle.rd_num.specs.Number.{le_bytes}
 use Rattle.x86_core.specs.declared.reg.Reg.{Reg}
-use Rattle.x86_core.specs.declared.instr.Wide.{Wide}
-use Rattle.x86_core.specs.declared.instr.Size.{Size}
 use Rattle.x86_core.specs.declared.instr.HighSize.{HighSize}
-use Rattle.x86_core.specs.declared.instr.Mem.{Mem}
 use Rattle.x86_core.specs.declared.instr.AluOp.{AluOp}
 use Rattle.x86_core.specs.declared.instr.WidenKind.{WidenKind}
 use Rattle.x86_core.specs.declared.instr.Cond.{Cond}
 use Rattle.x86_core.specs.declared.instr.Instr.{Instr}
-use Rattle.x86_core.specs.declared.instr.Instr.TheVariants.{Mov, MovImm64, MovImm32, High, Widen, Load, Store, Push, Pop, Jcc, Jmp, Call, Ret, CallR11, JmpR11, Syscall, Ud2, Int3, Nop}
+use Rattle.x86_core.specs.declared.instr.Instr.TheVariants.{MovImm64, MovImm32, High, Push, Pop, Jcc, Jmp, Call, Ret, CallR11, JmpR11, Syscall, Ud2, Int3, Nop}
 use Rattle.x86_core.specs.declared.instr.Decoded.{Decoded}
 use Rattle.x86_core.specs.declared.instr.Decoded.TheVariants.{One, Short, Unknown}
 use Rattle.x86_core.specs.declared.instr.Prefix.{Prefix}
 use Rattle.x86_core.specs.declared.instr.Prefix.TheVariants.{Plain, Rex, Word}
-use Rattle.x86_core.specs.declared.reg.Reg.TheVariants.{Rax, R8}
-use Rattle.x86_core.specs.Encoding.{encoding, IsInstr, IsNumber32, IsCut, bit, rex, rex_if, is_wide, extended, low3, registers, number32, cond_code}
+use Rattle.x86_core.specs.Encoding.{encoding, IsInstr, IsCut, rex, rex_if, extended, number32}
 use Rattle.x86_core.specs.Decoding
 use Rattle.x86_core.specs.Decoding.{wide_bit, reg_bit, rm_bit, prefix_size, is_plain, is_free, is_sized, is_narrow, is_long, is_byte, is_usual, reg_at, cond_at, first4, first8, taken, with_number, by_mode, is_rex, rex_of, opcode, opcode_rows, decode}
-use Rattle.x86_core.proofs.Parts.{IsBytes, HasBits, reg_at_bits, CondHas, cond_at_code, rex_back}
-use Rattle.x86_core.proofs.Good.{Good, Says, Spells, good_unknown, good_if, good_where, good_byte, good_front, good_next, good_one, cut_of, good_taken4, good_taken8, good_number, good_mode}
+use Rattle.x86_core.proofs.Parts.{HasBits, reg_at_bits, CondHas, cond_at_code, rex_back}
+use Rattle.x86_core.proofs.Good.{Good, Says, good_unknown, good_if, good_where, good_byte, good_front, good_next, good_one, cut_of, good_taken4, good_taken8, good_number, good_mode}
 use Rattle.x86_core.proofs.Rows
 
 -- 50 to 57
