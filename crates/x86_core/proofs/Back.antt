@@ -1,8 +1,7 @@
 -- The instruction that an encoding begins with.
-use Rattle.std.proofs.Common.{◌≡◌, ℕ, ◌+◌, ◌*◌, ◌/◌, ◌%◌, ◌-◌, ◌^◌, ◌<◌, Bool, true, false, List, [], ◌∷◌, ◌++◌, length, Option, Some, None, refl, sym, ◌∙◌, ap, append_assoc, length-append, add-zero, lit<, arith}
-use Rattle.std.specs.Prelude.{ℤ, pos, nat_eq, if◌then◌else◌}
+use Rattle.std.proofs.Common.{◌≡◌, ℕ, ◌+◌, ◌/◌, ◌%◌, ◌^◌, ◌<◌, Bool, true, false, List, [], ◌∷◌, ◌++◌, length, Option, Some, refl, sym, ◌∙◌, ap, append_assoc, length-append, add-zero, lit<, arith}
+use Rattle.std.specs.Prelude.{ℤ, nat_eq, if◌then◌else◌}
 use Rattle.std.proofs.lemmas.Bool.{eq-eqb, ne_eqb}
-use Rattle.rd_num.specs.Number.{le_bytes, le_number}
 use Rattle.x86_core.specs.declared.reg.Reg.{Reg}
 use Rattle.x86_core.specs.declared.reg.Reg.TheVariants.{Rax, Rsp, R12}
 use Rattle.x86_core.specs.declared.instr.Wide.{Wide}
@@ -15,9 +14,9 @@ use Rattle.x86_core.specs.declared.instr.ShiftOp.{ShiftOp}
 use Rattle.x86_core.specs.declared.instr.WidenKind.{WidenKind}
 use Rattle.x86_core.specs.declared.instr.Cond.{Cond}
 use Rattle.x86_core.specs.declared.instr.Instr.{Instr}
-use Rattle.x86_core.specs.declared.instr.Instr.TheVariants.{Mov, MovImm64, MovImm32, Alu, AluImm, Imul, Shift, Div, High, Widen, Load, Store, Lea, Push, Pop, SetCond, Cmov, Jcc, Jmp, Call, Ret, CallR11, JmpR11, Syscall, Ud2, Int3, Nop}
+use Rattle.x86_core.specs.declared.instr.Instr.TheVariants.{Mov, MovImm64, MovImm32, Alu, AluImm, Imul, Shift, Div, High, Widen, Load, Store, Lea, Push, Pop, SetCond, Cmov, Jcc, Jmp, Call}
 use Rattle.x86_core.specs.declared.instr.Decoded.{Decoded}
-use Rattle.x86_core.specs.declared.instr.Decoded.TheVariants.{One, Short, Unknown}
+use Rattle.x86_core.specs.declared.instr.Decoded.TheVariants.{One, Unknown}
 use Rattle.x86_core.specs.declared.instr.Prefix.{Prefix}
 use Rattle.x86_core.specs.declared.instr.Prefix.TheVariants.{Plain, Rex, Word}
 use Rattle.x86_core.specs.Encoding.{encoding, IsInstr, IsNumber32, rex, rex_if, is_wide, extended, low3, modrm, registers, digit, memory, index_of, number32, low32, alu_opcode, imm_digit, shift_digit, div_digit, cond_code}
@@ -133,7 +132,7 @@ module _ (front : Bool → Bool → List ℕ) (pre : Bool → Bool → Prefix) (
   two_row_back make opens x y rest =
       let f : List ℕ = front (extended x) (extended y) in
       let whole : (f ++ (op ++ (registers x y ∷ []))) ++ rest ≡ f ++ (op ++ (registers x y ∷ rest)) =
-          append_assoc f (op ++ (registers x y ∷ [])) rest ∙ ap (λ (xs : List ℕ). f ++ xs) (append_assoc op (registers x y ∷ []) rest)
+      append_assoc f (op ++ (registers x y ∷ [])) rest ∙ ap (λ (xs : List ℕ). f ++ xs) (append_assoc op (registers x y ∷ []) rest)
       in
       let size : length f + (length op + 1) ≡ length (f ++ (op ++ (registers x y ∷ []))) = omega (arith, length-append f (op ++ (registers x y ∷ [])), length-append op (registers x y ∷ [])) in
       ap decode whole ∙ opens (extended x) (extended y) x y rest ∙
@@ -147,10 +146,10 @@ module _ (front : Bool → Bool → List ℕ) (pre : Bool → Bool → Prefix) (
   memory_row_back make opens x m rest h =
       let f : List ℕ = front (extended x) (extended m.base) in
       let whole : (f ++ (op ++ memory x m)) ++ rest ≡ f ++ (op ++ (memory x m ++ rest)) =
-          append_assoc f (op ++ memory x m) rest ∙ ap (λ (xs : List ℕ). f ++ xs) (append_assoc op (memory x m) rest)
+      append_assoc f (op ++ memory x m) rest ∙ ap (λ (xs : List ℕ). f ++ xs) (append_assoc op (memory x m) rest)
       in
       let size : length f + (length op + 5) + length (index_of m.base) ≡ length (f ++ (op ++ memory x m)) =
-          omega (arith, length-append f (op ++ memory x m), length-append op (memory x m), length-append (index_of m.base) (number32 m.disp))
+      omega (arith, length-append f (op ++ memory x m), length-append op (memory x m), length-append (index_of m.base) (number32 m.disp))
       in
       ap decode whole ∙ opens (extended x) (extended m.base) x m rest ∙
       memory_back make (length f + (length op + 5)) (pre (extended x) (extended m.base)) x m rest h (reg_is (extended x) (extended m.base)) (rm_is (extended x) (extended m.base)) ∙
@@ -274,7 +273,7 @@ module _ (front : Bool → List ℕ) (pre : Bool → Prefix) (op : List ℕ) (rm
   digit_row_back n y tail rest h =
       let f : List ℕ = front (extended y) in
       let whole : (f ++ (op ++ (digit n y ∷ tail))) ++ rest ≡ f ++ (op ++ (digit n y ∷ (tail ++ rest))) =
-          append_assoc f (op ++ (digit n y ∷ tail)) rest ∙ ap (λ (xs : List ℕ). f ++ xs) (append_assoc op (digit n y ∷ tail) rest)
+      append_assoc f (op ++ (digit n y ∷ tail)) rest ∙ ap (λ (xs : List ℕ). f ++ xs) (append_assoc op (digit n y ∷ tail) rest)
       in
       ap decode whole ∙ opens (extended y) (digit n y ∷ (tail ++ rest)) ∙ digit_back (row (extended y)) (pre (extended y)) n y (tail ++ rest) h (rm_is (extended y))
 

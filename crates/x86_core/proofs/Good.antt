@@ -1,5 +1,5 @@
 -- When a part of the decoding, at the bytes behind a front, says what the encodings say.
-use Rattle.std.proofs.Common.{◌≡◌, ℕ, zero, suc, ◌+◌, ◌*◌, ◌/◌, ◌%◌, ◌-◌, ◌^◌, ◌<◌, ◌≤◌, Bool, true, false, List, [], ◌∷◌, ◌++◌, length, Option, Some, None, refl, sym, ◌∙◌, ap, subst, append_assoc, length-append, lit<, arith}
+use Rattle.std.proofs.Common.{◌≡◌, ℕ, ◌+◌, ◌/◌, ◌%◌, ◌^◌, ◌<◌, Bool, true, false, List, [], ◌∷◌, ◌++◌, length, Option, Some, None, refl, sym, ◌∙◌, ap, subst, append_assoc, length-append, lit<, arith}
 use Rattle.std.specs.Prelude.{ℤ, nat_eq, if◌then◌else◌}
 use Rattle.std.proofs.lemmas.Bool.{eqb-true}
 use Rattle.std.proofs.lemmas.List.{append-nil}
@@ -65,6 +65,7 @@ module _ (front : List ℕ) (f : List ℕ → Decoded) (g : ℕ → List ℕ →
         let at : Says ((front ++ b ∷ []) ++ bs) (g b bs) = (good b).says bs h.1 in
         let same : (front ++ b ∷ []) ++ bs ≡ front ++ (b ∷ bs) = append_assoc front (b ∷ []) bs in
         subst (λ (d : Decoded). Says (front ++ (b ∷ bs)) d) (sym (some b bs)) (subst (λ (xs : List ℕ). Says xs (g b bs)) same at)
+
     stays : (bs more : List ℕ) → f bs ≡ Unknown → f (bs ++ more) ≡ Unknown
     stays [] more e = absurd (cc (none, e))
     stays (b ∷ bs) more e = some b (bs ++ more) ∙ (good b).stays bs more (sym (some b bs) ∙ e)
@@ -102,16 +103,16 @@ good_two front make size p spells n =
     refl (λ m bs. refl) (cut_of front _ _ [] first.is_instr first.bytes)
     (λ m. good_where (front ++ m ∷ []) (nat_eq (m / 64) 3) (λ bs. One (make (reg_at (reg_bit p) (m / 8 % 8)) (reg_at (rm_bit p) (m % 8))) size)
     (λ e. one m (eqb-true (m / 64) 3 e))) where
-  one : (m : ℕ) → m / 64 ≡ 3 → Good (front ++ m ∷ []) (λ bs. One (make (reg_at (reg_bit p) (m / 8 % 8)) (reg_at (rm_bit p) (m % 8))) size)
-  one m e =
-      let reg : HasBits (reg_at (reg_bit p) (m / 8 % 8)) (reg_bit p) (m / 8 % 8) = reg_at_bits (reg_bit p) (m / 8 % 8) (omega arith) in
-      let rm : HasBits (reg_at (rm_bit p) (m % 8)) (rm_bit p) (m % 8) = reg_at_bits (rm_bit p) (m % 8) (omega arith) in
-      let it = spells (reg_at (reg_bit p) (m / 8 % 8)) (reg_at (rm_bit p) (m % 8)) reg.above rm.above in
-      let byte : registers (reg_at (reg_bit p) (m / 8 % 8)) (reg_at (rm_bit p) (m % 8)) ≡ m =
+      one : (m : ℕ) → m / 64 ≡ 3 → Good (front ++ m ∷ []) (λ bs. One (make (reg_at (reg_bit p) (m / 8 % 8)) (reg_at (rm_bit p) (m % 8))) size)
+      one m e =
+          let reg : HasBits (reg_at (reg_bit p) (m / 8 % 8)) (reg_bit p) (m / 8 % 8) = reg_at_bits (reg_bit p) (m / 8 % 8) (omega arith) in
+          let rm : HasBits (reg_at (rm_bit p) (m % 8)) (rm_bit p) (m % 8) = reg_at_bits (rm_bit p) (m % 8) (omega arith) in
+          let it = spells (reg_at (reg_bit p) (m / 8 % 8)) (reg_at (rm_bit p) (m % 8)) reg.above rm.above in
+          let byte : registers (reg_at (reg_bit p) (m / 8 % 8)) (reg_at (rm_bit p) (m % 8)) ≡ m =
           ap (λ (k : ℕ). modrm 3 k (low3 (reg_at (rm_bit p) (m % 8)))) reg.below ∙ ap (λ (k : ℕ). modrm 3 (m / 8 % 8) k) rm.below ∙ modrm_back m 3 e
-      in
-      good_one (front ++ m ∷ []) (make (reg_at (reg_bit p) (m / 8 % 8)) (reg_at (rm_bit p) (m % 8))) size it.is_instr
-      (it.bytes ∙ ap (λ (k : ℕ). front ++ k ∷ []) byte) (longer front (m ∷ []) size 1 n refl)
+          in
+          good_one (front ++ m ∷ []) (make (reg_at (reg_bit p) (m / 8 % 8)) (reg_at (rm_bit p) (m % 8))) size it.is_instr
+          (it.bytes ∙ ap (λ (k : ℕ). front ++ k ∷ []) byte) (longer front (m ∷ []) size 1 n refl)
 
 -- ModRM with a digit and a register
 pub good_digit : (front : List ℕ) (row : ℕ → Reg → List ℕ → Decoded) (p : Prefix) →
@@ -122,12 +123,12 @@ good_digit front row p cut good =
     refl (λ m bs. refl) cut
     (λ m. good_where (front ++ m ∷ []) (nat_eq (m / 64) 3) (row (m / 8 % 8) (reg_at (rm_bit p) (m % 8)))
     (λ e. one m (eqb-true (m / 64) 3 e))) where
-  one : (m : ℕ) → m / 64 ≡ 3 → Good (front ++ m ∷ []) (row (m / 8 % 8) (reg_at (rm_bit p) (m % 8)))
-  one m e =
-      let small : m / 8 % 8 < 8 = omega arith in
-      let rm : HasBits (reg_at (rm_bit p) (m % 8)) (rm_bit p) (m % 8) = reg_at_bits (rm_bit p) (m % 8) (omega arith) in
-      let byte : digit (m / 8 % 8) (reg_at (rm_bit p) (m % 8)) ≡ m = ap (λ (k : ℕ). modrm 3 (m / 8 % 8) k) rm.below ∙ modrm_back m 3 e in
-      subst (λ (k : ℕ). Good (front ++ k ∷ []) (row (m / 8 % 8) (reg_at (rm_bit p) (m % 8)))) byte (good (m / 8 % 8) small (reg_at (rm_bit p) (m % 8)) rm.above)
+      one : (m : ℕ) → m / 64 ≡ 3 → Good (front ++ m ∷ []) (row (m / 8 % 8) (reg_at (rm_bit p) (m % 8)))
+      one m e =
+          let small : m / 8 % 8 < 8 = omega arith in
+          let rm : HasBits (reg_at (rm_bit p) (m % 8)) (rm_bit p) (m % 8) = reg_at_bits (rm_bit p) (m % 8) (omega arith) in
+          let byte : digit (m / 8 % 8) (reg_at (rm_bit p) (m % 8)) ≡ m = ap (λ (k : ℕ). modrm 3 (m / 8 % 8) k) rm.below ∙ modrm_back m 3 e in
+          subst (λ (k : ℕ). Good (front ++ k ∷ []) (row (m / 8 % 8) (reg_at (rm_bit p) (m % 8)))) byte (good (m / 8 % 8) small (reg_at (rm_bit p) (m % 8)) rm.above)
 
 -- a number is never no instruction
 taken_known : (make : ℕ → Instr) (size : ℕ) (o : Option ℕ) → taken make size o ≡ Unknown → ⊥
@@ -238,6 +239,7 @@ module _ (front : List ℕ) (make : Reg → Mem → Instr) (size : ℕ) (p : Pre
   direct r base hr hb none = good_number (front ++ modrm 2 (low3 r) (low3 base) ∷ []) (λ d. make r (place base d)) size at (longer_by) where
     longer_by : size ≡ length (front ++ modrm 2 (low3 r) (low3 base) ∷ []) + 4
     longer_by = omega (arith, length-append front (modrm 2 (low3 r) (low3 base) ∷ []))
+
     at : (d : ℤ) → IsNumber32 d → Spells (make r (place base d)) ((front ++ modrm 2 (low3 r) (low3 base) ∷ []) ++ number32 d)
     at d h =
         let it = spells r (place base d) h hr hb in
@@ -253,12 +255,13 @@ module _ (front : List ℕ) (make : Reg → Mem → Instr) (size : ℕ) (p : Pre
       refl (λ i bs. refl)
       (cut_of f1 _ 0x24 (number32 (ℤ.pos 0)) whole.is_instr (whole.bytes ∙ ap (λ (xs : List ℕ). front ++ (modrm 2 (low3 r) (low3 base) ∷ (xs ++ number32 (ℤ.pos 0)))) some ∙ sym (append_assoc front (modrm 2 (low3 r) (low3 base) ∷ []) (0x24 ∷ number32 (ℤ.pos 0)))))
       (λ i. good_byte f1 i 0x24 (with_number (λ d. make r (place base d)) (size + 1)) (λ bs. Unknown) (good_number (f1 ++ 0x24 ∷ []) (λ d. make r (place base d)) (size + 1) at longer_by) (good_unknown (f1 ++ i ∷ []))) where
-    longer_by : size + 1 ≡ length ((front ++ modrm 2 (low3 r) (low3 base) ∷ []) ++ 0x24 ∷ []) + 4
-    longer_by = omega (arith, length-append front (modrm 2 (low3 r) (low3 base) ∷ []), length-append (front ++ modrm 2 (low3 r) (low3 base) ∷ []) (0x24 ∷ []))
-    at : (d : ℤ) → IsNumber32 d → Spells (make r (place base d)) (((front ++ modrm 2 (low3 r) (low3 base) ∷ []) ++ 0x24 ∷ []) ++ number32 d)
-    at d h =
-        let it = spells r (place base d) h hr hb in
-        record { is_instr = it.is_instr; bytes = it.bytes ∙ ap (λ (xs : List ℕ). front ++ (modrm 2 (low3 r) (low3 base) ∷ (xs ++ number32 d))) some ∙ sym (append_assoc front (modrm 2 (low3 r) (low3 base) ∷ []) (0x24 ∷ number32 d)) ∙ sym (append_assoc (front ++ modrm 2 (low3 r) (low3 base) ∷ []) (0x24 ∷ []) (number32 d)) }
+        longer_by : size + 1 ≡ length ((front ++ modrm 2 (low3 r) (low3 base) ∷ []) ++ 0x24 ∷ []) + 4
+        longer_by = omega (arith, length-append front (modrm 2 (low3 r) (low3 base) ∷ []), length-append (front ++ modrm 2 (low3 r) (low3 base) ∷ []) (0x24 ∷ []))
+
+        at : (d : ℤ) → IsNumber32 d → Spells (make r (place base d)) (((front ++ modrm 2 (low3 r) (low3 base) ∷ []) ++ 0x24 ∷ []) ++ number32 d)
+        at d h =
+            let it = spells r (place base d) h hr hb in
+            record { is_instr = it.is_instr; bytes = it.bytes ∙ ap (λ (xs : List ℕ). front ++ (modrm 2 (low3 r) (low3 base) ∷ (xs ++ number32 d))) some ∙ sym (append_assoc front (modrm 2 (low3 r) (low3 base) ∷ []) (0x24 ∷ number32 d)) ∙ sym (append_assoc (front ++ modrm 2 (low3 r) (low3 base) ∷ []) (0x24 ∷ []) (number32 d)) }
 
   index_some : (base : Reg) → nat_eq (low3 base) 4 ≡ true → index_of base ≡ 0x24 ∷ []
   index_some base e = ap (λ (t : Bool). if t then 0x24 ∷ [] else []) e
@@ -276,11 +279,11 @@ module _ (front : List ℕ) (make : Reg → Mem → Instr) (size : ℕ) (p : Pre
       let reg : HasBits (reg_at (reg_bit p) (m / 8 % 8)) (reg_bit p) (m / 8 % 8) = reg_at_bits (reg_bit p) (m / 8 % 8) (omega arith) in
       let rm : HasBits (reg_at (rm_bit p) (m % 8)) (rm_bit p) (m % 8) = reg_at_bits (rm_bit p) (m % 8) (omega arith) in
       let byte : modrm 2 (low3 (reg_at (reg_bit p) (m / 8 % 8))) (low3 (reg_at (rm_bit p) (m % 8))) ≡ m =
-          ap (λ (k : ℕ). modrm 2 k (low3 (reg_at (rm_bit p) (m % 8)))) reg.below ∙ ap (λ (k : ℕ). modrm 2 (m / 8 % 8) k) rm.below ∙ modrm_back m 2 e
+      ap (λ (k : ℕ). modrm 2 k (low3 (reg_at (rm_bit p) (m % 8)))) reg.below ∙ ap (λ (k : ℕ). modrm 2 (m / 8 % 8) k) rm.below ∙ modrm_back m 2 e
       in
       let it = based (reg_at (reg_bit p) (m / 8 % 8)) (reg_at (rm_bit p) (m % 8)) reg.above rm.above in
       let low : Good (front ++ m ∷ []) (displaced (λ d. make (reg_at (reg_bit p) (m / 8 % 8)) (place (reg_at (rm_bit p) (m % 8)) d)) size (low3 (reg_at (rm_bit p) (m % 8)))) =
-          subst (λ (k : ℕ). Good (front ++ k ∷ []) (displaced (λ d. make (reg_at (reg_bit p) (m / 8 % 8)) (place (reg_at (rm_bit p) (m % 8)) d)) size (low3 (reg_at (rm_bit p) (m % 8))))) byte it
+      subst (λ (k : ℕ). Good (front ++ k ∷ []) (displaced (λ d. make (reg_at (reg_bit p) (m / 8 % 8)) (place (reg_at (rm_bit p) (m % 8)) d)) size (low3 (reg_at (rm_bit p) (m % 8))))) byte it
       in
       subst (λ (k : ℕ). Good (front ++ m ∷ []) (displaced (λ d. make (reg_at (reg_bit p) (m / 8 % 8)) (place (reg_at (rm_bit p) (m % 8)) d)) size k)) rm.below low
 
@@ -304,6 +307,7 @@ good_mode front regs mem cut h k = record { says = says; stays = stays } where
     either : (t : Bool) → Says (front ++ (m ∷ bs)) (if t then regs (m ∷ bs) else mem (m ∷ bs))
     either true = h.says (m ∷ bs) b
     either false = k.says (m ∷ bs) b
+
   stays : (bs more : List ℕ) → by_mode regs mem bs ≡ Unknown → by_mode regs mem (bs ++ more) ≡ Unknown
   stays [] more e = absurd (cc)
   stays (m ∷ bs) more e = either (nat_eq (m / 64) 3) e where

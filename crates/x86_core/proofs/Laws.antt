@@ -1,6 +1,6 @@
 -- The laws of encoding and decoding.
-use Rattle.std.proofs.Common.{◌≡◌, ℕ, suc, ◌+◌, ◌-◌, ◌<◌, ◌≤◌, Bool, true, false, List, [], ◌∷◌, ◌++◌, length, drop, refl, sym, ◌∙◌, ap, subst, append_assoc, length-append, lit≤, arith}
-use Rattle.std.specs.Prelude.{ℤ, All, ◌↔◌}
+use Rattle.std.proofs.Common.{◌≡◌, ℕ, ◌+◌, ◌<◌, ◌≤◌, Bool, true, false, List, [], ◌∷◌, ◌++◌, length, drop, refl, sym, ◌∙◌, ap, subst, append_assoc, length-append, lit≤, arith}
+use Rattle.std.specs.Prelude.{All}
 use Rattle.std.proofs.lemmas.List.{append-nil, drop_at}
 use Rattle.std.proofs.lemmas.List.Elements.{All-head, All-tail}
 use Rattle.rd_num.specs.Number.{le_bytes}
@@ -11,13 +11,13 @@ use Rattle.x86_core.specs.declared.instr.HighSize.{HighSize}
 use Rattle.x86_core.specs.declared.instr.Mem.{Mem}
 use Rattle.x86_core.specs.declared.instr.WidenKind.{WidenKind}
 use Rattle.x86_core.specs.declared.instr.Instr.{Instr}
-use Rattle.x86_core.specs.declared.instr.Instr.TheVariants.{Mov, MovImm64, MovImm32, Alu, AluImm, Imul, Shift, Div, High, Widen, Load, Store, Lea, Push, Pop, SetCond, Cmov, Jcc, Jmp, Call, Ret, CallR11, JmpR11, Syscall, Ud2, Int3, Nop}
+use Rattle.x86_core.specs.declared.instr.Instr.TheVariants.{Mov, MovImm64, MovImm32, Alu, AluImm, Imul, Shift, Div, High, Widen, Load, Store, Lea, Push, Pop}
 use Rattle.x86_core.specs.declared.instr.Decoded.{Decoded}
 use Rattle.x86_core.specs.declared.instr.Decoded.TheVariants.{One, Short, Unknown}
 use Rattle.x86_core.specs.Encoding.{encoding, IsInstr, Begins, IsCut, rex_if, is_wide, extended, low3, registers, digit, alu_opcode, imm_digit, shift_digit, div_digit, index_of, memory, number32}
 use Rattle.x86_core.specs.Decoding.{decode}
 use Rattle.x86_core.proofs.Parts.{IsBytes}
-use Rattle.x86_core.proofs.Good.{Good, Says, Found}
+use Rattle.x86_core.proofs.Good.{Says, Found}
 use Rattle.x86_core.proofs.Whole.{decode_good}
 use Rattle.x86_core.proofs.Back.{decode_back}
 
@@ -78,8 +78,10 @@ pub cut_short : (bs : List ℕ) → All (λ b. b < 256) bs → IsCut bs → deco
 cut_short bs h c = answer (decode bs) refl where
   more : List ℕ
   more = c.next ∷ c.more
+
   whole : decode (bs ++ more) ≡ One c.whole (length (encoding c.whole))
   whole = ap decode (sym c.goes_on) ∙ whole_back c.whole c.is_instr
+
   answer : (d : Decoded) → decode bs ≡ d → decode bs ≡ Short
   answer Short e = e
   answer Unknown e = absurd (cc (sym (decode_good.stays bs more e) ∙ whole))
@@ -172,3 +174,9 @@ encoding_sized (Lea d m) = long_place _ 0x8D d m
 encoding_sized (Push r) = behind false false (extended r) ((0x50 + low3 r) ∷ []) (lit≤ tt) (lit≤ tt)
 encoding_sized (Pop r) = behind false false (extended r) ((0x58 + low3 r) ∷ []) (lit≤ tt) (lit≤ tt)
 encoding_sized i = record { some = lit≤ tt; few = lit≤ tt }
+
+pub some_bytes : (i : Instr) → 1 ≤ length (encoding i)
+some_bytes i = (encoding_sized i).some
+
+pub few_bytes : (i : Instr) → length (encoding i) ≤ 10
+few_bytes i = (encoding_sized i).few

@@ -1,5 +1,5 @@
 -- The parts of an encoding and back: registers, digits, conditions, ModRM, numbers.
-use Rattle.std.proofs.Common.{◌≡◌, ℕ, zero, suc, ◌+◌, ◌*◌, ◌/◌, ◌%◌, ◌-◌, ◌^◌, ◌<◌, ◌≤◌, Bool, true, false, List, [], ◌∷◌, ◌++◌, length, Option, Some, None, refl, sym, ◌∙◌, ap, arith}
+use Rattle.std.proofs.Common.{◌≡◌, ℕ, zero, suc, ◌+◌, ◌*◌, ◌/◌, ◌%◌, ◌^◌, ◌<◌, Bool, true, false, List, [], ◌∷◌, length, Option, Some, None, refl, ◌∙◌, ap, arith}
 use Rattle.std.specs.Prelude.{ℤ, pos, negsuc, nat_eq, ◌&&◌}
 use Rattle.std.proofs.lemmas.Bool.{eqb-true}
 use Rattle.rd_num.specs.Number.{le_bytes, le_number}
@@ -8,7 +8,7 @@ use Rattle.x86_core.specs.declared.reg.Reg.TheVariants.{Rax}
 use Rattle.x86_core.specs.declared.instr.ImmOp.{ImmOp}
 use Rattle.x86_core.specs.declared.instr.ShiftOp.{ShiftOp}
 use Rattle.x86_core.specs.declared.instr.Cond.{Cond}
-use Rattle.x86_core.specs.Encoding.{bit, rex, extended, low3, modrm, low32, number32, imm_digit, shift_digit, div_digit, cond_code, IsNumber32}
+use Rattle.x86_core.specs.Encoding.{bit, rex, extended, low3, modrm, low32, imm_digit, shift_digit, div_digit, cond_code, IsNumber32}
 use Rattle.x86_core.specs.Decoding.{reg_at, imm_at, shift_at, div_at, cond_at, signed32, is_rex}
 
 -- each is a byte

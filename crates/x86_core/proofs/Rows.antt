@@ -1,12 +1,9 @@
 -- What the prefixes spell, and that each row's answers are right.
-use Rattle.std.proofs.Common.{◌≡◌, ℕ, zero, suc, ◌+◌, ◌*◌, ◌/◌, ◌%◌, ◌-◌, ◌^◌, ◌<◌, ◌≤◌, Bool, true, false, List, [], ◌∷◌, ◌++◌, length, Option, Some, None, refl, sym, ◌∙◌, ap, subst, append_assoc, length-append, lit<, arith}
-use Rattle.std.specs.Prelude.{ℤ, pos, not, ◌&&◌, ◌||◌, nat_eq, if◌then◌else◌}
+use Rattle.std.proofs.Common.{◌≡◌, ℕ, suc, ◌+◌, Bool, true, false, List, [], ◌∷◌, ◌++◌, length, Option, Some, None, refl, sym, ◌∙◌, ap, append_assoc, length-append, lit<, arith}
+use Rattle.std.specs.Prelude.{ℤ, pos, not, ◌&&◌, nat_eq, if◌then◌else◌}
 use Rattle.std.proofs.lemmas.Bool.{eqb-true}
-use Rattle.rd_num.specs.Number.{le_bytes, le_number}
 use Rattle.x86_core.specs.declared.reg.Reg.{Reg}
-use Rattle.x86_core.specs.declared.instr.Wide.{Wide}
 use Rattle.x86_core.specs.declared.instr.Size.{Size}
-use Rattle.x86_core.specs.declared.instr.HighSize.{HighSize}
 use Rattle.x86_core.specs.declared.instr.Mem.{Mem}
 use Rattle.x86_core.specs.declared.instr.AluOp.{AluOp}
 use Rattle.x86_core.specs.declared.instr.ImmOp.{ImmOp}
@@ -14,16 +11,15 @@ use Rattle.x86_core.specs.declared.instr.ShiftOp.{ShiftOp}
 use Rattle.x86_core.specs.declared.instr.WidenKind.{WidenKind}
 use Rattle.x86_core.specs.declared.instr.Cond.{Cond}
 use Rattle.x86_core.specs.declared.instr.Instr.{Instr}
-use Rattle.x86_core.specs.declared.instr.Instr.TheVariants.{Mov, MovImm64, MovImm32, Alu, AluImm, Imul, Shift, Div, High, Widen, Load, Store, Lea, Push, Pop, SetCond, Cmov, Jcc, Jmp, Call, Ret, CallR11, JmpR11, Syscall, Ud2, Int3, Nop}
-use Rattle.x86_core.specs.declared.instr.Decoded.{Decoded}
-use Rattle.x86_core.specs.declared.instr.Decoded.TheVariants.{One, Short, Unknown}
+use Rattle.x86_core.specs.declared.instr.Instr.TheVariants.{Mov, Alu, AluImm, Imul, Shift, Div, Widen, Load, Store, Lea, SetCond, Cmov}
+use Rattle.x86_core.specs.declared.instr.Decoded.TheVariants.{One, Unknown}
 use Rattle.x86_core.specs.declared.instr.Prefix.{Prefix}
 use Rattle.x86_core.specs.declared.instr.Prefix.TheVariants.{Plain, Rex, Word}
-use Rattle.x86_core.specs.Encoding.{encoding, IsInstr, IsNumber32, IsCut, bit, rex, rex_if, is_wide, extended, low3, modrm, registers, digit, memory, number32, alu_opcode, imm_digit, shift_digit, div_digit, cond_code}
+use Rattle.x86_core.specs.Encoding.{encoding, IsInstr, IsNumber32, rex, rex_if, is_wide, extended, registers, digit, memory, number32, alu_opcode, imm_digit, shift_digit, div_digit, cond_code}
 use Rattle.x86_core.specs.Decoding
 use Rattle.x86_core.specs.Decoding.{wide_bit, reg_bit, rm_bit, prefix_size, is_plain, is_free, is_sized, is_narrow, is_long, is_byte, is_usual, wide_at, size_at, reg_at, imm_at, shift_at, div_at, cond_at, first4, first8, taken, with_number, two_registers, with_digit, at_memory, by_mode}
-use Rattle.x86_core.proofs.Parts.{IsBytes, HasBits, reg_at_bits, ImmHas, imm_at_digit, ShiftHas, shift_at_digit, DivHas, div_at_digit, CondHas, cond_at_code, bytes_back}
-use Rattle.x86_core.proofs.Good.{Good, Says, Spells, good_unknown, good_if, good_where, good_byte, good_next, good_one, cut_of, good_two, good_digit, good_taken4, good_number, good_memory, good_mode}
+use Rattle.x86_core.proofs.Parts.{HasBits, reg_at_bits, ImmHas, imm_at_digit, ShiftHas, shift_at_digit, DivHas, div_at_digit, CondHas}
+use Rattle.x86_core.proofs.Good.{Good, good_unknown, good_where, good_one, cut_of, good_two, good_digit, good_number, good_memory}
 
 -- the bytes of a prefix
 abbrev pub spelled : Prefix → List ℕ
@@ -279,13 +275,13 @@ pub alu_imm_row_good : (p : Prefix) → Good (spelled p ++ 0x81 ∷ []) (Decodin
 alu_imm_row_good p =
     good_where _ (is_free p && not (reg_bit p)) (with_digit (λ n d rest. Decoding.alu_imm (imm_at n) (wide_at p) d (prefix_size p + 6) rest) p)
     (λ t. row (left_true (is_free p) (not (reg_bit p)) t) (not_true (reg_bit p) (right_true (is_free p) (not (reg_bit p)) t))) where
-  row : is_free p ≡ true → reg_bit p ≡ false → Good (spelled p ++ 0x81 ∷ []) (with_digit (λ n d rest. Decoding.alu_imm (imm_at n) (wide_at p) d (prefix_size p + 6) rest) p)
-  row e none =
-      let zero_rm : HasBits (reg_at (rm_bit p) 0) (rm_bit p) 0 = reg_at_bits (rm_bit p) 0 (lit< tt) in
-      let whole = alu_imm_bytes p ImmOp.Add 0 (reg_at (rm_bit p) 0) (pos 0) refl e none zero_rm.above in
-      good_digit (spelled p ++ 0x81 ∷ []) (λ n d rest. Decoding.alu_imm (imm_at n) (wide_at p) d (prefix_size p + 6) rest) p
-      (cut_of _ (AluImm ImmOp.Add (wide_at p) (reg_at (rm_bit p) 0) (pos 0)) (digit 0 (reg_at (rm_bit p) 0)) (number32 (pos 0)) (lit< tt) (whole ∙ append_assoc (spelled p ++ 0x81 ∷ []) (digit 0 (reg_at (rm_bit p) 0) ∷ []) (number32 (pos 0))))
-      (λ n small d hd. alu_imm_good (imm_at n) n p d (imm_at_digit n small) e none hd)
+      row : is_free p ≡ true → reg_bit p ≡ false → Good (spelled p ++ 0x81 ∷ []) (with_digit (λ n d rest. Decoding.alu_imm (imm_at n) (wide_at p) d (prefix_size p + 6) rest) p)
+      row e none =
+          let zero_rm : HasBits (reg_at (rm_bit p) 0) (rm_bit p) 0 = reg_at_bits (rm_bit p) 0 (lit< tt) in
+          let whole = alu_imm_bytes p ImmOp.Add 0 (reg_at (rm_bit p) 0) (pos 0) refl e none zero_rm.above in
+          good_digit (spelled p ++ 0x81 ∷ []) (λ n d rest. Decoding.alu_imm (imm_at n) (wide_at p) d (prefix_size p + 6) rest) p
+          (cut_of _ (AluImm ImmOp.Add (wide_at p) (reg_at (rm_bit p) 0) (pos 0)) (digit 0 (reg_at (rm_bit p) 0)) (number32 (pos 0)) (lit< tt) (whole ∙ append_assoc (spelled p ++ 0x81 ∷ []) (digit 0 (reg_at (rm_bit p) 0) ∷ []) (number32 (pos 0))))
+          (λ n small d hd. alu_imm_good (imm_at n) n p d (imm_at_digit n small) e none hd)
 
 -- D3
 shift_bytes : (p : Prefix) (op : ShiftOp) (n : ℕ) (d : Reg) → shift_digit op ≡ n → is_free p ≡ true → reg_bit p ≡ false → extended d ≡ rm_bit p →
@@ -305,12 +301,12 @@ pub shift_row_good : (p : Prefix) → Good (spelled p ++ 0xD3 ∷ []) (Decoding.
 shift_row_good p =
     good_where _ (is_free p && not (reg_bit p)) (with_digit (λ n d rest. Decoding.shifting (shift_at n) (wide_at p) d (prefix_size p + 2)) p)
     (λ t. row (left_true (is_free p) (not (reg_bit p)) t) (not_true (reg_bit p) (right_true (is_free p) (not (reg_bit p)) t))) where
-  row : is_free p ≡ true → reg_bit p ≡ false → Good (spelled p ++ 0xD3 ∷ []) (with_digit (λ n d rest. Decoding.shifting (shift_at n) (wide_at p) d (prefix_size p + 2)) p)
-  row e none =
-      let zero_rm : HasBits (reg_at (rm_bit p) 0) (rm_bit p) 0 = reg_at_bits (rm_bit p) 0 (lit< tt) in
-      good_digit (spelled p ++ 0xD3 ∷ []) (λ n d rest. Decoding.shifting (shift_at n) (wide_at p) d (prefix_size p + 2)) p
-      (cut_of _ (Shift ShiftOp.Shl (wide_at p) (reg_at (rm_bit p) 0)) _ [] tt (shift_bytes p ShiftOp.Shl 4 (reg_at (rm_bit p) 0) refl e none zero_rm.above))
-      (λ n small d hd. shift_good (shift_at n) n p d (shift_at_digit n small) e none hd)
+      row : is_free p ≡ true → reg_bit p ≡ false → Good (spelled p ++ 0xD3 ∷ []) (with_digit (λ n d rest. Decoding.shifting (shift_at n) (wide_at p) d (prefix_size p + 2)) p)
+      row e none =
+          let zero_rm : HasBits (reg_at (rm_bit p) 0) (rm_bit p) 0 = reg_at_bits (rm_bit p) 0 (lit< tt) in
+          good_digit (spelled p ++ 0xD3 ∷ []) (λ n d rest. Decoding.shifting (shift_at n) (wide_at p) d (prefix_size p + 2)) p
+          (cut_of _ (Shift ShiftOp.Shl (wide_at p) (reg_at (rm_bit p) 0)) _ [] tt (shift_bytes p ShiftOp.Shl 4 (reg_at (rm_bit p) 0) refl e none zero_rm.above))
+          (λ n small d hd. shift_good (shift_at n) n p d (shift_at_digit n small) e none hd)
 
 -- F6
 byte_division_bytes : (p : Prefix) (signed : Bool) (n : ℕ) (s : Reg) → div_digit signed ≡ n → is_byte p ≡ true → reg_bit p ≡ false → extended s ≡ rm_bit p →
@@ -330,12 +326,12 @@ pub byte_division_row_good : (p : Prefix) → Good (spelled p ++ 0xF6 ∷ []) (D
 byte_division_row_good p =
     good_where _ (is_byte p && not (reg_bit p)) (with_digit (λ n s rest. Decoding.dividing (div_at n) Size.W8 s 3) p)
     (λ t. row (left_true (is_byte p) (not (reg_bit p)) t) (not_true (reg_bit p) (right_true (is_byte p) (not (reg_bit p)) t))) where
-  row : is_byte p ≡ true → reg_bit p ≡ false → Good (spelled p ++ 0xF6 ∷ []) (with_digit (λ n s rest. Decoding.dividing (div_at n) Size.W8 s 3) p)
-  row e none =
-      let zero_rm : HasBits (reg_at (rm_bit p) 0) (rm_bit p) 0 = reg_at_bits (rm_bit p) 0 (lit< tt) in
-      good_digit (spelled p ++ 0xF6 ∷ []) (λ n s rest. Decoding.dividing (div_at n) Size.W8 s 3) p
-      (cut_of _ (Div false Size.W8 (reg_at (rm_bit p) 0)) _ [] tt (byte_division_bytes p false 6 (reg_at (rm_bit p) 0) refl e none zero_rm.above))
-      (λ n small s hs. byte_division_good (div_at n) n p s (div_at_digit n small) e none hs)
+      row : is_byte p ≡ true → reg_bit p ≡ false → Good (spelled p ++ 0xF6 ∷ []) (with_digit (λ n s rest. Decoding.dividing (div_at n) Size.W8 s 3) p)
+      row e none =
+          let zero_rm : HasBits (reg_at (rm_bit p) 0) (rm_bit p) 0 = reg_at_bits (rm_bit p) 0 (lit< tt) in
+          good_digit (spelled p ++ 0xF6 ∷ []) (λ n s rest. Decoding.dividing (div_at n) Size.W8 s 3) p
+          (cut_of _ (Div false Size.W8 (reg_at (rm_bit p) 0)) _ [] tt (byte_division_bytes p false 6 (reg_at (rm_bit p) 0) refl e none zero_rm.above))
+          (λ n small s hs. byte_division_good (div_at n) n p s (div_at_digit n small) e none hs)
 
 -- F7, by the prefix
 division_front : (p : Prefix) (signed : Bool) (s : Reg) → is_sized p ≡ true → reg_bit p ≡ false → extended s ≡ rm_bit p →
@@ -362,12 +358,12 @@ pub division_row_good : (p : Prefix) → Good (spelled p ++ 0xF7 ∷ []) (Decodi
 division_row_good p =
     good_where _ (is_sized p && not (reg_bit p)) (with_digit (λ n s rest. Decoding.dividing (div_at n) (size_at p) s (prefix_size p + 2)) p)
     (λ t. row (left_true (is_sized p) (not (reg_bit p)) t) (not_true (reg_bit p) (right_true (is_sized p) (not (reg_bit p)) t))) where
-  row : is_sized p ≡ true → reg_bit p ≡ false → Good (spelled p ++ 0xF7 ∷ []) (with_digit (λ n s rest. Decoding.dividing (div_at n) (size_at p) s (prefix_size p + 2)) p)
-  row e none =
-      let zero_rm : HasBits (reg_at (rm_bit p) 0) (rm_bit p) 0 = reg_at_bits (rm_bit p) 0 (lit< tt) in
-      good_digit (spelled p ++ 0xF7 ∷ []) (λ n s rest. Decoding.dividing (div_at n) (size_at p) s (prefix_size p + 2)) p
-      (cut_of _ (Div false (size_at p) (reg_at (rm_bit p) 0)) _ [] tt (division_bytes p false 6 (reg_at (rm_bit p) 0) refl e none zero_rm.above))
-      (λ n small s hs. division_good (div_at n) n p s (div_at_digit n small) e none hs)
+      row : is_sized p ≡ true → reg_bit p ≡ false → Good (spelled p ++ 0xF7 ∷ []) (with_digit (λ n s rest. Decoding.dividing (div_at n) (size_at p) s (prefix_size p + 2)) p)
+      row e none =
+          let zero_rm : HasBits (reg_at (rm_bit p) 0) (rm_bit p) 0 = reg_at_bits (rm_bit p) 0 (lit< tt) in
+          good_digit (spelled p ++ 0xF7 ∷ []) (λ n s rest. Decoding.dividing (div_at n) (size_at p) s (prefix_size p + 2)) p
+          (cut_of _ (Div false (size_at p) (reg_at (rm_bit p) 0)) _ [] tt (division_bytes p false 6 (reg_at (rm_bit p) 0) refl e none zero_rm.above))
+          (λ n small s hs. division_good (div_at n) n p s (div_at_digit n small) e none hs)
 
 -- 0F 90 to 0F 9F
 set_bytes : (p : Prefix) (c : Cond) (n k : ℕ) (d : Reg) → cond_code c ≡ n → 0 ≡ k → is_byte p ≡ true → reg_bit p ≡ false → extended d ≡ rm_bit p →
@@ -382,11 +378,11 @@ set_good None n p h = good_unknown _
 set_good (Some c) n p h =
     good_where _ (is_byte p && not (reg_bit p)) (with_digit (λ k d rest. if nat_eq k 0 then One (SetCond c d) 4 else Unknown) p)
     (λ t. row (left_true (is_byte p) (not (reg_bit p)) t) (not_true (reg_bit p) (right_true (is_byte p) (not (reg_bit p)) t))) where
-  row : is_byte p ≡ true → reg_bit p ≡ false → Good (spelled p ++ (0x0F ∷ (0x90 + n) ∷ [])) (with_digit (λ k d rest. if nat_eq k 0 then One (SetCond c d) 4 else Unknown) p)
-  row e none =
-      let zero_rm : HasBits (reg_at (rm_bit p) 0) (rm_bit p) 0 = reg_at_bits (rm_bit p) 0 (lit< tt) in
-      good_digit (spelled p ++ (0x0F ∷ (0x90 + n) ∷ [])) (λ k d rest. if nat_eq k 0 then One (SetCond c d) 4 else Unknown) p
-      (cut_of _ (SetCond c (reg_at (rm_bit p) 0)) _ [] tt (set_bytes p c n 0 (reg_at (rm_bit p) 0) h refl e none zero_rm.above))
-      (λ k small d hd. good_where ((spelled p ++ (0x0F ∷ (0x90 + n) ∷ [])) ++ digit k d ∷ []) (nat_eq k 0) (λ bs. One (SetCond c d) 4)
-      (λ z. good_one ((spelled p ++ (0x0F ∷ (0x90 + n) ∷ [])) ++ digit k d ∷ []) (SetCond c d) 4 tt (set_bytes p c n k d h (sym (eqb-true k 0 z)) e none hd)
-      (let s = sized_front p (0x0F ∷ (0x90 + n) ∷ []) 2 refl in let one = byte_size p e in omega (arith, length-append (spelled p ++ (0x0F ∷ (0x90 + n) ∷ [])) (digit k d ∷ [])))))
+      row : is_byte p ≡ true → reg_bit p ≡ false → Good (spelled p ++ (0x0F ∷ (0x90 + n) ∷ [])) (with_digit (λ k d rest. if nat_eq k 0 then One (SetCond c d) 4 else Unknown) p)
+      row e none =
+          let zero_rm : HasBits (reg_at (rm_bit p) 0) (rm_bit p) 0 = reg_at_bits (rm_bit p) 0 (lit< tt) in
+          good_digit (spelled p ++ (0x0F ∷ (0x90 + n) ∷ [])) (λ k d rest. if nat_eq k 0 then One (SetCond c d) 4 else Unknown) p
+          (cut_of _ (SetCond c (reg_at (rm_bit p) 0)) _ [] tt (set_bytes p c n 0 (reg_at (rm_bit p) 0) h refl e none zero_rm.above))
+          (λ k small d hd. good_where ((spelled p ++ (0x0F ∷ (0x90 + n) ∷ [])) ++ digit k d ∷ []) (nat_eq k 0) (λ bs. One (SetCond c d) 4)
+          (λ z. good_one ((spelled p ++ (0x0F ∷ (0x90 + n) ∷ [])) ++ digit k d ∷ []) (SetCond c d) 4 tt (set_bytes p c n k d h (sym (eqb-true k 0 z)) e none hd)
+          (let s = sized_front p (0x0F ∷ (0x90 + n) ∷ []) 2 refl in let one = byte_size p e in omega (arith, length-append (spelled p ++ (0x0F ∷ (0x90 + n) ∷ [])) (digit k d ∷ [])))))

@@ -1,29 +1,25 @@
 -- The whole decoding is right: rows by opcodes, prefixes, bytes.
-use Rattle.std.proofs.Common.{◌≡◌, ℕ, zero, suc, ◌+◌, ◌*◌, ◌/◌, ◌%◌, ◌-◌, ◌^◌, ◌<◌, ◌≤◌, Bool, true, false, List, [], ◌∷◌, ◌++◌, length, Option, Some, None, refl, sym, ◌∙◌, ap, subst, append_assoc, length-append, lit<, arith}
-use Rattle.std.specs.Prelude.{ℤ, pos, not, ◌&&◌, ◌||◌, nat_eq, if◌then◌else◌}
+use Rattle.std.proofs.Common.{◌≡◌, ℕ, ◌+◌, ◌/◌, ◌%◌, ◌<◌, Bool, true, false, List, [], ◌∷◌, ◌++◌, length, Option, Some, None, refl, sym, ◌∙◌, ap, subst, append_assoc, arith}
+use Rattle.std.specs.Prelude.{not, ◌&&◌, ◌||◌, nat_eq, if◌then◌else◌}
 use Rattle.std.proofs.lemmas.Bool.{eqb-true}
 use Rattle.std.proofs.lemmas.List.{append-nil}
 use Rattle.rd_num.specs.Number.{le_bytes}
 use Rattle.x86_core.specs.declared.reg.Reg.{Reg}
-use Rattle.x86_core.specs.declared.instr.Wide.{Wide}
-use Rattle.x86_core.specs.declared.instr.Size.{Size}
 use Rattle.x86_core.specs.declared.instr.HighSize.{HighSize}
-use Rattle.x86_core.specs.declared.instr.Mem.{Mem}
 use Rattle.x86_core.specs.declared.instr.AluOp.{AluOp}
 use Rattle.x86_core.specs.declared.instr.WidenKind.{WidenKind}
 use Rattle.x86_core.specs.declared.instr.Cond.{Cond}
 use Rattle.x86_core.specs.declared.instr.Instr.{Instr}
-use Rattle.x86_core.specs.declared.instr.Instr.TheVariants.{Mov, MovImm64, MovImm32, High, Widen, Load, Store, Push, Pop, Jcc, Jmp, Call, Ret, CallR11, JmpR11, Syscall, Ud2, Int3, Nop}
+use Rattle.x86_core.specs.declared.instr.Instr.TheVariants.{MovImm64, MovImm32, High, Push, Pop, Jcc, Jmp, Call, Ret, CallR11, JmpR11, Syscall, Ud2, Int3, Nop}
 use Rattle.x86_core.specs.declared.instr.Decoded.{Decoded}
 use Rattle.x86_core.specs.declared.instr.Decoded.TheVariants.{One, Short, Unknown}
 use Rattle.x86_core.specs.declared.instr.Prefix.{Prefix}
 use Rattle.x86_core.specs.declared.instr.Prefix.TheVariants.{Plain, Rex, Word}
-use Rattle.x86_core.specs.declared.reg.Reg.TheVariants.{Rax, R8}
-use Rattle.x86_core.specs.Encoding.{encoding, IsInstr, IsNumber32, IsCut, bit, rex, rex_if, is_wide, extended, low3, registers, number32, cond_code}
+use Rattle.x86_core.specs.Encoding.{encoding, IsInstr, IsCut, rex, rex_if, extended, number32}
 use Rattle.x86_core.specs.Decoding
 use Rattle.x86_core.specs.Decoding.{wide_bit, reg_bit, rm_bit, prefix_size, is_plain, is_free, is_sized, is_narrow, is_long, is_byte, is_usual, reg_at, cond_at, first4, first8, taken, with_number, by_mode, is_rex, rex_of, opcode, opcode_rows, decode}
-use Rattle.x86_core.proofs.Parts.{IsBytes, HasBits, reg_at_bits, CondHas, cond_at_code, rex_back}
-use Rattle.x86_core.proofs.Good.{Good, Says, Spells, good_unknown, good_if, good_where, good_byte, good_front, good_next, good_one, cut_of, good_taken4, good_taken8, good_number, good_mode}
+use Rattle.x86_core.proofs.Parts.{HasBits, reg_at_bits, CondHas, cond_at_code, rex_back}
+use Rattle.x86_core.proofs.Good.{Good, Says, good_unknown, good_if, good_where, good_byte, good_front, good_next, good_one, cut_of, good_taken4, good_taken8, good_number, good_mode}
 use Rattle.x86_core.proofs.Rows
 
 -- 50 to 57
@@ -31,24 +27,24 @@ push_good : (p : Prefix) (n : ℕ) → n < 8 → Good (Rows.spelled p ++ (0x50 +
 push_good p n h =
     good_where _ (is_narrow p && not (reg_bit p)) (λ bs. One (Push (reg_at (rm_bit p) n)) (prefix_size p + 1))
     (λ t. row (Rows.left_true (is_narrow p) (not (reg_bit p)) t) (Rows.not_true (reg_bit p) (Rows.right_true (is_narrow p) (not (reg_bit p)) t))) where
-  row : is_narrow p ≡ true → reg_bit p ≡ false → Good (Rows.spelled p ++ (0x50 + n) ∷ []) (λ bs. One (Push (reg_at (rm_bit p) n)) (prefix_size p + 1))
-  row e none =
-      let r : HasBits (reg_at (rm_bit p) n) (rm_bit p) n = reg_at_bits (rm_bit p) n h in
-      good_one _ (Push (reg_at (rm_bit p) n)) (prefix_size p + 1) tt
-      (ap (λ (k : ℕ). rex_if false false (extended (reg_at (rm_bit p) n)) ++ ((0x50 + k) ∷ [])) r.below ∙ ap (λ (xs : List ℕ). xs ++ ((0x50 + n) ∷ [])) (Rows.narrow_front p false _ (sym none) r.above e))
-      (Rows.sized_front p ((0x50 + n) ∷ []) 1 refl)
+      row : is_narrow p ≡ true → reg_bit p ≡ false → Good (Rows.spelled p ++ (0x50 + n) ∷ []) (λ bs. One (Push (reg_at (rm_bit p) n)) (prefix_size p + 1))
+      row e none =
+          let r : HasBits (reg_at (rm_bit p) n) (rm_bit p) n = reg_at_bits (rm_bit p) n h in
+          good_one _ (Push (reg_at (rm_bit p) n)) (prefix_size p + 1) tt
+          (ap (λ (k : ℕ). rex_if false false (extended (reg_at (rm_bit p) n)) ++ ((0x50 + k) ∷ [])) r.below ∙ ap (λ (xs : List ℕ). xs ++ ((0x50 + n) ∷ [])) (Rows.narrow_front p false _ (sym none) r.above e))
+          (Rows.sized_front p ((0x50 + n) ∷ []) 1 refl)
 
 -- 58 to 5F
 pop_good : (p : Prefix) (n : ℕ) → n < 8 → Good (Rows.spelled p ++ (0x58 + n) ∷ []) (λ bs. Decoding.pop_row p n)
 pop_good p n h =
     good_where _ (is_narrow p && not (reg_bit p)) (λ bs. One (Pop (reg_at (rm_bit p) n)) (prefix_size p + 1))
     (λ t. row (Rows.left_true (is_narrow p) (not (reg_bit p)) t) (Rows.not_true (reg_bit p) (Rows.right_true (is_narrow p) (not (reg_bit p)) t))) where
-  row : is_narrow p ≡ true → reg_bit p ≡ false → Good (Rows.spelled p ++ (0x58 + n) ∷ []) (λ bs. One (Pop (reg_at (rm_bit p) n)) (prefix_size p + 1))
-  row e none =
-      let r : HasBits (reg_at (rm_bit p) n) (rm_bit p) n = reg_at_bits (rm_bit p) n h in
-      good_one _ (Pop (reg_at (rm_bit p) n)) (prefix_size p + 1) tt
-      (ap (λ (k : ℕ). rex_if false false (extended (reg_at (rm_bit p) n)) ++ ((0x58 + k) ∷ [])) r.below ∙ ap (λ (xs : List ℕ). xs ++ ((0x58 + n) ∷ [])) (Rows.narrow_front p false _ (sym none) r.above e))
-      (Rows.sized_front p ((0x58 + n) ∷ []) 1 refl)
+      row : is_narrow p ≡ true → reg_bit p ≡ false → Good (Rows.spelled p ++ (0x58 + n) ∷ []) (λ bs. One (Pop (reg_at (rm_bit p) n)) (prefix_size p + 1))
+      row e none =
+          let r : HasBits (reg_at (rm_bit p) n) (rm_bit p) n = reg_at_bits (rm_bit p) n h in
+          good_one _ (Pop (reg_at (rm_bit p) n)) (prefix_size p + 1) tt
+          (ap (λ (k : ℕ). rex_if false false (extended (reg_at (rm_bit p) n)) ++ ((0x58 + k) ∷ [])) r.below ∙ ap (λ (xs : List ℕ). xs ++ ((0x58 + n) ∷ [])) (Rows.narrow_front p false _ (sym none) r.above e))
+          (Rows.sized_front p ((0x58 + n) ∷ []) 1 refl)
 
 -- B8 to BF
 module _ (p : Prefix) (n : ℕ) (h : n < 8) where
@@ -242,6 +238,7 @@ second_good (Word r b) = record { says = λ bs h. says bs; stays = stays } where
   says : (bs : List ℕ) → Says ((Rows.spelled (Word r b) ++ 0x0F ∷ []) ++ bs) (Decoding.second (Word r b) bs)
   says [] = tt
   says (c ∷ bs) = tt
+
   stays : (bs more : List ℕ) → Decoding.second (Word r b) bs ≡ Unknown → Decoding.second (Word r b) (bs ++ more) ≡ Unknown
   stays [] [] e = refl
   stays [] (c ∷ more) e = refl
@@ -331,8 +328,8 @@ word_prefixed_good =
     good_next (0x66 ∷ []) Decoding.word_prefixed (λ b bs. if is_rex b then Decoding.after_word (rex_of b) bs else opcode_rows (Word false false) b bs)
     refl (λ b bs. refl) (cut_of (0x66 ∷ []) (High HighSize.W16) 0x99 [] tt refl)
     (λ b. good_if (0x66 ∷ b ∷ []) (is_rex b) (Decoding.after_word (rex_of b)) (opcode_rows (Word false false) b) (rexed b) (λ e. opcode_good (Word false false) b)) where
-  rexed : (b : ℕ) → is_rex b ≡ true → Good (0x66 ∷ b ∷ []) (Decoding.after_word (rex_of b))
-  rexed b e = subst (λ (x : ℕ). Good (0x66 ∷ x ∷ []) (Decoding.after_word (rex_of b))) (rex_back b e) (after_good (nat_eq (b / 8 % 2) 1) (nat_eq (b / 4 % 2) 1) (nat_eq (b % 2) 1))
+      rexed : (b : ℕ) → is_rex b ≡ true → Good (0x66 ∷ b ∷ []) (Decoding.after_word (rex_of b))
+      rexed b e = subst (λ (x : ℕ). Good (0x66 ∷ x ∷ []) (Decoding.after_word (rex_of b))) (rex_back b e) (after_good (nat_eq (b / 8 % 2) 1) (nat_eq (b / 4 % 2) 1) (nat_eq (b % 2) 1))
 
 -- all bytes
 pub decode_good : Good [] decode
@@ -342,5 +339,5 @@ decode_good =
     refl (λ b bs. refl) (cut_of [] Nop 0x90 [] tt refl)
     (λ b. good_byte [] b 0x66 Decoding.word_prefixed (λ bs. if is_rex b then opcode (rex_of b) bs else opcode_rows Plain b bs) word_prefixed_good
     (good_if (b ∷ []) (is_rex b) (opcode (rex_of b)) (opcode_rows Plain b) (rexed b) (λ e. opcode_good Plain b))) where
-  rexed : (b : ℕ) → is_rex b ≡ true → Good (b ∷ []) (opcode (rex_of b))
-  rexed b e = subst (λ (x : ℕ). Good (x ∷ []) (opcode (rex_of b))) (rex_back b e) (prefixed_good (rex_of b) refl)
+      rexed : (b : ℕ) → is_rex b ≡ true → Good (b ∷ []) (opcode (rex_of b))
+      rexed b e = subst (λ (x : ℕ). Good (x ∷ []) (opcode (rex_of b))) (rex_back b e) (prefixed_good (rex_of b) refl)

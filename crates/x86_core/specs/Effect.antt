@@ -1,5 +1,5 @@
 -- What each instruction does to registers, flags, memory and the next place, in the rows' order.
-use Rattle.std.specs.Prelude.{ℕ, ◌+◌, ◌*◌, ◌/◌, ◌%◌, ◌^◌, Bool, true, false, if◌then◌else◌, List, ℤ, pos, negsuc, Option, Some, None}
+use Rattle.std.specs.Prelude.{ℕ, ◌+◌, ◌*◌, ◌^◌, Bool, if◌then◌else◌, List, ℤ, pos, negsuc, Option, Some, None}
 use Rattle.x86_core.specs.declared.reg.Reg.{Reg}
 use Rattle.x86_core.specs.declared.reg.Reg.TheVariants.{Rax, Rcx, Rdx, Rsp}
 use Rattle.x86_core.specs.declared.flags.Flags.{Flags}
@@ -9,11 +9,9 @@ use Rattle.x86_core.specs.declared.instr.HighSize.{HighSize}
 use Rattle.x86_core.specs.declared.instr.Mem.{Mem}
 use Rattle.x86_core.specs.declared.instr.AluOp.{AluOp}
 use Rattle.x86_core.specs.declared.instr.ShiftOp.{ShiftOp}
-use Rattle.x86_core.specs.declared.instr.Cond.{Cond}
 use Rattle.x86_core.specs.declared.instr.Instr.{Instr}
 use Rattle.x86_core.specs.declared.instr.Instr.TheVariants.{Mov, MovImm64, MovImm32, Alu, AluImm, Imul, Shift, Div, High, Widen, Load, Store, Lea, Push, Pop, SetCond, Cmov, Jcc, Jmp, Call, Ret, CallR11, JmpR11, Syscall, Ud2, Int3, Nop}
 use Rattle.x86_core.specs.declared.divide.Division.{Division}
-use Rattle.x86_core.specs.declared.effect.Access.{Access}
 use Rattle.x86_core.specs.declared.effect.Access.TheVariants.{Nothing, Read, Write}
 use Rattle.x86_core.specs.declared.effect.Next.{Next}
 use Rattle.x86_core.specs.declared.effect.Change.{Change}

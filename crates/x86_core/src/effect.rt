@@ -21,7 +21,7 @@ use crate::shift::{count, flags_after, shift};
 use crate::widen::{fill, widen};
 
 /// An instruction's access to memory. A word that is read goes into a register with zeros above it.
-#[derive(Clone, Copy)]
+#[derive(Clone, Copy, PartialEq, Eq)]
 pub enum Access {
     Nothing,
     Read { at: u64, size: Size, into: Reg },
@@ -29,7 +29,7 @@ pub enum Access {
 }
 
 /// Where the machine goes on, or why it stops.
-#[derive(Clone, Copy)]
+#[derive(Clone, Copy, PartialEq, Eq)]
 pub enum Next {
     Fall,
     Branch(i32),

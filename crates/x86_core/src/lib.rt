@@ -17,4 +17,6 @@ pub mod image;
 pub mod instr;
 pub mod reg;
 pub mod shift;
+#[cfg(test)]
+mod tests;
 pub mod widen;

@@ -1,4 +1,3 @@
-use Rattle.std.proofs.Common.{◌∙◌, sym}
 use Rattle.x86_core.proofs.Laws.{cut_unknown, unknown_none, none_unknown}
 use Rattle.x86_decode.proofs.law.unknown_is_neither.Goals as goal
 

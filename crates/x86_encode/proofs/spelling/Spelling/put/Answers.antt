@@ -1,5 +1,5 @@
 -- One zero less stands behind one byte more.
-use Rattle.std.proofs.Common.{refl, arith, rules}
+use Rattle.std.proofs.Common.{refl, rules}
 use Rattle.x86_encode.proofs.Zeros.{zeros_behind}
 use Rattle.x86_encode.proofs.spelling.Spelling.put.Goals as goal
 
