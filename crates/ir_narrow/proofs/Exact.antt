@@ -1,5 +1,5 @@
 -- What is read of a text is exactly the narrow program that it spells.
-use Rattle.std.proofs.Common.{◌≡◌, ℕ, zero, suc, ◌+◌, ◌<◌, ◌≤◌, ◌⊎◌, Bool, true, false, ◌&&◌, List, [], ◌∷◌, ◌++◌, length, map, Option, Some, None, refl, sym, ◌∙◌, ap, subst, arith, append_assoc}
+use Rattle.std.proofs.Common.{◌≡◌, ℕ, zero, suc, ◌≤◌, Bool, true, false, ◌&&◌, List, [], ◌∷◌, ◌++◌, length, Option, Some, None, refl, sym, ◌∙◌, ap, subst, arith, append_assoc}
 use Rattle.std.specs.Prelude.{if◌then◌else◌, codes, is_none}
 use Rattle.std.proofs.lemmas.List.{append-nil}
 use Rattle.ir_narrow.specs.declared.narrow.Operation.{Operation}
@@ -8,10 +8,10 @@ use Rattle.ir_narrow.specs.declared.narrow.Instruction.{Instruction}
 use Rattle.ir_narrow.specs.declared.narrow.Narrow.{Narrow}
 use Rattle.ir_narrow.specs.Pieces.{pieces, same}
 use Rattle.ir_narrow.specs.Values.{is_name, place_of}
-use Rattle.ir_narrow.specs.NarrowText.{Row, Program, word, pieces_of_row, pieces_of_rows, pieces_of_end, pieces_of, IsOperand, IsRow, AreRows, names_of, IsNarrow, IsNarrowText}
+use Rattle.ir_narrow.specs.NarrowText.{Row, Program, word, pieces_of_row, pieces_of_rows, pieces_of_end, IsOperand, IsRow, AreRows, names_of, IsNarrowText}
 use Rattle.ir_narrow.specs.Reading.{value_of, operation_of, before_comma, name_of, Spelled, spelled, Two, opening_of, operands_of, with_operands, with_opening, row_of, end_of, instruction, resolved, put, with_result, returned, begins_ret, row_then, reads, body_of, narrow_in}
-use Rattle.ir_narrow.specs.Resolved.{Matches, AllMatch, IsResolved, SpellsNarrow}
-use Rattle.ir_narrow.proofs.Words.{same_is, passed, both, operation_is, operation_back, IsNamed, name_is, name_back, comma_is, comma_back, operand_is, operand_back}
+use Rattle.ir_narrow.specs.Resolved.{Matches, AllMatch, SpellsNarrow}
+use Rattle.ir_narrow.proofs.Words.{same_is, passed, both, operation_is, operation_back, name_is, name_back, comma_is, comma_back, operand_is, operand_back}
 
 opening_is : (ps : List (List ℕ)) (t : Two) → opening_of ps ≡ Some t → ps ≡ t.first ∷ codes "=" ∷ t.second ∷ t.rest
 opening_is [] t h = absurd (cc)

@@ -1,5 +1,5 @@
 -- The pieces of an opening, put together from what is read one by one.
-use Rattle.std.proofs.Common.{◌≡◌, ℕ, Bool, true, false, List, [], ◌∷◌, Option, Some, None, if◌then◌else◌, refl}
+use Rattle.std.proofs.Common.{◌≡◌, ℕ, Bool, true, false, List, [], ◌∷◌, Some, None, if◌then◌else◌, refl}
 use Rattle.std.specs.Prelude.{codes}
 use Rattle.ir_narrow.specs.Pieces.{same}
 use Rattle.ir_narrow.specs.Reading.{after, opening_of}

@@ -1,5 +1,5 @@
 -- One row more of a text that is read.
-use Rattle.std.proofs.Common.{◌≡◌, ℕ, zero, suc, ◌+◌, ◌-◌, ◌<◌, Bool, true, false, List, [], ◌∷◌, ◌++◌, Option, Some, None, Err, refl, sym, ◌∙◌, ap, arith, append_assoc, length, length-append}
+use Rattle.std.proofs.Common.{◌≡◌, ℕ, suc, ◌+◌, ◌-◌, ◌<◌, true, false, List, [], ◌∷◌, ◌++◌, Option, Some, None, Err, refl, sym, ◌∙◌, ap, arith, append_assoc, length, length-append}
 use Rattle.std.specs.Prelude.{if◌then◌else◌}
 use Rattle.ir_narrow.specs.declared.narrow.Instruction.{Instruction}
 use Rattle.ir_narrow.specs.declared.narrow.Narrow.{Narrow}

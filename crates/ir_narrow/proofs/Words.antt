@@ -1,15 +1,15 @@
 -- Words and operands, there and back.
-use Rattle.std.proofs.Common.{◌≡◌, ℕ, zero, suc, ◌+◌, ◌-◌, ◌<◌, ◌⊎◌, Bool, true, false, ◌&&◌, List, [], ◌∷◌, ◌++◌, length, take, get_or, Option, Some, None, inl, inr, refl, sym, ◌∙◌, ap, subst, arith, length-append}
-use Rattle.std.specs.Prelude.{if◌then◌else◌, nat_eq, nat_le, codes, slice_index, ℤ, is_none}
+use Rattle.std.proofs.Common.{◌≡◌, ℕ, ◌+◌, ◌<◌, Bool, true, false, ◌&&◌, List, [], ◌∷◌, ◌++◌, length, take, Option, Some, None, inl, inr, refl, sym, ◌∙◌, ap, arith, length-append}
+use Rattle.std.specs.Prelude.{if◌then◌else◌, nat_eq, nat_le, codes, slice_index, ℤ}
 use Rattle.std.specs.Cmp.Lexicographic.{same_text, nat_list_eq_equiv}
-use Rattle.std.proofs.lemmas.Bool.{eqb-true, and_from}
+use Rattle.std.proofs.lemmas.Bool.{eqb-true}
 use Rattle.std.proofs.lemmas.List.{take_more, take_all, get_or_push}
 use Rattle.std.proofs.Math.Seq.{take-append_seam}
 use Rattle.ir_narrow.specs.declared.narrow.Operation.{Operation}
 use Rattle.ir_narrow.specs.declared.narrow.Operation.TheVariants.{Add, Sub, Mul}
 use Rattle.ir_narrow.specs.declared.narrow.Value.{Value}
 use Rattle.ir_narrow.specs.Pieces.{same}
-use Rattle.ir_narrow.specs.Values.{is_digit, is_name, digits_from, natural_of, at_most, integer_of, place_of}
+use Rattle.ir_narrow.specs.Values.{is_name, digits_from, at_most, integer_of, place_of}
 use Rattle.ir_narrow.specs.NarrowText.{word, IsOperand}
 use Rattle.ir_narrow.specs.Reading.{number, earlier, behind_percent, value_or, value_of, operation_of, before_comma, if_name, name_of}
 

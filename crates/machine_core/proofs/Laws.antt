@@ -1,9 +1,9 @@
 -- What every step keeps: what was printed stays and grows at its end, the count of bytes taken doesn't fall, and a
 -- run that has stopped stays as it is.
-use Rattle.std.proofs.Common.{◌≡◌, ℕ, ◌+◌, ◌≤◌, Bool, true, false, List, [], ◌∷◌, ◌++◌, Option, Some, None, refl, sym, ◌∙◌, ap, arith}
+use Rattle.std.proofs.Common.{◌≡◌, ℕ, Bool, true, false, List, [], ◌∷◌, Option, Some, None, refl, sym, ◌∙◌, ap, arith}
 use Rattle.std.proofs.lemmas.List.{append-nil}
 use Rattle.behavior.specs.Ending.{Ending, Going}
-use Rattle.behavior.specs.Moment.{Moment, HasStopped}
+use Rattle.behavior.specs.Moment.{HasStopped}
 use Rattle.behavior.specs.System.{Grows, System}
 use Rattle.x86_core.specs.declared.flags.Flags.{Flags}
 use Rattle.x86_core.specs.declared.image.Segment.{Segment}
@@ -17,7 +17,7 @@ use Rattle.x86_core.specs.declared.reg.Reg.TheVariants.{R11, Rsi, Rsp}
 use Rattle.x86_core.specs.Arithmetic.{holds}
 use Rattle.x86_core.specs.Effect.{effect_of}
 use Rattle.rd_num.specs.Number.{le_bytes, le_number}
-use Rattle.x86_core.specs.Registers.{word, with_word}
+use Rattle.x86_core.specs.Registers.{word}
 use Rattle.machine_core.specs.Memory.{read_at, write_at}
 use Rattle.machine_core.specs.Step.{State, moment_of, Fetched, Stops, Plain, Goes, Tests, Calls, Returns, Follows, CallsWord, Systems, size_bytes, after_read, after_write, by_access, by_change, tested, landed, returned, below, called, called_word, after_print, after_take, next_byte, Request, Exits, Idles, Prints, Takes, Unknowns, request_of, served, act, step_of}
 

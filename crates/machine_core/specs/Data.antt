@@ -1,6 +1,5 @@
 -- The readable segments of a run, and its stack.
 use Rattle.std.specs.Prelude.{ℕ, List, [], ◌∷◌, replicate}
-use Rattle.x86_core.specs.declared.image.Rights.{Rights}
 use Rattle.x86_core.specs.declared.image.Segment.{Segment}
 
 -- where the readable segments and the stack lie

@@ -1,5 +1,5 @@
 -- Runs: where they start, and a list of acts on them.
-use Rattle.std.specs.Prelude.{ℕ, List, [], ◌∷◌, Option, Some, None, replicate, nat_eq, if◌then◌else◌}
+use Rattle.std.specs.Prelude.{ℕ, List, [], ◌∷◌, Option, Some, None, replicate}
 use Rattle.behavior.specs.Ending.{Going}
 use Rattle.x86_core.specs.declared.reg.Reg.TheVariants.{Rax, Rsp}
 use Rattle.x86_core.specs.declared.flags.Flag.TheVariants.{Zero}

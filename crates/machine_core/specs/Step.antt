@@ -2,7 +2,7 @@
 -- come to. So the machine with addresses and the machine of an object differ by what they fetch and by where a word
 -- leads, and share all that an instruction does.
 use Rattle.std.specs.Prelude.{ℕ, ◌+◌, ◌-◌, ◌*◌, ◌/◌, ◌%◌, ◌^◌, Bool, true, false, ◌&&◌, nat_eq, min, if◌then◌else◌, List, [], ◌∷◌, ◌++◌, Option, Some, None, ℤ, pos, negsuc}
-use Rattle.behavior.specs.Ending.{Ending, Going, Ended, Divide, Invalid, Breakpoint, PageFault, NoForm, NoFlag, BadCall, Strayed, if_going}
+use Rattle.behavior.specs.Ending.{Ending, Ended, Divide, Invalid, Breakpoint, PageFault, NoFlag, BadCall, Strayed, if_going}
 use Rattle.behavior.specs.Moment.{Moment}
 use Rattle.rd_num.specs.Number.{le_bytes, le_number}
 use Rattle.x86_core.specs.declared.reg.Reg.{Reg}

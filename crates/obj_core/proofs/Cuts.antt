@@ -1,9 +1,9 @@
 -- Rows of instructions as bytes.
-use Rattle.std.proofs.Common.{◌≡◌, ℕ, ◌+◌, List, [], ◌∷◌, ◌++◌, length, refl, sym, ◌∙◌, ap, arith, append_assoc, length-append}
+use Rattle.std.proofs.Common.{◌≡◌, ◌+◌, List, [], ◌∷◌, ◌++◌, length, refl, sym, ◌∙◌, ap, append_assoc, length-append}
 use Rattle.x86_core.specs.declared.instr.Instr.{Instr}
-use Rattle.x86_core.specs.Encoding.{encoding, IsInstr}
+use Rattle.x86_core.specs.Encoding.{encoding}
 use Rattle.obj_core.specs.Object.{Each}
-use Rattle.obj_core.specs.Cut.{size_of, spelled}
+use Rattle.obj_core.specs.Cut.{spelled}
 
 pub spelled-append : (xs ys : List Instr) → spelled (xs ++ ys) ≡ spelled xs ++ spelled ys
 spelled-append [] ys = refl

@@ -1,10 +1,10 @@
 -- The registers that live across calls: which one a colour is, and how a function saves them.
-use Rattle.std.specs.Prelude.{ℕ, ◌+◌, Bool, true, false, ◌&&◌, ◌||◌, nat_eq, nat_lt, if◌then◌else◌, List, [], ◌∷◌, ◌++◌, length, map, take, slice_index, pos}
+use Rattle.std.specs.Prelude.{ℕ, ◌+◌, Bool, true, false, ◌||◌, nat_eq, nat_lt, if◌then◌else◌, List, [], ◌∷◌, length, map, take, slice_index, pos}
 use Rattle.std.specs.List.{list_all}
 use Rattle.std.specs.Cmp.Lexicographic.{pointwise}
 use Rattle.rd_draw.specs.Draw.{keystream_word, shuffled}
 use Rattle.x86_core.specs.declared.reg.Reg.{Reg}
-use Rattle.x86_core.specs.declared.reg.Reg.TheVariants.{Rax, Rbx, Rbp, R12, R13, R14, R15}
+use Rattle.x86_core.specs.declared.reg.Reg.TheVariants.{Rbx, Rbp, R12, R13, R14, R15}
 use Rattle.x86_core.specs.declared.instr.Wide.{Wide}
 use Rattle.x86_core.specs.declared.instr.ImmOp.{ImmOp}
 use Rattle.x86_core.specs.declared.instr.Cond.{Cond}

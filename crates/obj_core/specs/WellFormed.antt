@@ -1,6 +1,6 @@
 -- Which objects are well formed, and what is the first thing that is wrong with another one. There are eight rules,
 -- in order; a rule speaks of functions, in order, or of slots, in order, and in a function the least offset counts.
-use Rattle.std.specs.Prelude.{◌≡◌, ℕ, ◌+◌, ◌<◌, ◌≤◌, ◌⊎◌, Bool, true, false, not, ◌&&◌, ◌||◌, nat_eq, nat_lt, nat_le, min, if◌then◌else◌, List, [], ◌∷◌, ◌++◌, length, sum, map, Option, Some, None, slice_get, ℤ, pos, negsuc}
+use Rattle.std.specs.Prelude.{◌≡◌, ℕ, ◌+◌, ◌≤◌, ◌⊎◌, Bool, true, false, not, ◌&&◌, ◌||◌, nat_eq, nat_lt, min, if◌then◌else◌, List, [], ◌∷◌, ◌++◌, length, sum, map, Option, Some, None, slice_get, ℤ, pos, negsuc}
 use Rattle.x86_core.specs.declared.instr.Instr.{Instr}
 use Rattle.x86_core.specs.declared.instr.Instr.TheVariants.{Jcc, Jmp, Call, Ret, CallR11, JmpR11, Syscall, Ud2, Int3}
 use Rattle.x86_core.specs.Arithmetic.{moved}
@@ -12,7 +12,7 @@ use Rattle.obj_core.specs.declared.object.Link.{Link}
 use Rattle.obj_core.specs.declared.object.Slot.{Slot}
 use Rattle.obj_core.specs.declared.object.CodeAt.{CodeAt}
 use Rattle.obj_core.specs.Object.{Each, IsObject}
-use Rattle.obj_core.specs.Cut.{IsCut, AreCuts, Found, found, starts_at, spelled, size_of}
+use Rattle.obj_core.specs.Cut.{AreCuts, Found, found, starts_at, spelled, size_of}
 use Rattle.obj_core.specs.Saved.{prologue, begins_with, are_first_colors}
 
 -- rule 1, sizes: functions, slots, bytes of code, bytes of data

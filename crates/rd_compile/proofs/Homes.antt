@@ -1,16 +1,14 @@
 -- Reading and writing homes.
-use Rattle.std.proofs.Common.{◌≡◌, ℕ, zero, suc, ◌+◌, ◌-◌, ◌*◌, ◌/◌, ◌%◌, ◌^◌, ◌<◌, ◌≤◌, Bool, true, false, ◌&&◌, List, [], ◌∷◌, ◌++◌, length, take, drop, Option, Some, None, if◌then◌else◌, refl, sym, ◌∙◌, ap, arith, length-append}
-use Rattle.std.specs.Prelude.{pos, nat_le}
+use Rattle.std.proofs.Common.{◌≡◌, ℕ, zero, suc, ◌+◌, ◌-◌, ◌*◌, ◌^◌, ◌<◌, ◌≤◌, true, List, [], ◌∷◌, ◌++◌, length, take, drop, Some, None, if◌then◌else◌, refl, ◌∙◌, ap, arith, length-append}
+use Rattle.std.specs.Prelude.{pos}
 use Rattle.std.proofs.lemmas.Bool.{le-leb, and_from}
-use Rattle.std.proofs.lemmas.List.{drop-drop, drop_at, append_assoc, length-take, length-drop, take-append-le, drop-append-le, drop-take}
+use Rattle.std.proofs.lemmas.List.{drop_at, length-take, length-drop, take-append-le, drop-append-le, drop-take}
 use Rattle.std.proofs.Math.Seq.{take-append_seam}
 use Rattle.rd_num.specs.Number.{le_bytes, le_number}
-use Rattle.x86_core.specs.declared.image.Segment.{Segment}
 use Rattle.x86_core.specs.Arithmetic.{moved}
 use Rattle.x86_core.proofs.Parts.{number_back4}
 use Rattle.machine_core.specs.Memory.{holds, read_at, write_at, with_bytes}
 use Rattle.machine_core.specs.Data.{stack_start, segment}
-use Rattle.rd_compile.specs.NarrowCode.{frame_bytes}
 use Rattle.rd_compile.specs.Frame.{frame_start, home_offset, HomeHolds, stack_of}
 
 -- the bytes of the stack are all there

@@ -1,23 +1,21 @@
 -- A narrow program's object does what its module means.
-use Rattle.std.proofs.Common.{◌≡◌, ℕ, ◌+◌, ◌-◌, ◌*◌, ◌%◌, ◌^◌, ◌<◌, ◌≤◌, ◌⊎◌, List, [], ◌∷◌, ◌++◌, length, map, Option, Some, None, Ok, refl, sym, ◌∙◌, ap, subst, arith, inl, inr, append_assoc, length-append}
-use Rattle.std.specs.Prelude.{slice_get, codes, ℤ, pos}
+use Rattle.std.proofs.Common.{◌≡◌, ℕ, ◌+◌, ◌*◌, ◌%◌, ◌^◌, ◌<◌, ◌≤◌, List, [], ◌∷◌, ◌++◌, length, map, Option, Some, None, Ok, refl, sym, ◌∙◌, ap, subst, arith, inl, inr, append_assoc, length-append}
+use Rattle.std.specs.Prelude.{slice_get, codes}
 use Rattle.std.proofs.lemmas.List.{append-nil, length-map, map-append}
 use Rattle.behavior.specs.Ending.{Going, Ended}
-use Rattle.behavior.specs.Moment.{Agrees, IsLeft, IsGoing, HasStopped, AreBytes}
+use Rattle.behavior.specs.Moment.{Agrees, HasStopped, AreBytes}
 use Rattle.behavior.specs.Preserves.{Preserves}
 use Rattle.behavior.specs.System.{System}
-use Rattle.behavior.specs.Simulation.{Comes, Lands, Met, Follows, Starts}
+use Rattle.behavior.specs.Simulation.{Met, Follows, Starts}
 use Rattle.behavior.proofs.Stretch.{comes_wider, met_by, starts_by}
 use Rattle.behavior.proofs.Laws.{agrees_refl}
 use Rattle.rd_num.specs.declared.width.Width.TheVariants.{W32}
 use Rattle.ir_core.specs.declared.memory.Value.TheVariants.{Num}
 use Rattle.ir_core.specs.declared.instruction.Inst.{Inst}
-use Rattle.ir_core.specs.declared.instruction.BinOp.{BinOp}
 use Rattle.ir_core.specs.declared.instruction.Term.TheVariants.{RetValue}
 use Rattle.ir_core.specs.declared.module.Block.{Block}
 use Rattle.ir_core.specs.declared.module.Function.{Function}
 use Rattle.ir_core.specs.declared.module.Module.{Module}
-use Rattle.ir_core.specs.Kinds.{Number, kind_of}
 use Rattle.ir_core.specs.Arithmetic.{binary}
 use Rattle.ir_core.specs.Operands.{value_of as module_value}
 use Rattle.ir_core.specs.State.{Local, Frame, State as Source, source_moment}
@@ -48,13 +46,12 @@ use Rattle.obj_core.specs.declared.object.Place.{Place}
 use Rattle.obj_core.specs.Object.{Each}
 use Rattle.obj_core.specs.Cut.{spelled}
 use Rattle.obj_core.specs.SymbolicMachine.{symbolic_fetch, symbolic_land, symbolic_start, symbolic_behavior}
-use Rattle.obj_core.proofs.Cuts.{spelled-append, length-spelled-append}
+use Rattle.obj_core.proofs.Cuts.{length-spelled-append}
 use Rattle.obj_core.proofs.Stands.{Stand, stand}
 use Rattle.rd_compile.specs.NarrowCode.{frame_code, value_into, operation_code, instruction_code, instructions_code, end_code, main_code, main_bytes, narrow_object}
-use Rattle.rd_compile.specs.Frame.{stack_of}
 use Rattle.rd_compile.proofs.Homes.{IsStack, home_stack}
-use Rattle.rd_compile.proofs.Values.{IsValue, Held, Operand, operand_value}
-use Rattle.rd_compile.proofs.Held.{more, written, held_more}
+use Rattle.rd_compile.proofs.Values.{IsValue, Held, operand_value}
+use Rattle.rd_compile.proofs.Held.{written, held_more}
 use Rattle.rd_compile.proofs.Templates.{result_of, spot, instruction_comes, ended, end_comes, start_comes}
 
 -- an item of a list behind others, and none behind all

@@ -1,14 +1,11 @@
 -- Operands that stay where more results are there, and code that is put together.
-use Rattle.std.proofs.Common.{◌≡◌, ℕ, ◌+◌, ◌<◌, ◌≤◌, List, [], ◌∷◌, ◌++◌, refl, sym, ◌∙◌, ap, arith, append_assoc, length, ◌*◌, length-append}
-use Rattle.std.specs.Prelude.{ℤ, pos}
+use Rattle.std.proofs.Common.{◌≡◌, ℕ, ◌+◌, ◌≤◌, List, [], ◌∷◌, ◌++◌, refl, sym, ◌∙◌, ap, arith, append_assoc, length, ◌*◌, length-append}
 use Rattle.x86_core.specs.declared.reg.Reg.{Reg}
-use Rattle.x86_core.specs.declared.reg.Reg.TheVariants.{Rax, Rcx, Rdi, Rsp}
+use Rattle.x86_core.specs.declared.reg.Reg.TheVariants.{Rax, Rcx, Rdi}
 use Rattle.x86_core.specs.declared.instr.Size.{Size}
 use Rattle.ir_narrow.specs.declared.narrow.Operation.{Operation}
 use Rattle.ir_narrow.specs.declared.narrow.Operation.TheVariants.{Add, Sub, Mul}
-use Rattle.x86_core.specs.declared.instr.Wide.{Wide}
-use Rattle.x86_core.specs.declared.instr.ImmOp.{ImmOp}
-use Rattle.x86_core.specs.declared.instr.Instr.TheVariants.{AluImm, Store}
+use Rattle.x86_core.specs.declared.instr.Instr.TheVariants.{Store}
 use Rattle.ir_narrow.specs.declared.narrow.Narrow.{Narrow}
 use Rattle.x86_core.specs.declared.instr.Instr.{Instr}
 use Rattle.x86_core.specs.Encoding.{encoding}
@@ -16,7 +13,7 @@ use Rattle.ir_narrow.specs.declared.narrow.Value.{Value}
 use Rattle.ir_narrow.specs.declared.narrow.Value.TheVariants.{Number, Earlier}
 use Rattle.ir_narrow.specs.declared.narrow.Instruction.{Instruction}
 use Rattle.obj_core.specs.Cut.{spelled}
-use Rattle.rd_compile.specs.NarrowCode.{instruction_code, instructions_code, end_code, main_bytes, frame_bytes, frame_code, value_into, operation_code, home, HasPlaces, AllHavePlaces}
+use Rattle.rd_compile.specs.NarrowCode.{instruction_code, instructions_code, end_code, main_bytes, frame_code, value_into, operation_code, home, HasPlaces}
 
 pub wider : (k n : ℕ) (v : Value) → k ≤ n → HasPlaces k v → HasPlaces n v
 wider k n (Number m) le h = h

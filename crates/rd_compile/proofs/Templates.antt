@@ -1,11 +1,11 @@
 -- What each piece of a narrow program's code does on the object's machine.
-use Rattle.std.proofs.Common.{◌≡◌, ℕ, ◌+◌, ◌-◌, ◌*◌, ◌/◌, ◌%◌, ◌^◌, ◌<◌, ◌≤◌, List, [], ◌∷◌, ◌++◌, length, take, drop, Option, Some, None, refl, sym, ◌∙◌, ap, subst, arith, length-append}
+use Rattle.std.proofs.Common.{◌≡◌, ℕ, ◌+◌, ◌-◌, ◌*◌, ◌%◌, ◌^◌, ◌<◌, ◌≤◌, List, [], ◌∷◌, ◌++◌, length, Some, None, refl, ◌∙◌, ap, arith, length-append}
 use Rattle.std.specs.Prelude.{pos, if◌then◌else◌}
 use Rattle.std.proofs.lemmas.Bool.{eq-eqb}
 use Rattle.behavior.specs.Ending.{Going, Ended}
 use Rattle.behavior.specs.Simulation.{Comes}
 use Rattle.behavior.proofs.Stretch.{comes_one, comes_step}
-use Rattle.rd_num.specs.Number.{le_bytes, le_number}
+use Rattle.rd_num.specs.Number.{le_bytes}
 use Rattle.x86_core.specs.declared.flags.Flags.{Flags}
 use Rattle.x86_core.specs.declared.reg.Reg.TheVariants.{Rax, Rcx, Rsp, Rdi}
 use Rattle.x86_core.specs.declared.instr.Instr.{Instr}
@@ -31,10 +31,10 @@ use Rattle.ir_narrow.specs.declared.narrow.Narrow.{Narrow}
 use Rattle.obj_core.specs.declared.object.Object.{Object}
 use Rattle.obj_core.specs.declared.object.Place.{Place}
 use Rattle.obj_core.specs.Cut.{size_of, spelled}
-use Rattle.obj_core.specs.SymbolicMachine.{target, link_before, symbolic_land, symbolic_fetch, symbolic_step, symbolic_start}
+use Rattle.obj_core.specs.SymbolicMachine.{target, link_before, symbolic_land, symbolic_step, symbolic_start}
 use Rattle.obj_core.proofs.Stands.{Stand, stand, past, fetched}
 use Rattle.rd_compile.specs.NarrowCode.{frame_bytes, home, value_into, operation_code, instruction_code, end_code, frame_code, instructions_code, main_bytes, main_function, start_function, narrow_object}
-use Rattle.rd_compile.specs.Frame.{frame_start, home_offset, HomeHolds, stack_of}
+use Rattle.rd_compile.specs.Frame.{frame_start, HomeHolds, stack_of}
 use Rattle.rd_compile.proofs.Homes.{IsStack, read_home, with_home, write_home}
 use Rattle.rd_compile.proofs.Values.{IsValue}
 

@@ -1,16 +1,14 @@
 -- What operands are in the module and in the object.
-use Rattle.std.proofs.Common.{◌≡◌, ℕ, ◌+◌, ◌-◌, ◌%◌, ◌^◌, ◌<◌, ◌≤◌, Bool, true, false, List, [], ◌∷◌, ◌++◌, length, Option, Some, None, Ok, if◌then◌else◌, refl, sym, ◌∙◌, ap, subst, arith, ◌⊎◌, inl, inr}
-use Rattle.std.specs.Prelude.{ℤ, pos, negsuc, nat_le, nat_lt, nat_eq, slice_index, option_map}
-use Rattle.std.specs.List.{position, position_from}
-use Rattle.std.proofs.lemmas.Bool.{leb-true, eqb-true}
+use Rattle.std.proofs.Common.{◌≡◌, ℕ, ◌+◌, ◌-◌, ◌^◌, ◌<◌, ◌≤◌, Bool, true, false, List, [], ◌∷◌, ◌++◌, length, Option, Some, None, Ok, if◌then◌else◌, refl, sym, ◌∙◌, ap, subst, arith, ◌⊎◌, inl, inr}
+use Rattle.std.specs.Prelude.{ℤ, pos, negsuc, nat_le, nat_eq}
+use Rattle.std.specs.List.{position_from}
+use Rattle.std.proofs.lemmas.Bool.{leb-true}
 use Rattle.std.proofs.lemmas.Iterator.Adapters.{position_from-zero}
 use Rattle.rd_num.specs.declared.width.Width.TheVariants.{W32}
 use Rattle.ir_core.specs.declared.memory.Value.TheVariants.{Num}
 use Rattle.ir_core.specs.declared.module.Module.{Module}
 use Rattle.ir_core.specs.Kinds.{Number, literal}
-use Rattle.ir_core.specs.Names.{same_name}
 use Rattle.ir_core.specs.State.{Local}
-use Rattle.ir_core.specs.Stops.{Answer}
 use Rattle.ir_core.specs.Operands.{local_value, value_of as module_value}
 use Rattle.ir_narrow.specs.declared.narrow.Value.{Value}
 use Rattle.ir_narrow.specs.declared.narrow.Value.TheVariants.{Number as Constant, Earlier}
@@ -18,8 +16,7 @@ use Rattle.ir_narrow.specs.Pieces.{same}
 use Rattle.ir_narrow.specs.Values.{natural_of, integer_of, at_most, below_zero, negated, word_of, place_of}
 use Rattle.ir_narrow.specs.Reading.{behind_percent, number, earlier, value_or, value_of}
 use Rattle.ir_narrow.specs.Resolved.{operand_of, by_percent, integer_or_zero}
-use Rattle.ir_narrow.proofs.Words.{passed, same_is, same_self}
-use Rattle.rd_compile.specs.NarrowCode.{HasPlaces}
+use Rattle.ir_narrow.proofs.Words.{passed}
 use Rattle.rd_compile.specs.Frame.{HomeHolds}
 
 -- an integer that a text spells, as a literal and as a word

@@ -1,9 +1,9 @@
 -- A narrow program's object is well formed.
-use Rattle.std.proofs.Common.{◌≡◌, ℕ, ◌+◌, ◌-◌, ◌*◌, ◌/◌, ◌%◌, ◌^◌, ◌<◌, ◌≤◌, Bool, true, false, ◌&&◌, ◌||◌, List, [], ◌∷◌, ◌++◌, length, Option, Some, None, refl, sym, ◌∙◌, ap, subst, arith, append_assoc, length-append}
-use Rattle.std.specs.Prelude.{pos, nat_eq, nat_lt, if◌then◌else◌}
+use Rattle.std.proofs.Common.{◌≡◌, ℕ, ◌+◌, ◌-◌, ◌^◌, ◌<◌, ◌≤◌, Bool, true, false, ◌&&◌, ◌||◌, List, [], ◌∷◌, ◌++◌, length, Option, Some, None, refl, sym, ◌∙◌, ap, subst, arith, append_assoc, length-append}
+use Rattle.std.specs.Prelude.{pos, nat_eq, if◌then◌else◌}
 use Rattle.std.proofs.lemmas.Bool.{eq-eqb}
 use Rattle.x86_core.specs.declared.reg.Reg.{Reg}
-use Rattle.x86_core.specs.declared.reg.Reg.TheVariants.{Rax, Rcx, Rsp, Rdi}
+use Rattle.x86_core.specs.declared.reg.Reg.TheVariants.{Rax, Rcx, Rdi}
 use Rattle.x86_core.specs.declared.instr.Size.{Size}
 use Rattle.x86_core.specs.declared.instr.Instr.{Instr}
 use Rattle.x86_core.specs.declared.instr.Instr.TheVariants.{MovImm32, Store, Jmp, Ud2}
@@ -16,12 +16,12 @@ use Rattle.ir_narrow.specs.declared.narrow.Instruction.{Instruction}
 use Rattle.ir_narrow.specs.declared.narrow.Narrow.{Narrow}
 use Rattle.obj_core.specs.declared.object.Object.{Object}
 use Rattle.obj_core.specs.declared.object.Link.{Link}
-use Rattle.obj_core.specs.Object.{Each, IsByte, IsLink, IsFunc, IsObject}
+use Rattle.obj_core.specs.Object.{Each, IsByte, IsFunc, IsObject}
 use Rattle.obj_core.specs.Cut.{IsCut, AreCuts, Found, found, found_from, starts_at, size_of, spelled}
-use Rattle.obj_core.specs.WellFormed.{AreFew, is_slots_own, forbidden_in, displacement, is_zero, end_of, fills_zero, is_linked, goes_well, bad_links, bad_branches, is_end, open_end, Violation, OfSlot, or_else, at_least_offset, violation, IsWellFormed}
+use Rattle.obj_core.specs.WellFormed.{AreFew, is_slots_own, forbidden_in, displacement, is_zero, end_of, fills_zero, is_linked, goes_well, bad_links, bad_branches, open_end, Violation, OfSlot, or_else, at_least_offset, violation, IsWellFormed}
 use Rattle.obj_core.proofs.Cuts.{spelled-append, length-spelled-append, each_append}
-use Rattle.rd_compile.specs.NarrowCode.{frame_bytes, home, value_into, operation_code, instruction_code, instructions_code, end_code, frame_code, main_code, main_bytes, main_function, start_function, stub_function, narrow_object, HasPlaces, AllHavePlaces, IsFit}
-use Rattle.rd_compile.proofs.Places.{wider, main_long, Long}
+use Rattle.rd_compile.specs.NarrowCode.{home, value_into, operation_code, instructions_code, frame_code, main_code, main_bytes, main_function, start_function, stub_function, narrow_object, HasPlaces, AllHavePlaces, IsFit}
+use Rattle.rd_compile.proofs.Places.{wider, main_long}
 
 -- what is asked of each instruction but the last two of `main`: in range, spelled by bytes, no branch, no transfer
 record IsQuiet (i : Instr) : Type 0 where

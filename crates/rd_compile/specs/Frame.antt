@@ -1,5 +1,5 @@
 -- Where homes lie in the stack, and what they hold.
-use Rattle.std.specs.Prelude.{◌≡◌, ℕ, ◌+◌, ◌-◌, ◌*◌, List, [], ◌∷◌, length, take, drop}
+use Rattle.std.specs.Prelude.{◌≡◌, ℕ, ◌+◌, ◌-◌, ◌*◌, List, [], ◌∷◌, take, drop}
 use Rattle.rd_num.specs.Number.{le_number}
 use Rattle.x86_core.specs.declared.image.Segment.{Segment}
 use Rattle.machine_core.specs.Data.{stack_start, stack_end, segment}

@@ -11,4 +11,6 @@ pub mod bytes;
 pub mod compared;
 pub mod copied;
 pub mod list;
+#[cfg(test)]
+mod tests;
 pub mod width;

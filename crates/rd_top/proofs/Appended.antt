@@ -1,12 +1,12 @@
 -- Whatever the answer, nothing was appended or a prefix of the bytes that the command defines.
-use Rattle.std.proofs.Common.{◌≡◌, ℕ, ◌≤◌, ◌⊎◌, List, [], Option, Some, None, refl, inl, inr, arith}
+use Rattle.std.proofs.Common.{◌≡◌, ℕ, ◌⊎◌, List, [], Option, Some, None, refl, inl, inr, arith}
 use Rattle.std.specs.Prelude.{length}
 use Rattle.std.proofs.lemmas.List.{append-nil}
 use Rattle.rd_top.specs.declared.answer.Answer.{Answer}
 use Rattle.rd_top.specs.declared.answer.Answer.TheVariants.{Done, Words, File, Later, Long, Out, Memory}
 use Rattle.rd_top.specs.Answers.{IsQuiet}
 use Rattle.rd_top.specs.Words.{Reading, Compile}
-use Rattle.rd_top.specs.Commands.{Told, Compiled, CompiledPart, Wrote, WrotePart, Writes, WritesPart}
+use Rattle.rd_top.specs.Commands.{Told, Wrote, WrotePart, Writes, WritesPart}
 
 wrote_whole : (old new : Told) (bytes : List ℕ) → Wrote old new bytes → WrotePart old new bytes
 wrote_whole old new bytes w = record {

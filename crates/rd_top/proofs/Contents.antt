@@ -1,6 +1,5 @@
 -- What was read of a file, and what was put, as the commands tell it.
-use Rattle.std.proofs.Common.{◌≡◌, ℕ, List, Option, Some, None, Result, Ok, Err, subst}
-use Rattle.rd_io.specs.declared.FileFail.{FileFail}
+use Rattle.std.proofs.Common.{◌≡◌, ℕ, List, Option, Some, None, Ok, Err, subst}
 use Rattle.rd_io.specs.declared.PutFail.{PutFail}
 use Rattle.rd_io.specs.Outside.{Reads, Appends, Totals}
 use Rattle.rd_top.specs.Commands.{Told, IsContent, WrotePart, IsObjectOf, CompiledPart, text_limit}

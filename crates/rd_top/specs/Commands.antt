@@ -1,5 +1,5 @@
 -- What each command does to the outside.
-use Rattle.std.specs.Prelude.{◌≡◌, ℕ, ◌<◌, ◌≤◌, ◌⊎◌, List, [], Option, Some, None, length}
+use Rattle.std.specs.Prelude.{◌≡◌, ℕ, ◌<◌, ◌≤◌, ◌⊎◌, List, Option, Some, None, length}
 use Rattle.rd_io.specs.Outside.{Gets, GetsPart, Counts, CountsPart}
 use Rattle.rd_io.specs.Causes.{Rose}
 use Rattle.ir_narrow.specs.NarrowText.{Program, IsNarrowText}

@@ -23,6 +23,8 @@ use words::{Command, read_words};
 
 pub mod answer;
 pub mod compile;
+#[cfg(test)]
+mod tests;
 pub mod words;
 
 /// Does what the words ask for; puts nothing on the sink for messages.

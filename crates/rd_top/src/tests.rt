@@ -1,0 +1,188 @@
+//! The top call over files and streams in memory: words, texts, and an outside that fails.
+
+use crate::top;
+use rd_io::memory::{File, MemFiles, MemSink};
+use rd_io::sure::{SureFiles, SureSink, SureSource};
+use rd_io::{Files, Sink};
+use rd_num::copied::copy_list;
+use rd_num::list::List;
+use rd_num::width::NoMemory;
+use std::alloc::{AllocError, Global};
+use std::test::Fail;
+
+const SEVEN: &[u8] = b"define i32 @main() {\nret i32 7\n}\n";
+
+const ASKED: &[&str] = &["compile", "m", "--slot-seed", "1", "--reg-seed", "2"];
+
+fn all_words(alloc: Global, words: &[&str]) -> Result<Vec<String>, AllocError> {
+    let mut all = Vec::new(alloc);
+    for word in words {
+        let mut one = String::new(alloc);
+        one.push_str(word)?;
+        all.push(one)?;
+    }
+    Ok(all)
+}
+
+/// The file `m`.
+fn one_file(alloc: Global, content: &[u8]) -> Result<List<File>, NoMemory> {
+    let mut files = List::new(alloc);
+    let name = copy_list(alloc, b"m")?;
+    let bytes = copy_list(alloc, content)?;
+    files.add(File { name, bytes })?;
+    Ok(files)
+}
+
+/// The status that the program ends with over these.
+fn ends<F: Files, O: Sink>(
+    alloc: Global,
+    words: &[&str],
+    files: &mut F,
+    out: &mut O,
+) -> Result<u8, AllocError> {
+    let all = all_words(alloc, words)?;
+    let mut input = SureSource::new(List::new(alloc));
+    let mut err = SureSink::new(alloc);
+    Ok(top(alloc, all.as_slice(), files, &mut input, out, &mut err))
+}
+
+/// The status over an outside that never fails, and how many bytes came out.
+fn ends_surely(alloc: Global, words: &[&str], content: &[u8]) -> Result<(u8, usize), Fail> {
+    let mut files = SureFiles::new(one_file(alloc, content)?);
+    let mut out = SureSink::new(alloc);
+    let status = ends(alloc, words, &mut files, &mut out)?;
+    Ok((status, out.bytes().len()))
+}
+
+#[test]
+fn words_have_these_statuses(rt: HostRuntime) -> Result<(), Fail> {
+    let rows: [(&[&str], u8); 11] = [
+        (ASKED, 0),
+        (&[], 2),
+        (&["compile"], 2),
+        (&["compose", "m", "--slot-seed", "1", "--reg-seed", "2"], 2),
+        (&["compile", "-m", "--slot-seed", "1", "--reg-seed", "2"], 2),
+        (&["compile", "m", "--reg-seed", "1", "--slot-seed", "2"], 2),
+        (&["compile", "m", "--slot-seed", "", "--reg-seed", "2"], 2),
+        (&["compile", "m", "--slot-seed", "+1", "--reg-seed", "2"], 2),
+        (
+            &[
+                "compile",
+                "m",
+                "--slot-seed",
+                "18446744073709551615",
+                "--reg-seed",
+                "2",
+            ],
+            0,
+        ),
+        (
+            &[
+                "compile",
+                "m",
+                "--slot-seed",
+                "18446744073709551616",
+                "--reg-seed",
+                "2",
+            ],
+            2,
+        ),
+        (
+            &[
+                "compile",
+                "m",
+                "--slot-seed",
+                "1",
+                "--reg-seed",
+                "000000000000000000002",
+            ],
+            2,
+        ),
+    ];
+    for (words, want) in rows {
+        let (status, written) = ends_surely(rt.alloc(), words, SEVEN)?;
+        assert_eq!(rt; status, want);
+        assert_eq!(rt; written == 0, want != 0);
+    }
+    Ok(())
+}
+
+#[test]
+fn texts_have_these_statuses(rt: HostRuntime) -> Result<(), Fail> {
+    let rows: [(&[u8], u8); 16] = [
+        (SEVEN, 0),
+        (b"", 4),
+        (b"define i32 @main() { ret i32 -2147483648 }", 0),
+        (b"define i32 @main() { ret i32 -2147483649 }", 4),
+        (b"define i32 @main() { ret i32 4294967295 }", 0),
+        (b"define i32 @main() { ret i32 4294967296 }", 4),
+        (b"define i32 @main() { ret i32 7 } ; seven", 4),
+        (b"define i32 @main() {\tret i32 7 }", 4),
+        (b"define i64 @main() { ret i64 7 }", 4),
+        (b"define i32 @other() { ret i32 7 }", 4),
+        (b"define i32 @main() { %a = add i32 1, 2 ret i32 %a }", 0),
+        (b"define i32 @main() { %a = sdiv i32 1, 2 ret i32 %a }", 4),
+        (b"define i32 @main() { %a = add i32 %a, 2 ret i32 %a }", 4),
+        (
+            b"define i32 @main() { %a = add i32 %b, 2 %b = add i32 1, 2 ret i32 %a }",
+            4,
+        ),
+        (
+            b"define i32 @main() { %a = add i32 1, 2 %a = add i32 1, 2 ret i32 %a }",
+            4,
+        ),
+        (b"define i32 @main() { %a = add i32 1, 2 ret i32 %b }", 4),
+    ];
+    for (text, want) in rows {
+        let (status, written) = ends_surely(rt.alloc(), ASKED, text)?;
+        assert_eq!(rt; status, want);
+        assert_eq!(rt; written == 0, want != 0);
+    }
+    Ok(())
+}
+
+/// The text of `main` with this many instructions.
+fn rows_of(alloc: Global, count: u64) -> Result<String, AllocError> {
+    let mut text = String::new(alloc);
+    text.push_str("define i32 @main() {\n%v0 = mul i32 3, 5\n")?;
+    for i in 1..count {
+        let before = i - 1;
+        text.push_str(&format!(in alloc; "%v{i} = sub i32 %v{before}, -1\n")?)?;
+    }
+    text.push_str("ret i32 %v0\n}\n")?;
+    Ok(text)
+}
+
+#[test]
+fn as_many_instructions_and_bytes_as_fit(rt: HostRuntime) -> Result<(), Fail> {
+    let alloc = rt.alloc();
+    for (count, want) in [(4000, 0), (4001, 4)] {
+        let text = rows_of(alloc, count)?;
+        let (status, _) = ends_surely(alloc, ASKED, text.as_bytes())?;
+        assert_eq!(rt; status, want);
+    }
+    let mut spaces = Vec::new(alloc);
+    spaces.resize(8_388_609, b' ')?;
+    let (long, _) = ends_surely(alloc, ASKED, spaces.as_slice())?;
+    assert_eq!(rt; long, 8);
+    let (full, _) = ends_surely(alloc, ASKED, &spaces[1..])?;
+    assert_eq!(rt; full, 4);
+    Ok(())
+}
+
+#[test]
+fn an_outside_that_fails_is_named(rt: HostRuntime) -> Result<(), Fail> {
+    let alloc = rt.alloc();
+    for (file_fails, out_fails, want) in [(2, 2, 0), (1, 2, 3), (2, 1, 9)] {
+        let mut numbers = List::new(alloc);
+        numbers.add(file_fails)?;
+        let mut files = MemFiles::new(one_file(alloc, SEVEN)?, numbers);
+        let mut numbers = List::new(alloc);
+        numbers.add(out_fails)?;
+        let mut out = MemSink::new(alloc, numbers);
+        let status = ends(alloc, ASKED, &mut files, &mut out)?;
+        assert_eq!(rt; status, want);
+        assert_eq!(rt; out.bytes().is_empty(), want != 0);
+    }
+    Ok(())
+}
