@@ -35,3 +35,6 @@ pub fn put(all: &mut List<u8>, instr: &Instr) -> Result<(), NoMemory>
     let (bytes, len) = encode_one(instr);
     all.append(&bytes[..len as usize])
 }
+
+#[cfg(test)]
+mod tests;
