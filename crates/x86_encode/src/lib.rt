@@ -8,8 +8,8 @@
 ghost use Rattle.std.specs.Prelude.{◌≡◌, ◌++◌, ◌-◌, ◌≤◌, length, replicate, OnOk};
 ghost use Rattle.x86_core.specs.Encoding.{encoding};
 
-pub mod row;
-pub mod spelling;
+mod row;
+mod spelling;
 
 use rd_num::list::List;
 use rd_num::width::NoMemory;
