@@ -8,15 +8,15 @@
 //! Source: Intel 64 and IA-32 Architectures Software Developer's Manual, volume 2.
 #![tactic(auto)]
 
-pub mod alu;
-pub mod condition;
-pub mod divide;
+mod alu;
+mod condition;
+mod divide;
 pub mod effect;
 pub mod flags;
 pub mod image;
 pub mod instr;
 pub mod reg;
-pub mod shift;
+mod shift;
 #[cfg(test)]
 mod tests;
-pub mod widen;
+mod widen;

@@ -12,9 +12,9 @@ ghost use Rattle.x86_core.specs.Encoding.{encoding, Begins, IsCut};
 ghost use Rattle.x86_core.specs.Decoding.{decode};
 
 pub mod law;
-pub mod operand;
-pub mod prefix;
-pub mod row;
+mod operand;
+mod prefix;
+mod row;
 
 use rd_num::bytes::bytes_known;
 use row::{after_rex, after_word, opcode};

@@ -8,8 +8,8 @@
 ghost use Rattle.std.specs.Prelude.{◌≡◌, ◌++◌, ◌-◌, ◌≤◌, length, replicate, OnOk};
 ghost use Rattle.x86_core.specs.Encoding.{encoding};
 
-pub mod row;
-pub mod spelling;
+mod row;
+mod spelling;
 
 use rd_num::list::List;
 use rd_num::width::NoMemory;
@@ -35,3 +35,6 @@ pub fn put(all: &mut List<u8>, instr: &Instr) -> Result<(), NoMemory>
     let (bytes, len) = encode_one(instr);
     all.append(&bytes[..len as usize])
 }
+
+#[cfg(test)]
+mod tests;
