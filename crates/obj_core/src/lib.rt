@@ -5,4 +5,5 @@
 //! a well-formed object is, and `specs/SymbolicMachine.antt` runs one without any code address.
 #![tactic(auto)]
 
+pub mod checked;
 pub mod object;

@@ -1,0 +1,31 @@
+//! An object that is known to be well formed.
+
+ghost use Rattle.std.specs.Prelude.{◌≡◌};
+ghost use Rattle.obj_core.specs.WellFormed.{IsWellFormed};
+
+use crate::object::Object;
+
+/// A well-formed object.
+#[derive(Drop)]
+pub struct Checked {
+    object: Object,
+    ghost well_formed: { ∥ IsWellFormed object ∥₁ },
+}
+
+impl Checked {
+    /// Keeps an object that is known to be well formed. Takes no memory.
+    pub fn new(object: Object) -> Checked
+        requires { IsWellFormed object }
+        ensures { result.object ≡ object }
+    {
+        Checked { object }
+    }
+
+    /// The object. Takes no memory.
+    pub fn object(&self) -> &Object
+        ensures value { result.now ≡ self.now.object }
+        ensures well_formed { ∥ IsWellFormed result.now ∥₁ }
+    {
+        &self.object
+    }
+}
