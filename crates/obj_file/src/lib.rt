@@ -6,4 +6,7 @@
 //! not asked here.
 #![tactic(auto)]
 
+pub mod fault;
+mod part;
+pub mod read;
 pub mod write;
