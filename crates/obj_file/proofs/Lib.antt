@@ -7,3 +7,4 @@ pub mod Limits
 pub mod Parts
 pub mod Spelled
 pub mod NoObject
+pub mod Tells

@@ -129,7 +129,7 @@ slot_text (Slot.System b) h = record {
       };
 }
 
-kind_below : (k : FuncKind) → kind_number k < 2
+pub kind_below : (k : FuncKind) → kind_number k < 2
 kind_below FuncKind.Plain = omega arith
 kind_below FuncKind.Saved = omega arith
 

@@ -45,7 +45,7 @@ link_spelled s h = record {
   text = h.text ∙ ap (λ z. field h.number ++ z) h.ends.text;
 }
 
-kind_at : ℕ → FuncKind
+pub kind_at : ℕ → FuncKind
 kind_at zero = FuncKind.Plain
 kind_at (suc n) = FuncKind.Saved
 
@@ -55,7 +55,7 @@ kind_at_number zero h = refl
 kind_at_number (suc zero) h = refl
 kind_at_number (suc (suc k)) h = absurd (omega arith)
 
-kind_back : (k : FuncKind) → kind_at (kind_number k) ≡ k
+pub kind_back : (k : FuncKind) → kind_at (kind_number k) ≡ k
 unfolding kind_at
 kind_back FuncKind.Plain = refl
 kind_back FuncKind.Saved = refl

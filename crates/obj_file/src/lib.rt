@@ -7,6 +7,9 @@
 #![tactic(auto)]
 
 pub mod fault;
+pub mod laws;
 mod part;
 pub mod read;
+#[cfg(test)]
+mod tests;
 pub mod write;
