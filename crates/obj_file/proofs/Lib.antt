@@ -1,1 +1,10 @@
 pub mod Joined
+pub mod Good
+pub mod Leaving
+pub mod Primitive
+pub mod Rows
+pub mod Limits
+pub mod Parts
+pub mod Spelled
+pub mod NoObject
+pub mod Tells

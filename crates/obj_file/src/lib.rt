@@ -6,4 +6,10 @@
 //! not asked here.
 #![tactic(auto)]
 
+pub mod fault;
+pub mod laws;
+mod part;
+pub mod read;
+#[cfg(test)]
+mod tests;
 pub mod write;
