@@ -15,8 +15,11 @@ pub mod rules;
 pub mod write;
 
 /// Why bytes load as no image: the first rule that they break, or want of memory.
-#[derive(Clone, Copy, PartialEq, Eq, Debug)]
+#[derive(Clone, Copy)]
 pub enum ImageFault {
     Rule { rule: u8 },
     NoMemory,
 }
+
+#[cfg(test)]
+mod tests;
