@@ -11,7 +11,9 @@
 pub mod law;
 pub mod layout;
 pub mod read;
-pub mod rules;
+mod rules;
+#[cfg(test)]
+mod tests;
 pub mod write;
 
 /// Why bytes load as no image: the first rule that they break, or want of memory.
@@ -20,6 +22,3 @@ pub enum ImageFault {
     Rule { rule: u8 },
     NoMemory,
 }
-
-#[cfg(test)]
-mod tests;

@@ -32,6 +32,7 @@ pub fn read(alloc: Global, bytes: &[u8]) -> Result<Image, ImageFault>
     loaded(alloc, bytes)
 }
 
+/// The image, whose soundness follows from the rules that were tested.
 fn loaded(alloc: Global, bytes: &[u8]) -> Result<Image, ImageFault>
     ensures loads { IfOk result (λ image. LoadsAs bytes.now image) }
     ensures first { IfErr result (λ fault. Explains bytes.now fault) }
