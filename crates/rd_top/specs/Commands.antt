@@ -1,39 +1,28 @@
--- What each command does to the outside.
-use Rattle.std.specs.Prelude.{◌≡◌, ℕ, ◌<◌, ◌≤◌, ◌⊎◌, List, Option, Some, None, length}
+-- What each command does to the outside, answer by answer.
+use Rattle.std.specs.Prelude.{◌≡◌, ℕ, ◌⊎◌, List, Option, Some, None, length}
 use Rattle.rd_io.specs.Outside.{Gets, GetsPart, Counts, CountsPart}
 use Rattle.rd_io.specs.Causes.{Rose}
 use Rattle.ir_narrow.specs.NarrowText.{Program, IsNarrowText}
 use Rattle.obj_core.specs.declared.object.Object.{Object}
 use Rattle.obj_core.specs.Object.{object_bytes}
 use Rattle.rd_compile.specs.Compiled.{CompiledText}
+use Rattle.rd_top.specs.declared.answer.Answer.{Answer}
+use Rattle.rd_top.specs.declared.answer.Answer.TheVariants.{Done, Words, File, Later, Image, Long, Out, Input, Memory, Ran}
+use Rattle.rd_top.specs.Told.{FilesTold, InputTold, OutTold, IsContent, IsTooLong, Lost}
 use Rattle.rd_top.specs.Words.{Reading, Compile}
+
+-- bytes were appended, and a prefix of bytes was
+pub record Wrote (old new : OutTold) (bytes : List ℕ) : Type 0 where
+  pub bytes_told : Gets old.written new.written bytes
+  pub number_told : Counts old.total new.total (length bytes)
+
+pub record WrotePart (old new : OutTold) (bytes : List ℕ) : Type 0 where
+  pub bytes_told : GetsPart old.written new.written bytes
+  pub number_told : CountsPart old.total new.total (length bytes)
 
 -- the most bytes of a module's text
 abbrev pub text_limit : ℕ
 text_limit = 8388608
-
--- what a sink tells: the bytes, and their number
-pub record Told : Type 0 where
-  pub written : Option (List ℕ)
-  pub total : Option ℕ
-
--- a file's content as it was read: within the limit, and what is held where that is told
-abbrev pub IsContent : Option (List ℕ) → ℕ → List ℕ → Type 0
-IsContent None limit text = length text ≤ limit
-IsContent (Some held) limit text = (text ≡ held) × (length text ≤ limit)
-
-abbrev pub IsTooLong : Option (List ℕ) → ℕ → Type 0
-IsTooLong None limit = Unit {0}
-IsTooLong (Some held) limit = limit < length held
-
--- bytes were appended, and a prefix of bytes was
-pub record Wrote (old new : Told) (bytes : List ℕ) : Type 0 where
-  pub bytes_told : Gets old.written new.written bytes
-  pub number_told : Counts old.total new.total (length bytes)
-
-pub record WrotePart (old new : Told) (bytes : List ℕ) : Type 0 where
-  pub bytes_told : GetsPart old.written new.written bytes
-  pub number_told : CountsPart old.total new.total (length bytes)
 
 -- bytes are those of one object that is compiled from the module of a text
 pub record IsObjectOf (text : List ℕ) (slot_seed reg_seed : ℕ) (bytes : List ℕ) : Type 0 where
@@ -42,7 +31,7 @@ pub record IsObjectOf (text : List ℕ) (slot_seed reg_seed : ℕ) (bytes : List
   pub spelled : bytes ≡ object_bytes object
 
 -- `compile` wrote the bytes of the object of the file's text
-pub record Compiled (held : Option (List ℕ)) (slot_seed reg_seed : ℕ) (old new : Told) : Type 0 where
+pub record Compiled (held : Option (List ℕ)) (slot_seed reg_seed : ℕ) (old new : OutTold) : Type 0 where
   pub text : List ℕ
   pub content : IsContent held text_limit text
   pub bytes : List ℕ
@@ -50,7 +39,7 @@ pub record Compiled (held : Option (List ℕ)) (slot_seed reg_seed : ℕ) (old n
   pub wrote : Wrote old new bytes
 
 -- the same with a prefix of those bytes
-pub record CompiledPart (held : Option (List ℕ)) (slot_seed reg_seed : ℕ) (old new : Told) : Type 0 where
+pub record CompiledPart (held : Option (List ℕ)) (slot_seed reg_seed : ℕ) (old new : OutTold) : Type 0 where
   pub text : List ℕ
   pub content : IsContent held text_limit text
   pub bytes : List ℕ
@@ -63,29 +52,24 @@ pub record IsLater (held : Option (List ℕ)) : Type 0 where
   pub content : IsContent held text_limit text
   pub none : (p : Program) → IsNarrowText text p → ⊥
 
--- by command, where `held` tells the files: what was written
-abbrev pub Writes : (List ℕ → Option (List ℕ)) → Option Reading → Told → Told → Type 0
-Writes held None old new = ⊥
-Writes held (Some (Compile file slot_seed reg_seed)) old new = Compiled (held file) slot_seed reg_seed old new
+-- what each answer of `compile` says of a file, of the files and of the sink
+abbrev pub CompileMeans : Option (List ℕ) → List ℕ → ℕ → ℕ → FilesTold → FilesTold → OutTold → OutTold → Answer → Type 0
+CompileMeans held name slot_seed reg_seed files files2 out out2 Done = Compiled held slot_seed reg_seed out out2
+CompileMeans held name slot_seed reg_seed files files2 out out2 File = Lost name files files2 × (out2 ≡ out)
+CompileMeans held name slot_seed reg_seed files files2 out out2 Later = IsLater held × (out2 ≡ out)
+CompileMeans held name slot_seed reg_seed files files2 out out2 Long = IsTooLong held text_limit × (out2 ≡ out)
+CompileMeans held name slot_seed reg_seed files files2 out out2 Out = Rose out.faults out2.faults × CompiledPart held slot_seed reg_seed out out2
+CompileMeans held name slot_seed reg_seed files files2 out out2 Memory = (out2 ≡ out) ⊎ CompiledPart held slot_seed reg_seed out out2
+CompileMeans held name slot_seed reg_seed files files2 out out2 Words = ⊥
+CompileMeans held name slot_seed reg_seed files files2 out out2 (Image rule) = ⊥
+CompileMeans held name slot_seed reg_seed files files2 out out2 Input = ⊥
+CompileMeans held name slot_seed reg_seed files files2 out out2 (Ran outcome) = ⊥
 
-abbrev pub WritesPart : (List ℕ → Option (List ℕ)) → Option Reading → Told → Told → Type 0
-WritesPart held None old new = ⊥
-WritesPart held (Some (Compile file slot_seed reg_seed)) old new = CompiledPart (held file) slot_seed reg_seed old new
-
--- a name is that of a file which the words name
-abbrev pub Names : Option Reading → List ℕ → Type 0
-Names None name = ⊥
-Names (Some (Compile file slot_seed reg_seed)) name = name ≡ file
-
--- a file that the words name is too long
-abbrev pub NamesLong : (List ℕ → Option (List ℕ)) → Option Reading → Type 0
-NamesLong held None = ⊥
-NamesLong held (Some (Compile file slot_seed reg_seed)) = IsTooLong (held file) text_limit
-
--- a module that the words name is for a later version
-abbrev pub NamesLater : (List ℕ → Option (List ℕ)) → Option Reading → Type 0
-NamesLater held None = ⊥
-NamesLater held (Some (Compile file slot_seed reg_seed)) = IsLater (held file)
+-- what each answer says, by what the words ask for
+abbrev pub Means : (List ℕ → Option (List ℕ)) → Option Reading → FilesTold → FilesTold → InputTold → InputTold → OutTold → OutTold → Answer → Type 0
+Means held None files files2 input input2 out out2 a = (a ≡ Words) × (input2 ≡ input) × (out2 ≡ out)
+Means held (Some (Compile file slot_seed reg_seed)) files files2 input input2 out out2 a =
+    CompileMeans (held file) file slot_seed reg_seed files files2 out out2 a × (input2 ≡ input)
 
 -- the line is on the sink for messages, or a fault came and a prefix of it is
 abbrev pub Says : Option (List ℕ) → Option (List ℕ) → ℕ → ℕ → List ℕ → Type 0

@@ -1,4 +1,6 @@
+pub mod Told
 pub mod Words
 pub mod Answers
 pub mod Commands
+pub mod Ends
 pub mod Asked

@@ -1,7 +1,14 @@
-//! How the program ends: the one place where a status number stands.
+//! How the program ends: the one place where status numbers and lines stand.
 
-ghost use Rattle.std.specs.Prelude.{◌≡◌};
-ghost use Rattle.rd_top.specs.Answers.{status_number, line_of};
+ghost use Rattle.std.specs.Prelude.{◌≡◌, ◌∷◌, ◌++◌, [], IfOk, decimal};
+ghost use Rattle.rd_top.specs.Answers.{status_number, line_of, outcome_text};
+
+use itoa::Buffer;
+use rd_num::copied::copy_list;
+use rd_num::list::List;
+use rd_num::width::NoMemory;
+use std::alloc::Global;
+use x86_core::image::MachOutcome;
 
 /// The answer of a command: docs/command-line.md, "Statuses".
 #[derive(Clone, Copy)]
@@ -14,11 +21,17 @@ pub enum Answer {
     File,
     /// The module is for a later version.
     Later,
+    /// The file is no image: the first rule that it breaks.
+    Image(u8),
     /// A file is longer than its limit.
     Long,
     /// The output failed.
     Out,
+    /// The input failed.
+    Input,
     Memory,
+    /// A machine took its steps.
+    Ran(MachOutcome),
 }
 
 /// The status of an answer.
@@ -26,27 +39,68 @@ pub fn status(answer: Answer) -> u8
     ensures { result ≡ status_number answer }
 {
     match answer {
-        Answer::Done => 0,
+        Answer::Done | Answer::Ran(MachOutcome::Ended(_)) => 0,
         Answer::Words => 2,
         Answer::File => 3,
         Answer::Later => 4,
+        Answer::Image(_) => 6,
         Answer::Long => 8,
         Answer::Out => 9,
+        Answer::Input => 10,
         Answer::Memory => 11,
+        Answer::Ran(MachOutcome::Divide | MachOutcome::Invalid | MachOutcome::Breakpoint) => 20,
+        Answer::Ran(MachOutcome::Going) => 21,
+        Answer::Ran(
+            MachOutcome::PageFault
+            | MachOutcome::NoForm
+            | MachOutcome::NoFlag
+            | MachOutcome::BadCall,
+        ) => 22,
     }
 }
 
-/// The line of an answer; none where there is nothing to say.
-pub fn line(answer: Answer) -> &'static [u8]
-    ensures { result.now ≡ line_of answer }
+/// A word, a space, a decimal number and a line feed.
+fn numbered(alloc: Global, word: &[u8], n: u8) -> Result<List<u8>, NoMemory>
+    ensures { IfOk result (λ l. l ≡ word.now ++ decimal n ++ 10 ∷ []) }
+{
+    let mut line = copy_list(alloc, word)?;
+    let mut buffer = Buffer::new();
+    line.append(buffer.format(n).as_bytes())?;
+    line.append(b"\n")?;
+    Ok(line)
+}
+
+/// The line of an outcome.
+fn outcome_line(alloc: Global, outcome: MachOutcome) -> Result<List<u8>, NoMemory>
+    ensures { IfOk result (λ l. l ≡ outcome_text outcome) }
+{
+    match outcome {
+        MachOutcome::Ended(status) => numbered(alloc, b"ended ", status),
+        MachOutcome::Going => copy_list(alloc, b"going\n"),
+        MachOutcome::Divide => copy_list(alloc, b"trapped divide\n"),
+        MachOutcome::Invalid => copy_list(alloc, b"trapped invalid\n"),
+        MachOutcome::Breakpoint => copy_list(alloc, b"trapped breakpoint\n"),
+        MachOutcome::PageFault => copy_list(alloc, b"stopped pagefault\n"),
+        MachOutcome::NoForm => copy_list(alloc, b"stopped noform\n"),
+        MachOutcome::NoFlag => copy_list(alloc, b"stopped noflag\n"),
+        MachOutcome::BadCall => copy_list(alloc, b"stopped badcall\n"),
+    }
+}
+
+/// The line of an answer; empty where there is nothing to say.
+pub fn line(alloc: Global, answer: Answer) -> Result<List<u8>, NoMemory>
+    ensures { IfOk result (λ l. l ≡ line_of answer) }
 {
     match answer {
-        Answer::Done => b"",
-        Answer::Words => b"words\n",
-        Answer::File => b"file\n",
-        Answer::Later => b"later\n",
-        Answer::Long => b"long\n",
-        Answer::Out => b"out\n",
-        Answer::Memory => b"memory\n",
+        Answer::Done => Ok(List::new(alloc)),
+        Answer::Words => copy_list(alloc, b"words\n"),
+        Answer::File => copy_list(alloc, b"file\n"),
+        Answer::Later => copy_list(alloc, b"later\n"),
+        Answer::Image(rule) => numbered(alloc, b"image ", rule),
+        Answer::Long => copy_list(alloc, b"long\n"),
+        Answer::Out => copy_list(alloc, b"out\n"),
+        Answer::Input => copy_list(alloc, b"input\n"),
+        Answer::Memory => copy_list(alloc, b"memory\n"),
+        Answer::Ran(outcome) => outcome_line(alloc, outcome),
     }
 }

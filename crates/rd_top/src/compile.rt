@@ -1,10 +1,8 @@
 //! `compile`: the object of a module's text.
 
-ghost use Rattle.std.specs.Prelude.{◌≡◌, ◌≢◌, ◌⊎◌, ◌≤◌, Option, Err, IfOk};
+ghost use Rattle.std.specs.Prelude.{◌≡◌, Err, IfOk};
 ghost use Rattle.ir_narrow.specs.NarrowText.{Program, IsNarrowText};
-ghost use Rattle.rd_top.specs.Answers.{IsQuiet};
-ghost use Rattle.rd_io.specs.Causes.{Rose};
-ghost use Rattle.rd_top.specs.Commands.{Told, IsTooLong, Compiled, CompiledPart, IsLater, IsObjectOf, text_limit};
+ghost use Rattle.rd_top.specs.Commands.{CompileMeans, IsObjectOf};
 
 use crate::answer::Answer;
 use ir_narrow::narrow::NarrowFault;
@@ -43,14 +41,7 @@ pub fn compile_file<F: Files, O: Sink>(
     files: &mut F,
     out: &mut O,
 ) -> Answer
-    ensures done { result ≡ Answer.Done → Compiled (F.held files.old file.now) slot_seed reg_seed (record { written = O.written out.old; total = O.total out.old }) (record { written = O.written out.new; total = O.total out.new }) }
-    ensures failed { result ≡ Answer.File → Rose (F.faults files.old) (F.faults files.new) × (F.lost files.new ≡ file.now) }
-    ensures long { result ≡ Answer.Long → IsTooLong (F.held files.old file.now) text_limit }
-    ensures later { result ≡ Answer.Later → IsLater (F.held files.old file.now) }
-    ensures quiet { IsQuiet result → (O.written out.new ≡ O.written out.old) × (O.total out.new ≡ O.total out.old) × (O.faults out.new ≡ O.faults out.old) }
-    ensures read { result ≢ Answer.Words }
-    ensures out { result ≡ Answer.Out → Rose (O.faults out.old) (O.faults out.new) × CompiledPart (F.held files.old file.now) slot_seed reg_seed (record { written = O.written out.old; total = O.total out.old }) (record { written = O.written out.new; total = O.total out.new }) }
-    ensures memory { result ≡ Answer.Memory → ((O.written out.new ≡ O.written out.old) × (O.total out.new ≡ O.total out.old)) ⊎ CompiledPart (F.held files.old file.now) slot_seed reg_seed (record { written = O.written out.old; total = O.total out.old }) (record { written = O.written out.new; total = O.total out.new }) }
+    ensures { CompileMeans (F.held files.old file.now) file.now slot_seed reg_seed (record { lost = F.lost files.old; faults = F.faults files.old }) (record { lost = F.lost files.new; faults = F.faults files.new }) (record { written = O.written out.old; total = O.total out.old; faults = O.faults out.old }) (record { written = O.written out.new; total = O.total out.new; faults = O.faults out.new }) result }
 {
     let text = match files.read(alloc, file, TEXT_LIMIT) {
         Ok(text) => text,
