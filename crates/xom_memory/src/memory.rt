@@ -79,13 +79,11 @@ impl Memory {
         if out.is_empty() {
             return Ok(());
         }
-        match self.bytes(at, out.len()) {
-            Some(bytes) => {
-                out.copy_from_slice(bytes);
-                Ok(())
-            }
-            None => Err(Refused),
-        }
+        let Some(bytes) = self.bytes(at, out.len()) else {
+            return Err(Refused);
+        };
+        out.copy_from_slice(bytes);
+        Ok(())
     }
 
     /// Writes bytes from the address `at` on.
