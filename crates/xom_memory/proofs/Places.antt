@@ -1,5 +1,5 @@
 -- A write changes the first segment that may be written and holds its range, and no other.
-use Rattle.std.proofs.Common.{◌≡◌, ℕ, ◌+◌, ◌-◌, ◌<◌, ◌≤◌, zero, suc, Bool, true, false, ◌&&◌, List, [], ◌∷◌, ◌++◌, length, Option, Some, None, refl, ap, sym, ◌∙◌, arith, if◌then◌else◌, slice_get, slice_set, option_map, add-one, drop, drop-cons, get_or}
+use Rattle.std.proofs.Common.{◌≡◌, ℕ, ◌<◌, zero, suc, Bool, true, false, ◌&&◌, List, [], ◌∷◌, length, Option, Some, None, refl, ap, ◌∙◌, arith, if◌then◌else◌, slice_set, option_map, get_or}
 use Rattle.x86_core.specs.declared.image.Segment.{Segment}
 use Rattle.machine_core.specs.Memory.{writes, holds, write_at, with_bytes, behind}
 use Rattle.xom_memory.specs.Access.{place_of}

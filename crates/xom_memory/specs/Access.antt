@@ -1,5 +1,5 @@
 -- What the calls of a memory give, over the list of its segments.
-use Rattle.std.specs.Prelude.{ℕ, suc, ◌&&◌, if◌then◌else◌, option_map, ◌≡◌, Bool, true, false, List, [], ◌∷◌, ◌++◌, length, Option, None, Some, take, drop}
+use Rattle.std.specs.Prelude.{ℕ, suc, ◌&&◌, if◌then◌else◌, option_map, ◌≡◌, Bool, true, false, List, [], ◌∷◌, length, Option, None, Some}
 use Rattle.std.specs.Option.{unwrap_or}
 use Rattle.x86_core.specs.declared.image.Rights.{Rights}
 use Rattle.x86_core.specs.declared.image.Segment.{Segment}

@@ -52,7 +52,7 @@ fn reads_are_whole_or_refused(rt: HostRuntime) {
     ];
     for (at, len, allowed, want) in rows {
         let mut out = [9; 4];
-        let answer = memory.read_into(at, &mut out[..len]);
+        let answer = memory.read_into(at, &mut out[..len.min(4)]);
         assert_eq!(rt; answer == Ok(()), allowed, "at {at} {len}");
         assert_eq!(rt; out, want, "bytes at {at} {len}");
     }

@@ -1,4 +1,4 @@
-use Rattle.std.proofs.Common.{◌≡◌, ℕ, List, [], ◌∷◌, length, arith, refl, sym, ◌∙◌, ap, eqb-true}
+use Rattle.std.proofs.Common.{◌≡◌, ℕ, List, [], ◌∷◌, length, arith, sym, ◌∙◌, eqb-true}
 use Rattle.x86_core.specs.declared.image.Segment.{Segment}
 use Rattle.xom_memory.specs.Access.{bytes_at}
 use Rattle.xom_memory.proofs.Allowed.{read_nothing}
