@@ -68,9 +68,11 @@ row_is ps s h = by_opening (opening_of ps) refl h
               ap (λ a. (37 ∷ s.name) ∷ codes "=" ∷ word s.operation ∷ codes "i32" ∷ (s.left ++ 44 ∷ []) ∷ s.right ∷ a) p.others;
           is_name = n.is_name;
         }
+
     by_operands : (t : Two) (o : Option Two) → ps ≡ t.first ∷ codes "=" ∷ t.second ∷ t.rest → operands_of t.rest ≡ o → with_operands t o ≡ Some s → IsRowOf ps s
     by_operands t None e f k = absurd (cc)
     by_operands t (Some v) e f k = by_parts t v e (operands_is t.rest v f) (parts _ _ _ _ _ s k)
+
     by_opening : (o : Option Two) → opening_of ps ≡ o → with_opening o ≡ Some s → IsRowOf ps s
     by_opening None e k = absurd (cc)
     by_opening (Some t) e k = by_operands t (operands_of t.rest) (opening_is ps t e) refl k
@@ -120,6 +122,7 @@ resolved_is names s i h = by_place (place_of names s.name) refl h
         record { fresh = p; operation = cc; left = ea ∙ ap Some l; right = eb ∙ ap Some r }
     by_values None b ea eb p k = absurd (cc)
     by_values (Some a) None ea eb p k = absurd (cc)
+
     by_place : (o : Option ℕ) → place_of names s.name ≡ o → (if is_none o then instruction s.operation (value_of names s.left) (value_of names s.right) else None) ≡ Some i → Matches names (row_from s) i
     by_place None e k = by_values (value_of names s.left) (value_of names s.right) refl refl e k
     by_place (Some j) e k = absurd (cc)
@@ -127,11 +130,10 @@ resolved_is names s i h = by_place (place_of names s.name) refl h
 resolved_back : (names : List (List ℕ)) (r : Row) (rest : List (List ℕ)) → IsRow names r → (i : Instruction) × (resolved names (record { name = r.name; operation = r.operation; left = r.left; right = r.right; rest = rest }) ≡ Some i)
 resolved_back names r rest h =
     let l = operand_back names r.left h.left in
-    let x = operand_back names r.right h.right in
-    (
+    let x = operand_back names r.right h.right in (
       record { operation = r.operation; left = l.0; right = x.0 },
       ap (λ o. if is_none o then instruction r.operation (value_of names r.left) (value_of names r.right) else None) h.fresh ∙
-      ap (λ a. instruction r.operation a (value_of names r.right)) l.1 ∙ ap (λ a. instruction r.operation (Some l.0) a) x.1,
+          ap (λ a. instruction r.operation a (value_of names r.right)) l.1 ∙ ap (λ a. instruction r.operation (Some l.0) a) x.1,
     )
 
 -- what was read behind these names
@@ -161,6 +163,7 @@ ended k names ps n h = by_end (end_of ps) refl h
           all_match = subst (λ is. AllMatch names [] is) none tt;
           value = ap (λ ns. value_of ns v) (append-nil names) ∙ f ∙ ap Some same;
         }
+
     by_end : (o : Option (List ℕ)) → end_of ps ≡ o → with_result (returned names o) ≡ Some n → Read k names ps n
     by_end None e g = absurd (cc)
     by_end (Some v) e g = by_value v (value_of names v) e refl g
@@ -191,9 +194,11 @@ sound (suc k) names ps n h = by_ret (begins_ret ps) h (λ s m g. sound k (names 
     by_rest s None b e f g p go = absurd (cc)
     by_rest s (Some i) None e f g p go = absurd (cc)
     by_rest s (Some i) (Some m) e f g p go = one_more k names ps n m s i e f p (go m refl)
+
     by_row : (o : Option Spelled) → row_of ps ≡ o → row_then names o (reads k) ≡ Some n → ((s : Spelled) (m : Narrow) → reads k (names ++ s.name ∷ []) s.rest ≡ Some m → Read k (names ++ s.name ∷ []) s.rest m) → Read (suc k) names ps n
     by_row None e p go = absurd (cc)
     by_row (Some s) e p go = by_rest s (resolved names s) (reads k (names ++ s.name ∷ []) s.rest) e refl refl p (λ m g. go s m g)
+
     by_ret : (b : Bool) → (if b then with_result (returned names (end_of ps)) else row_then names (row_of ps) (reads k)) ≡ Some n → ((s : Spelled) (m : Narrow) → reads k (names ++ s.name ∷ []) s.rest ≡ Some m → Read k (names ++ s.name ∷ []) s.rest m) → Read (suc k) names ps n
     by_ret true p go = ended (suc k) names ps n p
     by_ret false p go = by_row (row_of ps) refl p go
@@ -208,11 +213,10 @@ complete zero names (r ∷ rs) result good few v = absurd (omega arith)
 complete (suc k) names (r ∷ rs) result good few v =
     let rest = pieces_of_rows rs ++ pieces_of_end result in
     let i = resolved_back names r rest good.0 in
-    let x = complete k (names ++ r.name ∷ []) rs result good.1 (omega arith) (subst (λ ns. IsOperand ns result) (sym (append_assoc names (r.name ∷ []) (names_of rs))) v) in
-    (
+    let x = complete k (names ++ r.name ∷ []) rs result good.1 (omega arith) (subst (λ ns. IsOperand ns result) (sym (append_assoc names (r.name ∷ []) (names_of rs))) v) in (
       _,
       ap (λ o. row_then names o (reads k)) (row_back r rest good.0.name) ∙
-      ap (λ a. put a (reads k (names ++ r.name ∷ []) rest)) i.1 ∙ ap (put (Some i.0)) x.1,
+          ap (λ a. put a (reads k (names ++ r.name ∷ []) rest)) i.1 ∙ ap (put (Some i.0)) x.1,
     )
 
 pub read_text : (text : List ℕ) (n : Narrow) → narrow_in (body_of (pieces text)) ≡ Some n → SpellsNarrow text n

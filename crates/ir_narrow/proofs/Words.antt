@@ -93,9 +93,11 @@ operand_is names v x h = by_percent (behind_percent v) refl h
     of_number : (o : Option ℤ) → integer_of v ≡ o → number o ≡ Some x → IsOperand names v
     of_number None e k = absurd (cc)
     of_number (Some n) e k = inl (n, e)
+
     of_name : (name : List ℕ) (o : Option ℕ) → place_of names name ≡ o → earlier o ≡ Some x → v ≡ 37 ∷ name → IsOperand names v
     of_name name None e k p = absurd (cc)
     of_name name (Some j) e k p = inr (name, p, (j, e))
+
     by_percent : (o : Option (List ℕ)) → behind_percent v ≡ o → value_or names v o ≡ Some x → IsOperand names v
     by_percent None e k = of_number (integer_of v) refl k
     by_percent (Some name) e k = of_name name (place_of names name) refl k (percent_is v name e)
@@ -113,12 +115,14 @@ operand_back names v (inl n) = by_first v n.1
   where
     plain : (v : List ℕ) → behind_percent v ≡ None → integer_of v ≡ Some n.0 → (x : Value) × (value_of names v ≡ Some x)
     plain v p e = (_, ap (value_or names v) p ∙ ap number e)
+
     tested : (c : ℕ) (cs : List ℕ) (b : Bool) → nat_eq c 37 ≡ b → integer_of (c ∷ cs) ≡ Some n.0 → (x : Value) × (value_of names (c ∷ cs) ≡ Some x)
     tested c cs true t e =
         let same : c ≡ 37 = eqb-true c 37 t in
         let none : integer_of (c ∷ cs) ≡ None = ap (λ d. integer_of (d ∷ cs)) same ∙ no_integer cs in
         absurd (cc)
     tested c cs false t e = plain (c ∷ cs) (ap (λ b. if b then Some cs else None) t) e
+
     by_first : (v : List ℕ) → integer_of v ≡ Some n.0 → (x : Value) × (value_of names v ≡ Some x)
     by_first [] e = absurd (cc)
     by_first (c ∷ cs) e = tested c cs (nat_eq c 37) refl e

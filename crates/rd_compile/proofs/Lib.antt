@@ -4,3 +4,6 @@ pub mod Values
 pub mod Templates
 pub mod Held
 pub mod Narrow
+pub mod Fit
+pub mod WellFormed
+pub mod Compiled

@@ -13,6 +13,7 @@ use Rattle.rd_num.specs.declared.width.Width.TheVariants.{W32}
 use Rattle.ir_core.specs.declared.memory.Value.TheVariants.{Num}
 use Rattle.ir_core.specs.declared.instruction.Inst.{Inst}
 use Rattle.ir_core.specs.declared.instruction.BinOp.{BinOp}
+use Rattle.ir_core.specs.declared.instruction.Term.TheVariants.{RetValue}
 use Rattle.ir_core.specs.declared.module.Block.{Block}
 use Rattle.ir_core.specs.declared.module.Function.{Function}
 use Rattle.ir_core.specs.declared.module.Module.{Module}
@@ -33,6 +34,7 @@ use Rattle.x86_core.specs.Encoding.{IsInstr}
 use Rattle.machine_core.specs.Step.{State, moment_of}
 use Rattle.machine_core.specs.Data.{stack_bytes}
 use Rattle.machine_core.proofs.Laws.{machine_system}
+use Rattle.machine_core.proofs.Stack.{stack_long}
 use Rattle.ir_narrow.specs.declared.narrow.Operation.{Operation}
 use Rattle.ir_narrow.specs.declared.narrow.Operation.TheVariants as operation
 use Rattle.ir_narrow.specs.declared.narrow.Value.{Value}
@@ -50,7 +52,7 @@ use Rattle.obj_core.proofs.Cuts.{spelled-append, length-spelled-append}
 use Rattle.obj_core.proofs.Stands.{Stand, stand}
 use Rattle.rd_compile.specs.NarrowCode.{frame_code, value_into, operation_code, instruction_code, instructions_code, end_code, main_code, main_bytes, narrow_object}
 use Rattle.rd_compile.specs.Frame.{stack_of}
-use Rattle.rd_compile.proofs.Homes.{IsStack}
+use Rattle.rd_compile.proofs.Homes.{IsStack, home_stack}
 use Rattle.rd_compile.proofs.Values.{IsValue, Held, Operand, operand_value}
 use Rattle.rd_compile.proofs.Held.{more, written, held_more}
 use Rattle.rd_compile.proofs.Templates.{result_of, spot, instruction_comes, ended, end_comes, start_comes}
@@ -73,9 +75,20 @@ code-append k (x ∷ xs) ys =
     sym (append_assoc (instruction_code k x) (instructions_code (k + 1) xs) (instructions_code (k + length (x ∷ xs)) ys))
 
 -- values that stand in instructions fit there
-value_instr : (r : Reg) (x : Value) (count : ℕ) (bytes : List ℕ) (w : ℕ) → count ≤ 4000 → w < 2 ^ 32 → IsValue 0 0 [] (Constant w) w → IsValue count count bytes x w → IsInstr (value_into r x)
-value_instr r (Constant m) count bytes w few small u e = omega (arith, e)
-value_instr r (Earlier j) count bytes w few small u e = let lt = e.0 in omega arith
+value_instr : (r : Reg) (x : Value) (count : ℕ) (bytes : List ℕ) (w : ℕ) → count ≤ 4000 → w < 2 ^ 32 → IsValue count count bytes x w → IsInstr (value_into r x)
+value_instr r (Constant m) count bytes w few small e = omega (arith, e)
+value_instr r (Earlier j) count bytes w few small e = let lt = e.0 in omega arith
+
+-- a value among some results is one among more
+value_wide : (x : Value) (k count : ℕ) (bytes : List ℕ) (w : ℕ) → k ≤ count → IsValue count k bytes x w → IsValue count count bytes x w
+value_wide (Constant m) k count bytes w le e = e
+value_wide (Earlier j) k count bytes w le e = let lt = e.0 in (omega arith, e.1)
+
+-- the code of one instruction more
+one_code : (done : List Instruction) (i : Instruction) (k : ℕ) → k ≡ length done → instructions_code 0 done ++ instruction_code k i ≡ instructions_code 0 (done ++ i ∷ [])
+one_code done i k e =
+    let z : k ≡ 0 + length done = omega (arith, e) in
+    ap (λ c. instructions_code 0 done ++ c) (sym (append-nil (instruction_code k i)) ∙ ap (λ j. instructions_code j (i ∷ [])) z) ∙ sym (code-append 0 done (i ∷ []))
 
 operation_instr : (op : Operation) → IsInstr (operation_code op)
 operation_instr operation.Add = tt
@@ -91,3 +104,222 @@ binary_is : (op : Operation) (a b : ℕ) → binary (operation_in_module op) W32
 binary_is operation.Add a b = refl
 binary_is operation.Sub a b = refl
 binary_is operation.Mul a b = refl
+
+module _ (slot_seed reg_seed : ℕ) (p : Program) (n : Narrow) (few : length n.instructions ≤ 4000) (resolved : IsResolved p n) where
+  abbrev m : Module
+  m = module_of p
+
+  abbrev results : ℕ
+  results = length n.instructions
+
+  abbrev block : Block
+  block = record { label = codes "0"; insts = map instruction_of_row p.rows; end = RetValue word_type (operand_of p.result) }
+
+  abbrev main : Function
+  main = record { name = codes "main"; ret = word_type; params = []; blocks = block ∷ [] }
+
+  -- the call of `main` before instruction k
+  abbrev call_at : ℕ → List Local → Frame
+  call_at k locals = record { function = 0; block = 0; next = k; locals = locals; objects = []; into = None }
+
+  abbrev source_at : ℕ → List Local → Source
+  source_at k locals = record { frames = call_at k locals ∷ []; objects = []; printed = []; taken = 0; ending = Going }
+
+  -- where the code of an instruction begins, behind that of these
+  abbrev offset : List Instruction → ℕ
+  offset done = length (spelled (frame_code results ++ instructions_code 0 done))
+
+  -- the object at an instruction of the module: each result so far is in its home
+  record Stage (input : List ℕ) (a : Source) (b : State Place) : Type 0 where
+    before : List Row
+    rows : List Row
+    done : List Instruction
+    todo : List Instruction
+    split : p.rows ≡ before ++ rows
+    code : n.instructions ≡ done ++ todo
+    same : length before ≡ length done
+    matches : AllMatch (names_of before) rows todo
+    locals : List Local
+    bytes : List ℕ
+    rax : ℕ
+    rcx : ℕ
+    flags : Flags
+    stack : IsStack bytes
+    held : Held results (names_of before) locals bytes
+    source : a ≡ source_at (length before) locals
+    target : b ≡ spot slot_seed reg_seed n few input (offset done) rax rcx 0 flags bytes
+
+  abbrev A : List ℕ → System Source
+  A input = source_system m input
+
+  abbrev B : List ℕ → System (State Place)
+  B input = machine_system (λ _. symbolic_fetch (narrow_object slot_seed reg_seed n)) (symbolic_land (narrow_object slot_seed reg_seed n))
+
+  abbrev Meets : List ℕ → Source → State Place → Type 0
+  Meets input a b = Met (A input) (B input) (Stage input) (λ _. 0) 4 a (source_step m input a) b
+
+  names_long : (before : List Row) → length (names_of before) ≡ length before
+  names_long before = length-map before (λ (r : Row). r.name)
+
+  -- the code of `main` around an instruction, and around its end
+  code_around : (done todo : List Instruction) → n.instructions ≡ done ++ todo → main_code n ≡ (frame_code results ++ instructions_code 0 done) ++ (instructions_code (length done) todo ++ end_code n.result)
+  code_around done todo e =
+      let z : 0 + length done ≡ length done = omega arith in
+      ap (λ is. frame_code results ++ (instructions_code 0 is ++ end_code n.result)) e ∙
+      ap (λ c. frame_code results ++ (c ++ end_code n.result)) (code-append 0 done todo ∙ ap (λ k. instructions_code 0 done ++ instructions_code k todo) z) ∙
+      ap (λ c. frame_code results ++ c) (append_assoc (instructions_code 0 done) (instructions_code (length done) todo) (end_code n.result)) ∙
+      sym (append_assoc (frame_code results) (instructions_code 0 done) (instructions_code (length done) todo ++ end_code n.result))
+
+  stands_in : (before : List Instr) (is after : List Instr) → Each IsInstr is → main_code n ≡ before ++ (is ++ after) → Stand (main_bytes n) (length (spelled before)) is
+  stands_in before is after h e = subst (λ c. Stand (spelled c) (length (spelled before)) is) (sym e) (stand before is after h)
+
+  -- where the module stands
+  stands : (k : ℕ) (locals : List Local) (next : Option Inst) → slice_get (map instruction_of_row p.rows) k ≡ next → Stands m (call_at k locals) main block next
+  stands k locals next e = record { in_module = refl; in_function = refl; in_block = e }
+
+  -- the return: the run ends with the result's low 8 bits on both sides
+  return_meets : (input : List ℕ) (before : List Row) (done : List Instruction) (locals : List Local) (bytes : List ℕ) (rax rcx : ℕ) (flags : Flags) → p.rows ≡ before ++ [] → n.instructions ≡ done ++ [] → length before ≡ length done → IsStack bytes → Held results (names_of before) locals bytes →
+      Meets input (source_at (length before) locals) (spot slot_seed reg_seed n few input (offset done) rax rcx 0 flags bytes)
+  return_meets input before done locals bytes rax rcx flags split code same stack held =
+      let s = source_at (length before) locals in
+      let rows : p.rows ≡ before = split ∙ append-nil before in
+      let past : slice_get (map instruction_of_row p.rows) (length before) ≡ None = ap (λ rs. slice_get (map instruction_of_row rs) (length before)) rows ∙ ap (slice_get (map instruction_of_row before)) (sym (length-map before instruction_of_row)) ∙ get_past (map instruction_of_row before) in
+      let value : value_of (names_of before) p.result ≡ Some n.result = ap (λ rs. value_of (names_of rs) p.result) (sym rows) ∙ resolved.result in
+      let x = operand_value m results (names_of before) locals bytes held p.result n.result value in
+      let returns : source_step m input s ≡ record s { ending = Ended (x.number % 256) } =
+      last_return_here m input s (call_at (length before) locals) main block word_type (operand_of p.result) W32 x.number refl refl (stands (length before) locals None past) refl
+      (ap (λ k. module_value m locals k (operand_of p.result)) (kind-int W32) ∙ x.in_module) in
+      let count : length (names_of before) ≡ results = names_long before ∙ same ∙ ap length (sym (code ∙ append-nil done)) in
+      let in_object : IsValue results results bytes n.result x.number = subst (λ c. IsValue results c bytes n.result x.number) count x.in_object in
+      let instr = value_instr Rdi n.result results bytes x.number few x.small in_object in
+      let around : main_code n ≡ (frame_code results ++ instructions_code 0 done) ++ (end_code n.result ++ []) = code_around done [] code ∙ ap (λ c. (frame_code results ++ instructions_code 0 done) ++ c) (sym (append-nil (end_code n.result))) in
+      let stood = stands_in (frame_code results ++ instructions_code 0 done) (end_code n.result) [] (instr, (omega arith, (omega arith, (tt, tt)))) around in
+      let whole : offset done + length (spelled (end_code n.result)) ≡ length (main_bytes n) = sym (length-spelled-append (frame_code results ++ instructions_code 0 done) (end_code n.result)) ∙ ap (λ c. length (spelled c)) (sym (around ∙ ap (λ c. (frame_code results ++ instructions_code 0 done) ++ c) (append-nil (end_code n.result)))) in
+      let comes = end_comes slot_seed reg_seed n few input (offset done) rax rcx 0 x.number flags bytes n.result stack in_object stood whole in
+      let end = ended slot_seed reg_seed n few input x.number rcx (offset done) flags bytes in
+      met_by (A input) (B input) (Stage input) (λ _. 0) 4 s (source_step m input s) (spot slot_seed reg_seed n few input (offset done) rax rcx 0 flags bytes) end
+      (comes_wider _ 4 4 1 4 _ _ (omega arith) (omega arith) comes)
+      (inr (subst (λ t. HasStopped (source_moment t) × Agrees (source_moment t) (moment_of end)) (sym returns) (refl, agrees_refl (moment_of end))))
+
+  -- an instruction: its result goes to its local and to its home
+  instruction_meets : (input : List ℕ) (before : List Row) (r : Row) (rows : List Row) (done : List Instruction) (i : Instruction) (todo : List Instruction) (locals : List Local) (bytes : List ℕ) (rax rcx : ℕ) (flags : Flags) → p.rows ≡ before ++ r ∷ rows → n.instructions ≡ done ++ i ∷ todo → length before ≡ length done →
+      Matches (names_of before) r i → AllMatch (names_of before ++ r.name ∷ []) rows todo → IsStack bytes → Held results (names_of before) locals bytes →
+      Meets input (source_at (length before) locals) (spot slot_seed reg_seed n few input (offset done) rax rcx 0 flags bytes)
+  instruction_meets input before r rows done i todo locals bytes rax rcx flags split code same match others stack held =
+      let s = source_at (length before) locals in
+      let names = names_of before in
+      let k = length names in
+      let kb : k ≡ length before = names_long before in
+      let kd : k ≡ length done = kb ∙ same in
+      let here : slice_get (map instruction_of_row p.rows) (length before) ≡ Some (instruction_of_row r) =
+      ap (λ rs. slice_get (map instruction_of_row rs) (length before)) split ∙ ap (λ l. slice_get l (length before)) (map-append instruction_of_row before (r ∷ rows)) ∙
+      ap (slice_get (map instruction_of_row before ++ instruction_of_row r ∷ map instruction_of_row rows)) (sym (length-map before instruction_of_row)) ∙ get_behind (map instruction_of_row before) (map instruction_of_row rows) (instruction_of_row r) in
+      let a = operand_value m results names locals bytes held r.left i.left match.left in
+      let b = operand_value m results names locals bytes held r.right i.right match.right in
+      let w = result_of i.operation a.number b.number in
+      let op = binary_is i.operation a.number b.number in
+      let does : binary (operation_in_module r.operation) W32 a.number b.number ≡ Ok w = ap (λ o. binary (operation_in_module o) W32 a.number b.number) match.operation ∙ op in
+      let steps : source_step m input s ≡ source_at (length before + 1) (record { name = r.name; value = Num W32 w } ∷ locals) =
+      binary_here m input s (call_at (length before) locals) [] main block (Some r.name) (operation_in_module r.operation) word_type (operand_of r.left) (operand_of r.right) W32 W32 W32 a.number b.number w refl refl
+      (stands (length before) locals (Some (instruction_of_row r)) here) (kind-int W32) a.in_module b.in_module does in
+      let long : length n.instructions ≡ length done + length (i ∷ todo) = ap length code ∙ length-append done (i ∷ todo) in
+      let below : k < results = omega (arith, long, kd) in
+      let fewer : k ≤ 4000 = omega (arith, below, few) in
+      let left = value_wide i.left k results bytes a.number (omega (arith, below)) a.in_object in
+      let right = value_wide i.right k results bytes b.number (omega (arith, below)) b.in_object in
+      let li = value_instr Rax i.left results bytes a.number few a.small left in
+      let ri = value_instr Rcx i.right results bytes b.number few b.small right in
+      let oi = operation_instr i.operation in
+      let si : 8 * k < 2 ^ 31 = omega (arith, fewer) in
+      let more_code = instructions_code (k + 1) todo ++ end_code n.result in
+      let around : main_code n ≡ (frame_code results ++ instructions_code 0 done) ++ (instruction_code k i ++ more_code) =
+      code_around done (i ∷ todo) code ∙ ap (λ j. (frame_code results ++ instructions_code 0 done) ++ (instructions_code j (i ∷ todo) ++ end_code n.result)) (sym kd) ∙
+      ap (λ c. (frame_code results ++ instructions_code 0 done) ++ c) (append_assoc (instruction_code k i) (instructions_code (k + 1) todo) (end_code n.result)) in
+      let stood = stands_in (frame_code results ++ instructions_code 0 done) (instruction_code k i) more_code (li, (ri, (oi, (si, tt)))) around in
+      let stood2 : Stand (main_bytes n) (offset done) (instruction_code k i ++ []) = stood in
+      let comes = instruction_comes slot_seed reg_seed n few input (offset done) k rax rcx 0 a.number b.number flags bytes i [] below a.small b.small (result_small i.operation a.number b.number) stack left right stood2 in
+      let x = held_more results few names locals bytes stack r.name match.fresh below w (result_small i.operation a.number b.number) held in
+      let ends : offset done + length (spelled (instruction_code k i)) ≡ offset (done ++ i ∷ []) =
+      sym (length-spelled-append (frame_code results ++ instructions_code 0 done) (instruction_code k i)) ∙
+      ap (λ c. length (spelled c)) (append_assoc (frame_code results) (instructions_code 0 done) (instruction_code k i)) ∙
+      ap (λ c. length (spelled (frame_code results ++ c))) (one_code done i k kd) in
+      let changed = comes.0 in
+      let t = spot slot_seed reg_seed n few input (offset done + length (spelled (instruction_code k i))) w b.number 0 changed (written results few names locals bytes stack r.name match.fresh below w (result_small i.operation a.number b.number)) in
+      let stage : Stage input (source_at (length before + 1) (record { name = r.name; value = Num W32 w } ∷ locals)) t = record {
+        before = before ++ r ∷ [];
+        rows = rows;
+        done = done ++ i ∷ [];
+        todo = todo;
+        split = split ∙ sym (append_assoc before (r ∷ []) rows);
+        code = code ∙ sym (append_assoc done (i ∷ []) todo);
+        same = length-append before (r ∷ []) ∙ ap (λ q. q + 1) same ∙ sym (length-append done (i ∷ []));
+        matches = subst (λ ns. AllMatch ns rows todo) (sym (map-append (λ (q : Row). q.name) before (r ∷ []))) others;
+        locals = record { name = r.name; value = Num W32 w } ∷ locals;
+        bytes = written results few names locals bytes stack r.name match.fresh below w (result_small i.operation a.number b.number);
+        rax = w;
+        rcx = b.number;
+        flags = changed;
+        stack = home_stack results k few below bytes w stack;
+        held = subst (λ ns. Held results ns (record { name = r.name; value = Num W32 w } ∷ locals) (written results few names locals bytes stack r.name match.fresh below w (result_small i.operation a.number b.number))) (sym (map-append (λ (q : Row). q.name) before (r ∷ []))) x;
+        source = ap (λ q. source_at q (record { name = r.name; value = Num W32 w } ∷ locals)) (sym (length-append before (r ∷ [])));
+        target = ap (λ q. spot slot_seed reg_seed n few input q w b.number 0 changed (written results few names locals bytes stack r.name match.fresh below w (result_small i.operation a.number b.number))) ends;
+      } in
+      met_by (A input) (B input) (Stage input) (λ _. 0) 4 s (source_step m input s) (spot slot_seed reg_seed n few input (offset done) rax rcx 0 flags bytes) t
+      (comes_wider _ 4 4 1 4 _ _ (omega arith) (omega arith) comes.1)
+      (inl (subst (λ q. Stage input q t) (sym steps) stage))
+
+  step_meets : (input : List ℕ) (a : Source) (b : State Place) → Stage input a b → Meets input a b
+  step_meets input a b g =
+      subst (λ q. Meets input q b) (sym g.source)
+      (subst (Meets input (source_at (length g.before) g.locals)) (sym g.target) (by_rows g.rows g.todo g.split g.code g.matches))
+    where
+      by_rows : (rows : List Row) (todo : List Instruction) → p.rows ≡ g.before ++ rows → n.instructions ≡ g.done ++ todo → AllMatch (names_of g.before) rows todo → Meets input (source_at (length g.before) g.locals) (spot slot_seed reg_seed n few input (offset g.done) g.rax g.rcx 0 g.flags g.bytes)
+      by_rows [] [] split code match = return_meets input g.before g.done g.locals g.bytes g.rax g.rcx g.flags split code g.same g.stack g.held
+      by_rows (r ∷ rows) (i ∷ todo) split code match = instruction_meets input g.before r rows g.done i todo g.locals g.bytes g.rax g.rcx g.flags split code g.same match.0 match.1 g.stack g.held
+      by_rows [] (i ∷ todo) split code match = absurd match
+      by_rows (r ∷ rows) [] split code match = absurd match
+
+  shown : (input : List ℕ) (a : Source) (b : State Place) → Stage input a b → Agrees (source_moment a) (moment_of b)
+  shown input a b g =
+      subst (λ q. Agrees (source_moment q) (moment_of b)) (sym g.source)
+      (subst (λ q. Agrees (source_moment (source_at (length g.before) g.locals)) (moment_of q)) (sym g.target) (agrees_refl (source_moment (source_at (length g.before) g.locals))))
+
+  follows : (input : List ℕ) → AreBytes input → Follows (A input) (B input) (Stage input) (λ _. 0) 4
+  follows input bytes = record {
+    gradual = source_gradual m input;
+    shown = shown input;
+    step = λ a b g going. inr (step_meets input a b g);
+  }
+
+  begins_source : source_start m ≡ source_at 0 []
+  unfolding source_start
+  begins_source = refl
+
+  starts : (input : List ℕ) → AreBytes input → Starts (A input) (B input) (Stage input) 4 (source_start m) (symbolic_start (narrow_object slot_seed reg_seed n) input)
+  starts input bytes =
+      let x = start_comes slot_seed reg_seed n few input in
+      let stage : Stage input (source_start m) (spot slot_seed reg_seed n few input 7 0 0 0 x.0 stack_bytes) = record {
+        before = [];
+        rows = p.rows;
+        done = [];
+        todo = n.instructions;
+        split = refl;
+        code = refl;
+        same = refl;
+        matches = resolved.rows;
+        locals = [];
+        bytes = stack_bytes;
+        rax = 0;
+        rcx = 0;
+        flags = x.0;
+        stack = stack_long;
+        held = λ q j e. absurd (cc);
+        source = begins_source;
+        target = refl;
+      } in
+      starts_by (A input) (B input) (Stage input) (λ _. 0) 4 4 (source_start m) (symbolic_start (narrow_object slot_seed reg_seed n) input) (spot slot_seed reg_seed n few input 7 0 0 0 x.0 stack_bytes)
+      (subst (λ q. Agrees (source_moment q) (moment_of (symbolic_start (narrow_object slot_seed reg_seed n) input))) (sym begins_source) (agrees_refl (source_moment (source_at 0 []))))
+      (comes_wider _ 4 4 0 4 _ _ (omega arith) (omega arith) x.1) (inl stage)
+
+  pub narrow_preserves : Preserves (source_run m) (symbolic_behavior (narrow_object slot_seed reg_seed n))
+  narrow_preserves = module_simulates m B (λ input. symbolic_start (narrow_object slot_seed reg_seed n) input) Stage (λ _ _. 0) 4 4 follows starts

@@ -19,7 +19,7 @@ use Rattle.obj_core.specs.Cut.{spelled}
 use Rattle.rd_compile.specs.NarrowCode.{instruction_code, instructions_code, end_code, main_bytes, frame_bytes, frame_code, value_into, operation_code, home, HasPlaces, AllHavePlaces}
 
 pub wider : (k n : ℕ) (v : Value) → k ≤ n → HasPlaces k v → HasPlaces n v
-wider k n (Number m) le h = tt
+wider k n (Number m) le h = h
 wider k n (Earlier j) le h = omega arith
 
 pub spelled-append : (xs ys : List Instr) → spelled (xs ++ ys) ≡ spelled xs ++ spelled ys
@@ -99,7 +99,7 @@ main_long n =
     let es = spelled (end_code n.result) in
     let fs = spelled (frame_code (length n.instructions)) in
     let e =
-        ap length (spelled-append (frame_code (length n.instructions)) (instructions_code 0 n.instructions ++ end_code n.result)) ∙
-        length-append fs (spelled (instructions_code 0 n.instructions ++ end_code n.result)) ∙
-        ap (λ r. length fs + r) (ap length (spelled-append (instructions_code 0 n.instructions) (end_code n.result)) ∙ length-append is es) in
+    ap length (spelled-append (frame_code (length n.instructions)) (instructions_code 0 n.instructions ++ end_code n.result)) ∙
+    length-append fs (spelled (instructions_code 0 n.instructions ++ end_code n.result)) ∙
+    ap (λ r. length fs + r) (ap length (spelled-append (instructions_code 0 n.instructions) (end_code n.result)) ∙ length-append is es) in
     record { most = omega (arith, a, b.0, e); least = omega (arith, b.1, e) }

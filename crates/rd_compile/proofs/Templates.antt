@@ -143,13 +143,12 @@ module _ (slot_seed reg_seed : ℕ) (n : Narrow) (few : length n.instructions �
       let off3 = off2 + size_of (operation_code i.operation) in
       let r = result_of i.operation a b in
       let x = operated off2 rdi flags bytes i.operation a b _ ha hb s2 in
-      let end : off3 + size_of (Store Size.W32 (home k) Rax) ≡ off + length (spelled (instruction_code k i)) = whole_length off k i in
-      (
+      let end : off3 + size_of (Store Size.W32 (home k) Rax) ≡ off + length (spelled (instruction_code k i)) = whole_length off k i in (
         x.0,
         comes_step (symbolic_step o) 3 3 _ _ _ (to_rax off rax rcx rdi flags bytes i.left a _ h left s)
-        (comes_step (symbolic_step o) 2 2 _ _ _ (to_rcx off1 a rcx rdi flags bytes i.right b _ h right s1)
-        (comes_step (symbolic_step o) 1 1 _ _ _ x.1
-        (comes_one (symbolic_step o) _ _ (stored off3 b rdi x.0 bytes k r _ lt hr h s3 ∙ ap (λ p. spot p r b rdi x.0 (with_home results k few lt bytes r)) end)))),
+            (comes_step (symbolic_step o) 2 2 _ _ _ (to_rcx off1 a rcx rdi flags bytes i.right b _ h right s1)
+            (comes_step (symbolic_step o) 1 1 _ _ _ x.1
+            (comes_one (symbolic_step o) _ _ (stored off3 b rdi x.0 bytes k r _ lt hr h s3 ∙ ap (λ p. spot p r b rdi x.0 (with_home results k few lt bytes r)) end)))),
       )
 
   end_length : (off : ℕ) (v : Value) → off + length (spelled (end_code v)) ≡ length (main_bytes n) → length (main_bytes n) - 6 + 4 ≡ off + size_of (value_into Rdi v) + 5 + 5
@@ -192,21 +191,19 @@ module _ (slot_seed reg_seed : ℕ) (n : Narrow) (few : length n.instructions �
       let f = frame_bytes results in
       let small : f < 2 ^ 31 = omega arith in
       let i = AluImm ImmOp.Sub Wide.W64 Rsp (pos f) in
-      let e : (stack_end % 2 ^ 64 + 2 ^ 64 - f % 2 ^ 64) % 2 ^ 64 ≡ frame_start results = omega arith in
-      (
+      let e : (stack_end % 2 ^ 64 + 2 ^ 64 - f % 2 ^ 64) % 2 ^ 64 ≡ frame_start results = omega arith in (
         _,
         ap (λ x. act (symbolic_land o) x (first_at (Place.Code 0 0))) (fetched o 0 0 (main_function n) i [] refl (stand [] (frame_code results) (instructions_code 0 n.instructions ++ end_code n.result) (small, tt))) ∙
-        ap (λ r. record (spot 7 0 0 0 (alu_flags AluOp.Sub 64 (stack_end % 2 ^ 64) (f % 2 ^ 64) ((stack_end % 2 ^ 64 + 2 ^ 64 - f % 2 ^ 64) % 2 ^ 64)) stack_bytes) { regs = 0 ∷ 0 ∷ 0 ∷ 0 ∷ r ∷ 0 ∷ 0 ∷ 0 ∷ 0 ∷ 0 ∷ 0 ∷ 0 ∷ 0 ∷ 0 ∷ 0 ∷ 0 ∷ [] }) e,
+            ap (λ r. record (spot 7 0 0 0 (alu_flags AluOp.Sub 64 (stack_end % 2 ^ 64) (f % 2 ^ 64) ((stack_end % 2 ^ 64 + 2 ^ 64 - f % 2 ^ 64) % 2 ^ 64)) stack_bytes) { regs = 0 ∷ 0 ∷ 0 ∷ 0 ∷ r ∷ 0 ∷ 0 ∷ 0 ∷ 0 ∷ 0 ∷ 0 ∷ 0 ∷ 0 ∷ 0 ∷ 0 ∷ 0 ∷ [] }) e,
       )
 
   -- the start: by the entry, start's jump and main's slot, and rsp goes down by the frame
   pub start_comes : (changed : Flags) × Comes (symbolic_step o) 4 4 (symbolic_start o input) (spot 7 0 0 0 changed stack_bytes)
   start_comes =
-      let jump : symbolic_step o (first_at (Place.Code 1 0)) ≡ first_at (Place.Slot 1 0) = ap (λ x. act (symbolic_land o) x (first_at (Place.Code 1 0))) (fetched o 1 0 start_function (Jmp (pos 0)) [] refl (stand [] (Jmp (pos 0) ∷ []) [] (omega arith, tt))) in
-      (
+      let jump : symbolic_step o (first_at (Place.Code 1 0)) ≡ first_at (Place.Slot 1 0) = ap (λ x. act (symbolic_land o) x (first_at (Place.Code 1 0))) (fetched o 1 0 start_function (Jmp (pos 0)) [] refl (stand [] (Jmp (pos 0) ∷ []) [] (omega arith, tt))) in (
         framed.0,
         comes_step (symbolic_step o) 3 3 _ (first_at (Place.Code 1 0)) _ refl
-        (comes_step (symbolic_step o) 2 2 _ (first_at (Place.Slot 1 0)) _ jump
-        (comes_step (symbolic_step o) 1 1 _ (first_at (Place.Code 0 0)) _ refl
-        (comes_one (symbolic_step o) _ _ framed.1))),
+            (comes_step (symbolic_step o) 2 2 _ (first_at (Place.Slot 1 0)) _ jump
+            (comes_step (symbolic_step o) 1 1 _ (first_at (Place.Code 0 0)) _ refl
+            (comes_one (symbolic_step o) _ _ framed.1))),
       )

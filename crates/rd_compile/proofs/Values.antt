@@ -31,7 +31,7 @@ turned : (n : ℕ) → n ≤ 2147483648 → (b : Bool) → nat_eq n 0 ≡ b → 
 turned n le true e = record { is_same = refl; small = omega arith }
 turned n le false e = record { is_same = omega arith; small = omega arith }
 
-integer_word : (v : List ℕ) (z : ℤ) → integer_of v ≡ Some z → IsWord z
+pub integer_word : (v : List ℕ) (z : ℤ) → integer_of v ≡ Some z → IsWord z
 integer_word [] z h = absurd (cc)
 integer_word (c ∷ cs) z h = by_sign (nat_eq c 45) h
   where
@@ -41,12 +41,14 @@ integer_word (c ∷ cs) z h = by_sign (nat_eq c 45) h
         let p = passed (nat_le n 4294967295) (pos n) z k in
         let le : n ≤ 4294967295 = leb-true n 4294967295 p.0 in
         subst IsWord p.1 (record { is_same = omega arith; small = omega arith })
+
     below : (o : Option ℕ) → below_zero 2147483648 o ≡ Some z → IsWord z
     below None k = absurd (cc)
     below (Some n) k =
         let p = passed (nat_le n 2147483648) (negated n) z k in
         let le : n ≤ 2147483648 = leb-true n 2147483648 p.0 in
         subst IsWord p.1 (turned n le (nat_eq n 0) refl)
+
     by_sign : (b : Bool) → (if b then below_zero 2147483648 (natural_of cs) else at_most 4294967295 (natural_of (c ∷ cs))) ≡ Some z → IsWord z
     by_sign true k = below (natural_of cs) k
     by_sign false k = plain (natural_of (c ∷ cs)) k
@@ -127,6 +129,7 @@ one_behind p i j (x ∷ xs) y h = first (p x) h (one_behind p (i + 1) j xs y)
     shifted : (position_from p (i + 1) xs ≡ Some j) ⊎ Last p (i + 1) xs y j → (position_from p (i + 1) xs ≡ Some j) ⊎ Last p i (x ∷ xs) y j
     shifted (inl e) = inl e
     shifted (inr e) = let n = e.1 in inr (e.0, omega arith)
+
     first : (b : Bool) → (if b then Some i else position_from p (i + 1) (xs ++ y ∷ [])) ≡ Some j → (position_from p (i + 1) (xs ++ y ∷ []) ≡ Some j → (position_from p (i + 1) xs ≡ Some j) ⊎ Last p (i + 1) xs y j) → ((if b then Some i else position_from p (i + 1) xs) ≡ Some j) ⊎ Last p i (x ∷ xs) y j
     first true k go = inl k
     first false k go = shifted (go k)

@@ -3,6 +3,8 @@ use Rattle.std.specs.Prelude.{◌≡◌, ℕ, ◌+◌, List, [], ◌∷◌, leng
 use Rattle.behavior.specs.Preserves.{Preserves}
 use Rattle.ir_core.specs.declared.module.Module.{Module}
 use Rattle.ir_core.specs.Run.{source_run}
+use Rattle.ir_narrow.specs.NarrowText.{Program, IsNarrowText}
+use Rattle.ir_narrow.specs.Resolved.{module_of}
 use Rattle.obj_core.specs.declared.object.Object.{Object}
 use Rattle.obj_core.specs.declared.object.Func.{Func}
 use Rattle.obj_core.specs.declared.object.FuncKind.{FuncKind}
@@ -22,3 +24,9 @@ pub record IsCompiledFrom (m : Module) (slot_seed reg_seed : ℕ) (o : Object) :
   pub functions : length o.functions ≡ length m.functions + 6
   pub plain : Each IsPlain o.functions
   pub preserves : Preserves (source_run m) (symbolic_behavior o)
+
+-- an object that is compiled from the module of a narrow text
+pub record CompiledText (text : List ℕ) (slot_seed reg_seed : ℕ) (o : Object) : Type 0 where
+  pub program : Program
+  pub spelled : IsNarrowText text program
+  pub compiled : IsCompiledFrom (module_of program) slot_seed reg_seed o

@@ -1,5 +1,5 @@
 -- The object of a narrow program. Each result has eight bytes of the frame, which begins at rsp.
-use Rattle.std.specs.Prelude.{ℕ, ◌<◌, ◌+◌, ◌-◌, ◌*◌, ◌/◌, List, [], ◌∷◌, ◌++◌, length, pos}
+use Rattle.std.specs.Prelude.{ℕ, ◌<◌, ◌≤◌, ◌^◌, ◌+◌, ◌-◌, ◌*◌, ◌/◌, List, [], ◌∷◌, ◌++◌, length, pos}
 use Rattle.x86_core.specs.declared.reg.Reg.{Reg}
 use Rattle.x86_core.specs.declared.reg.Reg.TheVariants.{Rax, Rcx, Rsp, Rdi}
 use Rattle.x86_core.specs.declared.instr.Wide.{Wide}
@@ -85,15 +85,21 @@ narrow_object slot_seed reg_seed n = record {
   rw = [];
 }
 
--- an operand is a number, or one of this many earlier results
+-- an operand is a word, or one of this many earlier results
 abbrev pub HasPlaces : ℕ → Value → Type 0
-HasPlaces count (Number n) = Unit {0}
+HasPlaces count (Number n) = n < 2 ^ 32
 HasPlaces count (Earlier k) = k < count
 
 abbrev pub InstructionHasPlaces : ℕ → Instruction → Type 0
 InstructionHasPlaces count i = HasPlaces count i.left × HasPlaces count i.right
 
--- each operand is a result of an earlier instruction
+-- each operand is a word or a result of an earlier instruction
 abbrev pub AllHavePlaces : ℕ → List Instruction → Type 0
 AllHavePlaces k [] = Unit {0}
 AllHavePlaces k (i ∷ is) = InstructionHasPlaces k i × AllHavePlaces (k + 1) is
+
+-- at most 4,000 instructions, and operands and result as they should be
+pub record IsFit (n : Narrow) : Type 0 where
+  pub few : length n.instructions ≤ 4000
+  pub places : AllHavePlaces 0 n.instructions
+  pub result_place : HasPlaces (length n.instructions) n.result

@@ -2,7 +2,7 @@
 
 ghost use Rattle.std.specs.Prelude.{◌≡◌, ◌≤◌, ◌<◌, ◌^◌, ◌-◌, ◌++◌, [], ◌∷◌, OnOk, IfOk, length};
 ghost use Rattle.obj_core.specs.Cut.{spelled};
-ghost use Rattle.rd_compile.specs.NarrowCode.{main_function, main_bytes, start_function, stub_function, narrow_object, HasPlaces, AllHavePlaces};
+ghost use Rattle.rd_compile.specs.NarrowCode.{main_function, main_bytes, start_function, stub_function, narrow_object, IsFit};
 
 use crate::code::main_code_bytes;
 use ir_narrow::narrow::Narrow;
@@ -96,9 +96,7 @@ pub fn narrow_object_of(
     slot_seed: u64,
     reg_seed: u64,
 ) -> Result<Object, NoMemory>
-    requires few { length narrow.now.instructions ≤ 4000 }
-    requires places { AllHavePlaces 0 narrow.now.instructions }
-    requires result_place { HasPlaces (length narrow.now.instructions) narrow.now.result }
+    requires { IsFit narrow.now }
     ensures { IfOk result (λ o. o ≡ narrow_object slot_seed reg_seed narrow.now) }
 {
     let bytes = main_code_bytes(alloc, narrow)?;

@@ -1,0 +1,9 @@
+//! Objects as the bytes of their files: written, and read back.
+//!
+//! `write` spells an object, and `read` takes exactly the bytes that spell one. A file is a header of
+//! 40 bytes, the functions, the slots and the data; nothing follows. Words are little-endian.
+//! Source: this project's object format, docs/object-format.md. Which objects are well formed is
+//! not asked here.
+#![tactic(auto)]
+
+pub mod write;

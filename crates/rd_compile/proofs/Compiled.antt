@@ -1,0 +1,26 @@
+-- The object of a narrow text is compiled from the text's module.
+use Rattle.std.proofs.Common.{◌≡◌, ℕ, ◌^◌, ◌<◌, List, refl, sym, subst}
+use Rattle.ir_narrow.specs.declared.narrow.Narrow.{Narrow}
+use Rattle.ir_narrow.specs.Resolved.{SpellsNarrow, module_of}
+use Rattle.obj_core.specs.declared.object.Object.{Object}
+use Rattle.rd_compile.specs.NarrowCode.{IsFit, narrow_object}
+use Rattle.rd_compile.specs.Compiled.{IsCompiledFrom, CompiledText}
+use Rattle.rd_compile.proofs.Fit.{fit}
+use Rattle.rd_compile.proofs.Narrow.{narrow_preserves}
+use Rattle.rd_compile.proofs.WellFormed.{narrow_well_formed}
+
+pub fit_text : (text : List ℕ) (n : Narrow) → SpellsNarrow text n → IsFit n
+fit_text text n x = fit x.program n x.spelled.narrow x.resolved
+
+pub compiled_text : (text : List ℕ) (n : Narrow) (slot_seed reg_seed : ℕ) (o : Object) → SpellsNarrow text n → slot_seed < 2 ^ 64 → reg_seed < 2 ^ 64 → o ≡ narrow_object slot_seed reg_seed n → CompiledText text slot_seed reg_seed o
+compiled_text text n slot_seed reg_seed o x slot_fits reg_fits e =
+    let f = fit_text text n x in
+    let c : IsCompiledFrom (module_of x.program) slot_seed reg_seed (narrow_object slot_seed reg_seed n) = record {
+      well_formed = narrow_well_formed n f slot_seed reg_seed slot_fits reg_fits;
+      slot_seed_kept = refl;
+      reg_seed_kept = refl;
+      functions = refl;
+      plain = (refl, (refl, (refl, (refl, (refl, (refl, (refl, tt)))))));
+      preserves = narrow_preserves slot_seed reg_seed x.program n f.few x.resolved;
+    } in
+    subst (CompiledText text slot_seed reg_seed) (sym e) (record { program = x.program; spelled = x.spelled; compiled = c })

@@ -1,0 +1,40 @@
+-- What the words of a command line ask for.
+use Rattle.std.specs.Prelude.{ℕ, ◌+◌, ◌-◌, ◌*◌, ◌^◌, Bool, true, false, ◌&&◌, not, nat_eq, nat_le, nat_lt, if◌then◌else◌, List, [], ◌∷◌, length, Option, Some, None, codes}
+use Rattle.std.specs.Cmp.Lexicographic.{pointwise}
+
+-- a command with its values
+pub data Reading : Type 0 where
+  Compile : (file : List ℕ) → (slot_seed : ℕ) → (reg_seed : ℕ) → Reading
+
+abbrev pub same : List ℕ → List ℕ → Bool
+same = pointwise nat_eq
+
+-- a word longer than one byte that begins with `-` is an option, and no file
+abbrev pub is_file : List ℕ → Bool
+is_file [] = true
+is_file (c ∷ []) = true
+is_file (c ∷ d ∷ rest) = not (nat_eq c 45)
+
+-- digits behind a number that other digits gave
+abbrev pub digits_from : ℕ → List ℕ → Option ℕ
+digits_from n [] = Some n
+digits_from n (c ∷ cs) = if nat_le 48 c && nat_le c 57 then digits_from (n * 10 + (c - 48)) cs else None
+
+abbrev pub of_64_bits : Option ℕ → Option ℕ
+of_64_bits None = None
+of_64_bits (Some n) = if nat_lt n (2 ^ 64) then Some n else None
+
+-- 1 to 20 decimal digits of at most 2^64 - 1
+abbrev pub number_of : List ℕ → Option ℕ
+number_of word = if nat_le 1 (length word) && nat_le (length word) 20 then of_64_bits (digits_from 0 word) else None
+
+abbrev pub compile_of : List ℕ → Option ℕ → Option ℕ → Option Reading
+compile_of file (Some slot_seed) (Some reg_seed) = Some (Compile file slot_seed reg_seed)
+compile_of file None reg_seed = None
+compile_of file (Some slot_seed) None = None
+
+-- compile FILE --slot-seed N --reg-seed N; every other list of words has no reading
+abbrev pub reading_of : List (List ℕ) → Option Reading
+reading_of (command ∷ file ∷ first ∷ a ∷ second ∷ b ∷ []) =
+    if same command (codes "compile") && (is_file file && (same first (codes "--slot-seed") && same second (codes "--reg-seed"))) then compile_of file (number_of a) (number_of b) else None
+reading_of words = None

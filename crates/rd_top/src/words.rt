@@ -1,0 +1,84 @@
+//! The command line as one command with its values, or none.
+
+ghost use Rattle.std.specs.Prelude.{◌≡◌, ◌∷◌, [], Some, None, MatchOption, codes, map, string_bytes};
+ghost use Rattle.rd_top.specs.Words.{is_file, number_of, digits_from, reading_of};
+ghost use Rattle.rd_top.specs.Asked.{asked};
+
+/// A command with its values.
+#[derive(Clone, Copy)]
+pub enum Command<'a> {
+    Compile {
+        file: &'a str,
+        slot_seed: u64,
+        reg_seed: u64,
+    },
+}
+
+/// A number of a command line: 1 to 20 decimal digits of at most 2^64 - 1.
+fn number(word: &[u8]) -> Option<u64>
+    ensures { result ≡ number_of word.now }
+{
+    if word.is_empty() || word.len() > 20 {
+        return None;
+    }
+    let mut n: u128 = 0;
+    for c in word {
+        if *c < b'0' || *c > b'9' {
+            return None;
+        }
+        n = n * 10 + u128::from(*c - b'0');
+    }
+    if n < 18446744073709551616 {
+        Some(n as u64)
+    } else {
+        None
+    }
+}
+
+/// Whether a word may be a file's name.
+fn names_file(word: &[u8]) -> bool
+    ensures { result ≡ is_file word.now }
+{
+    match word {
+        [b'-', _, ..] => false,
+        _ => true,
+    }
+}
+
+/// The values of `compile`.
+fn compile_words<'a>(
+    file: &'a str,
+    first: &'a str,
+    slot_seed: &'a str,
+    second: &'a str,
+    reg_seed: &'a str,
+) -> Option<Command<'a>>
+    ensures { MatchOption result (reading_of (codes "compile" ∷ file.now ∷ first.now ∷ slot_seed.now ∷ second.now ∷ reg_seed.now ∷ []) ≡ None) (λ c. reading_of (codes "compile" ∷ file.now ∷ first.now ∷ slot_seed.now ∷ second.now ∷ reg_seed.now ∷ []) ≡ Some (asked c)) }
+{
+    if !names_file(file.as_bytes()) || first != "--slot-seed" || second != "--reg-seed" {
+        return None;
+    }
+    let slot_seed = number(slot_seed.as_bytes())?;
+    let reg_seed = number(reg_seed.as_bytes())?;
+    Some(Command::Compile {
+        file,
+        slot_seed,
+        reg_seed,
+    })
+}
+
+/// What the words ask for, or none.
+pub fn read_words<'a>(words: &'a [String]) -> Option<Command<'a>>
+    ensures { MatchOption result (reading_of (map string_bytes words.now) ≡ None) (λ c. reading_of (map string_bytes words.now) ≡ Some (asked c)) }
+{
+    match words {
+        [command, file, first, a, second, b] if command.as_str() == "compile" => compile_words(
+            file.as_str(),
+            first.as_str(),
+            a.as_str(),
+            second.as_str(),
+            b.as_str(),
+        ),
+        _ => None,
+    }
+}
