@@ -96,6 +96,7 @@ impl Memory {
         ensures written { OnOk result (self.new ≡ written_at self.old at bytes.now) }
         ensures unchanged { OnErr result (self.new ≡ self.old) }
         ensures refused { IfErr result (λ e. e ≡ WriteFault.Refused) }
+        ensures some { 0 < length bytes.now → MatchResult result (λ _. write_at self.old at bytes.now ≡ Some self.new) (λ _. write_at self.old at bytes.now ≡ None) }
     {
         if bytes.is_empty() {
             return Ok(());
