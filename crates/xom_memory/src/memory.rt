@@ -1,6 +1,6 @@
 //! The store and its calls, each of which is allowed or refused as a whole.
 
-ghost use Rattle.std.specs.Prelude.{◌≡◌, ◌≢◌, ◌↔◌, ◌≤◌, ◌<◌, [], ◌∷◌, ◌++◌, None, Some, Bool, false, IfOk, IfErr, OnOk, OnErr, IsOk, IsErr, IsTrue, MatchOption, MatchResult, option_map, slice_get, take, drop, length};
+ghost use Rattle.std.specs.Prelude.{◌≡◌, ◌≢◌, ◌↔◌, ◌≤◌, ◌<◌, [], ◌∷◌, ◌++◌, None, Some, Bool, false, IfOk, IfErr, IfSome, OnOk, OnErr, IsOk, IsErr, IsTrue, MatchOption, MatchResult, option_map, slice_get, take, drop, length};
 ghost use Rattle.machine_core.specs.Memory.{reads, writes, executes, one_holds, is_allowed, read_at, write_at, code_at};
 ghost use Rattle.machine_core.specs.Data.{stack_start, segment};
 ghost use Rattle.machine_core.specs.Machine.{machine_segments};
@@ -60,8 +60,10 @@ impl Memory {
     }
 
     /// The bytes of a range, where one segment that may be read holds it.
+    #[tactic(auto, using(crate::proofs::Allowed::read_length))]
     pub fn bytes(&self, at: u64, len: usize) -> Option<&[u8]>
-        ensures { MatchOption result (read_at self.now at len ≡ None) (λ b. read_at self.now at len ≡ Some b.now) }
+        ensures count { IfSome result (λ b. length b.now ≡ len) }
+        ensures read { MatchOption result (read_at self.now at len ≡ None) (λ b. read_at self.now at len ≡ Some b.now) }
     {
         lent(self.parts.as_slice(), &self.stack, at, len)
     }
