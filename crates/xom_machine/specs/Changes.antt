@@ -1,5 +1,5 @@
 -- Where a machine goes on after what an instruction does to registers and flags.
-use Rattle.std.specs.Prelude.{ℕ, Some, pos}
+use Rattle.std.specs.Prelude.{ℕ, ◌<◌, Some}
 use Rattle.behavior.specs.Ending.{Ended, Divide, Invalid, Breakpoint, NoFlag}
 use Rattle.rd_num.specs.Number.{le_bytes}
 use Rattle.x86_core.specs.declared.reg.Reg.TheVariants.{Rsp, R11}
@@ -40,3 +40,11 @@ asked_for Idles = request.Idles
 asked_for (Prints count) = request.Prints count
 asked_for Takes = request.Takes
 asked_for Unknown = request.Unknowns
+
+-- no request is to print no byte
+abbrev pub PrintsSome : Request → Type 0
+PrintsSome Exits = Unit {0}
+PrintsSome Idles = Unit {0}
+PrintsSome (Prints count) = 0 < count
+PrintsSome Takes = Unit {0}
+PrintsSome Unknown = Unit {0}

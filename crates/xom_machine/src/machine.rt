@@ -6,6 +6,7 @@ ghost use Rattle.xom_machine.specs.Standing.{state_of, told};
 ghost use Rattle.xom_machine.specs.Calls.{Took, Charged, Kept, CutOff, Ran};
 
 
+use crate::step::has_stopped;
 use rd_io::{RunFault, Sink, Source};
 use rd_num::width::NoMemory;
 use std::alloc::Global;
@@ -77,5 +78,43 @@ impl Machine {
         ensures { result.now ≡ self.now.memory }
     {
         &self.memory
+    }
+
+    /// Takes one step. A machine that has stopped stays as it is.
+    ///
+    /// `Input` comes only where the source has failed, at a step that asks for a byte; `Output` only
+    /// where the sink has failed, which then has a prefix of what the step prints. After each error
+    /// the machine stands before that system call.
+    pub fn step<I: Source, O: Sink>(&mut self, input: &mut I, sink: &mut O) -> Result<(), RunFault>
+        ensures did { OnOk result (Took 1 self.old self.new (told (I.left input.old) (O.written sink.old) (O.total sink.old)) (told (I.left input.new) (O.written sink.new) (O.total sink.new))) }
+        ensures stands { OnErr result (self.new ≡ self.old) }
+        ensures kept { IfErr result (Kept machine_step self.old (told (I.left input.old) (O.written sink.old) (O.total sink.old)) (told (I.left input.new) (O.written sink.new) (O.total sink.new))) }
+        ensures charged { Charged (I.faults input.old) (I.faults input.new) (O.faults sink.old) (O.faults sink.new) result }
+    {
+        self.advance(input, sink)
+    }
+
+    /// Takes `n` steps and answers how the machine stands then.
+    ///
+    /// Once the machine has stopped no step is looked at any more, however many are left. An error
+    /// comes as in `step`, at one of the `n` steps, before which the machine stands then.
+    pub fn run<I: Source, O: Sink>(
+        &mut self,
+        input: &mut I,
+        sink: &mut O,
+        n: u64,
+    ) -> Result<MachOutcome, RunFault>
+        ensures did { OnOk result (Took n self.old self.new (told (I.left input.old) (O.written sink.old) (O.total sink.old)) (told (I.left input.new) (O.written sink.new) (O.total sink.new))) }
+        ensures outcome { IfOk result (λ o. o ≡ self.new.outcome) }
+        ensures cut { IfErr result (CutOff n self.old self.new (told (I.left input.old) (O.written sink.old) (O.total sink.old)) (told (I.left input.new) (O.written sink.new) (O.total sink.new))) }
+        ensures charged { Charged (I.faults input.old) (I.faults input.new) (O.faults sink.old) (O.faults sink.new) result }
+    {
+        for _ in 0..n {
+            if has_stopped(self.outcome) {
+                return Ok(self.outcome);
+            }
+            self.advance(input, sink)?;
+        }
+        Ok(self.outcome)
     }
 }

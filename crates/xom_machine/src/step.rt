@@ -3,24 +3,27 @@
 //! What is refused or has no answer stops the machine, and then nothing but the outcome changes: so
 //! registers are only given their new words once the access to memory was allowed.
 
-ghost use Rattle.std.specs.Prelude.{◌≡◌, ◌≤◌, ◌<◌, Some, length, pos, take};
+ghost use Rattle.std.specs.Prelude.{◌≡◌, ◌≤◌, ◌<◌, Some, length, pos, take, not};
 ghost use Rattle.rd_num.specs.Number.{le_bytes, le_number};
 ghost use Rattle.x86_core.specs.declared.reg.Reg.TheVariants.{Rsp};
 ghost use Rattle.x86_core.specs.Registers.{word};
 ghost use Rattle.x86_core.specs.Arithmetic.{moved};
 ghost use Rattle.machine_core.specs.Memory.{read_at, write_at};
-ghost use Rattle.machine_core.specs.Step.{size_bytes, after_read, after_write, by_access, below, called, returned};
-ghost use Rattle.machine_core.specs.Machine.{machine_fetch, by_decoded};
+ghost use Rattle.machine_core.specs.Step.{size_bytes, after_read, after_write, by_access, below, called, returned, act, sorted};
+ghost use Rattle.machine_core.specs.Machine.{machine_fetch, machine_step, by_decoded};
 ghost use Rattle.xom_memory.specs.Access.{Wrote};
+ghost use Rattle.behavior.specs.Ending.{is_going};
+ghost use Rattle.xom_machine.specs.Standing.{ending_of, told};
 ghost use Rattle.xom_machine.specs.Changes.{moved_on};
-ghost use Rattle.xom_machine.specs.Calls.{Becomes};
+ghost use Rattle.xom_machine.specs.Calls.{Becomes, Ran, Charged};
 
 use crate::machine::Machine;
 use rd_num::bytes::put_u64_le;
-use x86_core::effect::{Access, Change, Next};
+use rd_io::{RunFault, Sink, Source};
+use x86_core::effect::{Access, Change, Next, effect};
 use x86_core::flags::Flags;
 use x86_core::image::MachOutcome;
-use x86_core::instr::{Decoded, Size};
+use x86_core::instr::{Decoded, Instr, Size};
 use x86_core::reg::{Reg, Regs};
 use x86_decode::decode_one;
 use xom_memory::memory::Memory;
@@ -178,5 +181,66 @@ impl Machine {
             Next::Breakpoint => self.outcome = MachOutcome::Breakpoint,
             Next::NoFlag => self.outcome = MachOutcome::NoFlag,
         }
+    }
+
+    // One instruction, with the place behind it.
+    fn execute<I: Source, O: Sink>(
+        &mut self,
+        instr: &Instr,
+        after: u64,
+        input: &mut I,
+        sink: &mut O,
+    ) -> Result<(), RunFault>
+        ensures ran { Ran (act Some (sorted instr.now after (moved after) after)) self.old self.new (told (I.left input.old) (O.written sink.old) (O.total sink.old)) (told (I.left input.new) (O.written sink.new) (O.total sink.new)) result }
+        ensures charged { Charged (I.faults input.old) (I.faults input.new) (O.faults sink.old) (O.faults sink.new) result }
+    {
+        let change = effect(instr, &self.regs, &self.flags);
+        match change.next {
+            Next::Kernel => self.system_call(after, input, sink),
+            _ => {
+                self.go_on(change, after);
+                Ok(())
+            }
+        }
+    }
+
+    /// One step: what stands at the next place is carried out, unless the machine has stopped.
+    ///
+    /// After an error the machine is as it was.
+    pub(crate) fn advance<I: Source, O: Sink>(
+        &mut self,
+        input: &mut I,
+        sink: &mut O,
+    ) -> Result<(), RunFault>
+        ensures ran { Ran machine_step self.old self.new (told (I.left input.old) (O.written sink.old) (O.total sink.old)) (told (I.left input.new) (O.written sink.new) (O.total sink.new)) result }
+        ensures charged { Charged (I.faults input.old) (I.faults input.new) (O.faults sink.old) (O.faults sink.new) result }
+    {
+        if has_stopped(self.outcome) {
+            return Ok(());
+        }
+        match self.fetched() {
+            Decoded::One { instr, len } => {
+                let after = self.next.wrapping_add(len as u64);
+                self.execute(&instr, after, input, sink)
+            }
+            Decoded::Short => {
+                self.outcome = MachOutcome::PageFault;
+                Ok(())
+            }
+            Decoded::Unknown => {
+                self.outcome = MachOutcome::NoForm;
+                Ok(())
+            }
+        }
+    }
+}
+
+/// Whether a machine that stands so takes no further step.
+pub(crate) fn has_stopped(outcome: MachOutcome) -> bool
+    ensures { is_going (ending_of outcome) ≡ not result }
+{
+    match outcome {
+        MachOutcome::Going => false,
+        _ => true,
     }
 }
