@@ -1,0 +1,4 @@
+pub mod Rights
+pub mod Behind
+pub mod Allowed
+pub mod Places
