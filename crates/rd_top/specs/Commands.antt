@@ -9,7 +9,8 @@ use Rattle.rd_compile.specs.Compiled.{CompiledText}
 use Rattle.rd_top.specs.declared.answer.Answer.{Answer}
 use Rattle.rd_top.specs.declared.answer.Answer.TheVariants.{Done, Words, File, Later, Image, Long, Out, Input, Memory, Ran}
 use Rattle.rd_top.specs.Told.{FilesTold, InputTold, OutTold, IsContent, IsTooLong, Lost}
-use Rattle.rd_top.specs.Words.{Reading, Compile}
+use Rattle.rd_top.specs.Running.{RunMeans}
+use Rattle.rd_top.specs.Words.{Reading, Compile, Run}
 
 -- bytes were appended, and a prefix of bytes was
 pub record Wrote (old new : OutTold) (bytes : List ℕ) : Type 0 where
@@ -70,6 +71,7 @@ abbrev pub Means : (List ℕ → Option (List ℕ)) → Option Reading → Files
 Means held None files files2 input input2 out out2 a = (a ≡ Words) × (input2 ≡ input) × (out2 ≡ out)
 Means held (Some (Compile file slot_seed reg_seed)) files files2 input input2 out out2 a =
     CompileMeans (held file) file slot_seed reg_seed files files2 out out2 a × (input2 ≡ input)
+Means held (Some (Run file steps)) files files2 input input2 out out2 a = RunMeans (held file) file steps files files2 input input2 out out2 a
 
 -- the line is on the sink for messages, or a fault came and a prefix of it is
 abbrev pub Says : Option (List ℕ) → Option (List ℕ) → ℕ → ℕ → List ℕ → Type 0

@@ -4,3 +4,4 @@ pub mod Answers
 pub mod Commands
 pub mod Ends
 pub mod Asked
+pub mod Running

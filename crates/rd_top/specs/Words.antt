@@ -5,6 +5,7 @@ use Rattle.std.specs.Cmp.Lexicographic.{pointwise}
 -- a command with its values
 pub data Reading : Type 0 where
   Compile : (file : List ℕ) → (slot_seed : ℕ) → (reg_seed : ℕ) → Reading
+  Run : (file : List ℕ) → (steps : ℕ) → Reading
 
 abbrev pub same : List ℕ → List ℕ → Bool
 same = pointwise nat_eq
@@ -33,8 +34,16 @@ compile_of file (Some slot_seed) (Some reg_seed) = Some (Compile file slot_seed 
 compile_of file None reg_seed = None
 compile_of file (Some slot_seed) None = None
 
--- compile FILE --slot-seed N --reg-seed N; every other list of words has no reading
+abbrev pub run_of : List ℕ → Option ℕ → Option Reading
+run_of file (Some steps) = Some (Run file steps)
+run_of file None = None
+
+-- compile FILE --slot-seed N --reg-seed N
+-- run FILE --steps N
+-- every other list of words has no reading
 abbrev pub reading_of : List (List ℕ) → Option Reading
+reading_of (command ∷ file ∷ option ∷ n ∷ []) =
+    if same command (codes "run") && (is_file file && same option (codes "--steps")) then run_of file (number_of n) else None
 reading_of (command ∷ file ∷ first ∷ a ∷ second ∷ b ∷ []) =
     if same command (codes "compile") && (is_file file && (same first (codes "--slot-seed") && same second (codes "--reg-seed"))) then compile_of file (number_of a) (number_of b) else None
 reading_of words = None

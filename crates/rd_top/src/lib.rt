@@ -1,10 +1,12 @@
 //! The top call: words, files, a source and two sinks in, a status out.
 //!
 //!     read_main compile FILE --slot-seed N --reg-seed N
+//!     read_main run FILE --steps N
 //!
-//! writes the object of the module in FILE. `words` reads the command line, `compile` does the work,
-//! and `answer` has the statuses with their lines. What a reading of words is stands in
-//! `specs/Words.antt`, what a command does to the outside in `specs/Commands.antt`.
+//! write the object of the module in FILE, and run the image in FILE. `words` reads the command line,
+//! `compile` and `run` do the work, and `answer` has the statuses with their lines. What a reading of
+//! words is stands in `specs/Words.antt`, what a command does to the outside in `specs/Commands.antt`
+//! and `specs/Running.antt`.
 #![tactic(auto)]
 
 ghost use Rattle.std.specs.Prelude.{◌≡◌, map, string_bytes};
@@ -15,11 +17,13 @@ ghost use Rattle.rd_top.specs.Words.{reading_of};
 use answer::{Answer, line, status};
 use compile::compile_file;
 use rd_io::{Files, PutFail, Sink, Source};
+use run::run_file;
 use std::alloc::Global;
 use words::{Command, read_words};
 
 pub mod answer;
 pub mod compile;
+pub mod run;
 #[cfg(test)]
 mod tests;
 pub mod words;
@@ -43,6 +47,7 @@ fn work<F: Files, I: Source, O: Sink>(
                 reg_seed,
             },
         ) => compile_file(alloc, file, slot_seed, reg_seed, files, out),
+        Some(Command::Run { file, steps }) => run_file(alloc, file, steps, files, input, out),
     }
 }
 

@@ -56,8 +56,10 @@ fn ends_surely(alloc: Global, words: &[&str], content: &[u8]) -> Result<(u8, usi
 
 #[test]
 fn words_have_these_statuses(rt: HostRuntime) -> Result<(), Fail> {
-    let rows: [(&[&str], u8); 11] = [
+    let rows: [(&[&str], u8); 13] = [
         (ASKED, 0),
+        (&["run", "m", "--steps", "-1"], 2),
+        (&["run", "m", "1", "--steps"], 2),
         (&[], 2),
         (&["compile"], 2),
         (&["compose", "m", "--slot-seed", "1", "--reg-seed", "2"], 2),
@@ -167,6 +169,83 @@ fn as_many_instructions_and_bytes_as_fit(rt: HostRuntime) -> Result<(), Fail> {
     assert_eq!(rt; long, 8);
     let (full, _) = ends_surely(alloc, ASKED, &spaces[1..])?;
     assert_eq!(rt; full, 4);
+    Ok(())
+}
+
+/// The headers of an image whose code stands at 0x10000000, up to the code's length.
+#[rattlefmt::skip]
+const HEADERS: [u8; 96] = [
+    0x7F, 0x45, 0x4C, 0x46, 2, 1, 1, 0,
+    0, 0, 0, 0, 0, 0, 0, 0,
+    2, 0, 0x3E, 0, 1, 0, 0, 0,
+    0, 0, 0, 0x10, 0, 0, 0, 0,
+    0x40, 0, 0, 0, 0, 0, 0, 0,
+    0, 0, 0, 0, 0, 0, 0, 0,
+    0, 0, 0, 0, 0x40, 0, 0x38, 0,
+    1, 0, 0, 0, 0, 0, 0, 0,
+    1, 0, 0, 0, 1, 0, 0, 0,
+    0, 0x10, 0, 0, 0, 0, 0, 0,
+    0, 0, 0, 0x10, 0, 0, 0, 0,
+    0, 0, 0, 0x10, 0, 0, 0, 0,
+];
+
+/// The file of an image with this code and nothing else.
+fn image_of(alloc: Global, code: &[u8]) -> Result<Vec<u8>, AllocError> {
+    let size = [code.len() as u8, 0, 0, 0, 0, 0, 0, 0];
+    let mut file = Vec::new(alloc);
+    file.extend_from_slice(&HEADERS)?;
+    file.extend_from_slice(&size)?;
+    file.extend_from_slice(&size)?;
+    file.extend_from_slice(&[0, 0x10, 0, 0, 0, 0, 0, 0])?;
+    file.resize(4096, 0)?;
+    file.extend_from_slice(code)?;
+    Ok(file)
+}
+
+#[test]
+fn images_run_to_these_lines(rt: HostRuntime) -> Result<(), Fail> {
+    let alloc = rt.alloc();
+    let rows: [(&[u8], &str, u8, &[u8]); 9] = [
+        (
+            b"\xBF\x2C\0\0\0\xB8\x3C\0\0\0\x0F\x05",
+            "3",
+            0,
+            b"ended 44\n",
+        ),
+        (b"\xBF\x2C\0\0\0\xB8\x3C\0\0\0\x0F\x05", "2", 21, b"going\n"),
+        (b"\x0F\x0B", "0", 21, b"going\n"),
+        (
+            b"\x0F\x0B",
+            "18446744073709551615",
+            20,
+            b"trapped invalid\n",
+        ),
+        (b"\xCC", "1", 20, b"trapped breakpoint\n"),
+        (b"\x90", "9", 22, b"stopped pagefault\n"),
+        (b"\xC3", "9", 22, b"stopped pagefault\n"),
+        (b"\x06", "9", 22, b"stopped noform\n"),
+        (b"\xB8\x63\0\0\0\x0F\x05", "9", 22, b"stopped badcall\n"),
+    ];
+    for (code, steps, want, line) in rows {
+        let file = image_of(alloc, code)?;
+        let mut files = SureFiles::new(one_file(alloc, file.as_slice())?);
+        let all = all_words(alloc, &["run", "m", "--steps", steps])?;
+        let mut input = SureSource::new(List::new(alloc));
+        let mut out = SureSink::new(alloc);
+        let mut err = SureSink::new(alloc);
+        let status = top(
+            alloc,
+            all.as_slice(),
+            &mut files,
+            &mut input,
+            &mut out,
+            &mut err,
+        );
+        assert_eq!(rt; status, want);
+        assert!(rt; err.bytes().as_slice() == line);
+    }
+    let (refused, _) = ends_surely(alloc, &["run", "m", "--steps", "1"], SEVEN)?;
+    assert_eq!(rt; refused, 6);
     Ok(())
 }
 

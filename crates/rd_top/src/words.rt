@@ -12,6 +12,10 @@ pub enum Command<'a> {
         slot_seed: u64,
         reg_seed: u64,
     },
+    Run {
+        file: &'a str,
+        steps: u64,
+    },
 }
 
 /// A number of a command line: 1 to 20 decimal digits of at most 2^64 - 1.
@@ -45,17 +49,22 @@ fn names_file(word: &[u8]) -> bool
     }
 }
 
-/// The values of `compile`.
+/// The values of `compile`, where that is the command.
 fn compile_words<'a>(
+    command: &'a str,
     file: &'a str,
     first: &'a str,
     slot_seed: &'a str,
     second: &'a str,
     reg_seed: &'a str,
 ) -> Option<Command<'a>>
-    ensures { MatchOption result (reading_of (codes "compile" ∷ file.now ∷ first.now ∷ slot_seed.now ∷ second.now ∷ reg_seed.now ∷ []) ≡ None) (λ c. reading_of (codes "compile" ∷ file.now ∷ first.now ∷ slot_seed.now ∷ second.now ∷ reg_seed.now ∷ []) ≡ Some (asked c)) }
+    ensures { MatchOption result (reading_of (command.now ∷ file.now ∷ first.now ∷ slot_seed.now ∷ second.now ∷ reg_seed.now ∷ []) ≡ None) (λ c. reading_of (command.now ∷ file.now ∷ first.now ∷ slot_seed.now ∷ second.now ∷ reg_seed.now ∷ []) ≡ Some (asked c)) }
 {
-    if !names_file(file.as_bytes()) || first != "--slot-seed" || second != "--reg-seed" {
+    if command != "compile"
+        || !names_file(file.as_bytes())
+        || first != "--slot-seed"
+        || second != "--reg-seed"
+    {
         return None;
     }
     let slot_seed = number(slot_seed.as_bytes())?;
@@ -67,17 +76,40 @@ fn compile_words<'a>(
     })
 }
 
+/// The values of `run`, where that is the command.
+fn run_words<'a>(
+    command: &'a str,
+    file: &'a str,
+    option: &'a str,
+    steps: &'a str,
+) -> Option<Command<'a>>
+    ensures { MatchOption result (reading_of (command.now ∷ file.now ∷ option.now ∷ steps.now ∷ []) ≡ None) (λ c. reading_of (command.now ∷ file.now ∷ option.now ∷ steps.now ∷ []) ≡ Some (asked c)) }
+{
+    if command != "run" || !names_file(file.as_bytes()) || option != "--steps" {
+        return None;
+    }
+    let steps = number(steps.as_bytes())?;
+    Some(Command::Run { file, steps })
+}
+
 /// What the words ask for, or none.
 pub fn read_words<'a>(words: &'a [String]) -> Option<Command<'a>>
     ensures { MatchOption result (reading_of (map string_bytes words.now) ≡ None) (λ c. reading_of (map string_bytes words.now) ≡ Some (asked c)) }
 {
     match words {
-        [command, file, first, a, second, b] if command.as_str() == "compile" => compile_words(
+        [command, file, first, a, second, b] => compile_words(
+            command.as_str(),
             file.as_str(),
             first.as_str(),
             a.as_str(),
             second.as_str(),
             b.as_str(),
+        ),
+        [command, file, option, n] => run_words(
+            command.as_str(),
+            file.as_str(),
+            option.as_str(),
+            n.as_str(),
         ),
         _ => None,
     }
