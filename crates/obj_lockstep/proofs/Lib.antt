@@ -3,3 +3,4 @@ pub mod Natural
 pub mod Fetching
 pub mod Lockstep
 pub mod Images
+pub mod Worked
