@@ -4,3 +4,6 @@ pub mod Fetching
 pub mod Lockstep
 pub mod Images
 pub mod Worked
+pub mod Starts
+pub mod Rules
+pub mod Closed

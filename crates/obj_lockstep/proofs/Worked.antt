@@ -1,7 +1,7 @@
 -- A small object in an image: the premises of the laws can be met, and both machines come to the same end.
-use Rattle.std.proofs.Common.{◌≡◌, ℕ, ◌<◌, ◌+◌, ◌^◌, ◌&&◌, ◌||◌, Bool, true, false, List, [], ◌∷◌, ◌++◌, refl, subst, sym, ◌∙◌, inl, inr, ◌⊎◌, arith}
+use Rattle.std.proofs.Common.{◌≡◌, ℕ, ◌<◌, ◌+◌, ◌^◌, ◌&&◌, ◌||◌, Bool, true, List, [], ◌∷◌, ◌++◌, refl, subst, sym, ◌∙◌, inl, inr, ◌⊎◌, arith}
 use Rattle.std.specs.Prelude.{nat_eq, replicate, pos}
-use Rattle.std.proofs.lemmas.Bool.{eqb-true}
+use Rattle.std.proofs.lemmas.Bool.{eqb-true, and_parts, or_cases}
 use Rattle.behavior.specs.Ending.{Invalid}
 use Rattle.rd_draw.specs.Draw.{shuffled}
 use Rattle.x86_core.specs.declared.instr.Instr.TheVariants.{Jmp, Ud2, Int3}
@@ -47,15 +47,7 @@ abbrev is_place : Place → Bool
 is_place (Place.Code n off) = nat_eq n 0 && nat_eq off 0
 is_place (Place.Slot k at) = nat_eq k 0 && (nat_eq at 0 || nat_eq at 5)
 
--- what two tests say
-both : (t u : Bool) → (t && u) ≡ true → (t ≡ true) × (u ≡ true)
-both true u h = (refl, h)
-both false u h = absurd (cc)
-
-one_of : (t u : Bool) → (t || u) ≡ true → (t ≡ true) ⊎ (u ≡ true)
-one_of true u h = inl refl
-one_of false u h = inr h
-
+-- the slot's address
 slot_0 : slot_start object 0 ≡ 268435456
 unfolding positions shuffled
 slot_0 = refl
@@ -67,7 +59,7 @@ module _ (exec : List Segment) (code : ℕ) (hidden : AreHidden exec) (entry : I
 
   at_code : (n off : ℕ) → is_place (Place.Code n off) ≡ true → Here n off
   at_code n off h =
-      let x = both (nat_eq n 0) (nat_eq off 0) h in
+      let x = and_parts (nat_eq n 0) (nat_eq off 0) h in
       let first : Here 0 0 = (record { func = only; found = refl; instr = Ud2; is_instr = tt; rest = []; bytes = refl }, here) in
       subst (λ m. Here m off) (sym (eqb-true n 0 x.0)) (subst (Here 0) (sym (eqb-true off 0 x.1)) first)
 
@@ -89,8 +81,8 @@ module _ (exec : List Segment) (code : ℕ) (hidden : AreHidden exec) (entry : I
 
   at_slot : (k at : ℕ) → is_place (Place.Slot k at) ≡ true → There k at
   at_slot k at h =
-      let x = both (nat_eq k 0) (nat_eq at 0 || nat_eq at 5) h in
-      subst (λ j. There j at) (sym (eqb-true k 0 x.0)) (in_slot_0 at (one_of (nat_eq at 0) (nat_eq at 5) x.1))
+      let x = and_parts (nat_eq k 0) (nat_eq at 0 || nat_eq at 5) h in
+      subst (λ j. There j at) (sym (eqb-true k 0 x.0)) (in_slot_0 at (or_cases (nat_eq at 0) (nat_eq at 5) x.1))
 
   lands : (k : ℕ) → k < 1 → HasLanding exec (place code) is_place object k
   lands k lt =
