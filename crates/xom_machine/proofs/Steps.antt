@@ -66,10 +66,15 @@ part_after : (a b c : Told) (bytes piece : List ℕ) → Gets a.written b.writte
 part_after a b c bytes piece g k p = record {
   some = p.some;
   written = (p.written.0, (p.written.1.0, gets_both a.written b.written c.written bytes p.written.0 g p.written.1.1));
-  total = (p.total.0, (p.total.1.0,
-    let e : 0 + p.total.0 ≡ p.total.0 = omega arith in
-    let P : ℕ → Type 0 = λ n. Counts b.total c.total n in
-    counts_both a.total b.total c.total (length bytes) p.total.0 k (subst P e p.total.1.1)));
+  total = (
+    p.total.0,
+    (
+      p.total.1.0,
+      let e : 0 + p.total.0 ≡ p.total.0 = omega arith in
+          let P : ℕ → Type 0 = λ n. Counts b.total c.total n in
+          counts_both a.total b.total c.total (length bytes) p.total.0 k (subst P e p.total.1.1),
+    ),
+  );
 }
 
 pub cut_after : (k n : ℕ) (m m2 m3 : Machine) (a b c : Told) (e : RunFault) → k < n → Took k m m2 a b → m3 ≡ m2 → Kept machine_step m2 b c e → CutOff n m m3 a c e

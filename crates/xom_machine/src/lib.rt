@@ -9,3 +9,5 @@
 pub mod kernel;
 pub mod machine;
 pub mod step;
+#[cfg(test)]
+mod tests;

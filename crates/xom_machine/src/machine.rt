@@ -5,7 +5,6 @@ ghost use Rattle.machine_core.specs.Machine.{machine_start, machine_step};
 ghost use Rattle.xom_machine.specs.Standing.{state_of, told};
 ghost use Rattle.xom_machine.specs.Calls.{Took, Charged, Kept, CutOff, Ran};
 
-
 use crate::step::has_stopped;
 use rd_io::{RunFault, Sink, Source};
 use rd_num::width::NoMemory;
@@ -41,15 +40,13 @@ impl Machine {
             s: Flag::Zero,
             o: Flag::Zero,
         };
-        Ok(
-            Machine {
-                memory,
-                regs,
-                flags,
-                next: image.entry,
-                outcome: MachOutcome::Going,
-            },
-        )
+        Ok(Machine {
+            memory,
+            regs,
+            flags,
+            next: image.entry,
+            outcome: MachOutcome::Going,
+        })
     }
 
     /// How the machine stands. Takes no memory.

@@ -18,8 +18,8 @@ ghost use Rattle.xom_machine.specs.Changes.{moved_on};
 ghost use Rattle.xom_machine.specs.Calls.{Becomes, Ran, Charged};
 
 use crate::machine::Machine;
-use rd_num::bytes::put_u64_le;
 use rd_io::{RunFault, Sink, Source};
+use rd_num::bytes::put_u64_le;
 use x86_core::effect::{Access, Change, Next, effect};
 use x86_core::flags::Flags;
 use x86_core::image::MachOutcome;

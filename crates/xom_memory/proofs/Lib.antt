@@ -2,3 +2,4 @@ pub mod Rights
 pub mod Behind
 pub mod Allowed
 pub mod Places
+pub mod Zeros

@@ -9,14 +9,18 @@ returns-in-Ok-clause-ran g c = λ left. done _ _ _ _ _ _ c.answer.ensures
     (cc (c.get.ensures, c.in-Some.ensures.read)) c.in-Ok.ensures.bytes c.in-Ok.ensures.number)
 
 pub returns-in-Err-Failed-clause-ran : goal.returns-in-Err-Failed-clause-ran
-returns-in-Err-Failed-clause-ran g c = λ left. cut_off _ _ _ _ fault.Output
-    (refl, print_cut c.args.self.now c.args.after c.args.count c.in-Some.bytes.now left _ _ _ _
-    (cc (c.get.ensures, c.in-Some.ensures.read)) (omega (arith, c.in-Some.ensures.count)) c.in-Err-Failed.ensures.bytes c.in-Err-Failed.ensures.number)
+returns-in-Err-Failed-clause-ran g c = λ left. cut_off _ _ _ _ fault.Output (
+  refl,
+  print_cut c.args.self.now c.args.after c.args.count c.in-Some.bytes.now left _ _ _ _
+      (cc (c.get.ensures, c.in-Some.ensures.read)) (omega (arith, c.in-Some.ensures.count)) c.in-Err-Failed.ensures.bytes c.in-Err-Failed.ensures.number,
+)
 
 pub returns-in-Err-NoMemory-clause-ran : goal.returns-in-Err-NoMemory-clause-ran
-returns-in-Err-NoMemory-clause-ran g c = λ left. cut_off _ _ _ _ fault.NoMemory
-    (refl, print_cut c.args.self.now c.args.after c.args.count c.in-Some.bytes.now left _ _ _ _
-    (cc (c.get.ensures, c.in-Some.ensures.read)) (omega (arith, c.in-Some.ensures.count)) c.in-Err-NoMemory.ensures.bytes c.in-Err-NoMemory.ensures.number)
+returns-in-Err-NoMemory-clause-ran g c = λ left. cut_off _ _ _ _ fault.NoMemory (
+  refl,
+  print_cut c.args.self.now c.args.after c.args.count c.in-Some.bytes.now left _ _ _ _
+      (cc (c.get.ensures, c.in-Some.ensures.read)) (omega (arith, c.in-Some.ensures.count)) c.in-Err-NoMemory.ensures.bytes c.in-Err-NoMemory.ensures.number,
+)
 
 pub returns-in-None-clause-ran : goal.returns-in-None-clause-ran
 returns-in-None-clause-ran g c = λ left. done_alone _ _ _ _ _ c.answer-in-None.ensures

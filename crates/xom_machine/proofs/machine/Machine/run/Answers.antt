@@ -11,7 +11,7 @@ returns-then-has_stopped-clause-did g c =
     took_rest c.loop.counter c.args.n _ _ _ _ (omega arith) (c.has_stopped.ensures ∙ ap not c.if-has_stopped.true) c.loop.invariant.took
 
 pub returns-in_err-advance-clause-cut : goal.returns-in_err-advance-clause-cut
-returns-in_err-advance-clause-cut g c = 
+returns-in_err-advance-clause-cut g c =
     let p = err_from_is_err_and c.from_residual.result c.from_residual.ensures.1 in
     rw (p.1, p.2) (run_cut _ c.loop.counter c.args.n _ _ _ _ _ _ _ (omega arith) c.loop.invariant.took c.in_err-advance.ensures.ran)
 

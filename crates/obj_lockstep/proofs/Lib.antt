@@ -1,0 +1,9 @@
+pub mod Segments
+pub mod Natural
+pub mod Fetching
+pub mod Lockstep
+pub mod Images
+pub mod Worked
+pub mod Starts
+pub mod Rules
+pub mod Closed
