@@ -5,6 +5,7 @@ use Rattle.std.specs.Cmp.Lexicographic.{pointwise}
 -- a command with its values
 pub data Reading : Type 0 where
   Compile : (file : List ℕ) → (slot_seed : ℕ) → (reg_seed : ℕ) → Reading
+  Build : (file : List ℕ) → (slot_seed : ℕ) → (reg_seed : ℕ) → (layout_seed : ℕ) → Reading
   Run : (file : List ℕ) → (steps : ℕ) → Reading
 
 abbrev pub same : List ℕ → List ℕ → Bool
@@ -34,11 +35,18 @@ compile_of file (Some slot_seed) (Some reg_seed) = Some (Compile file slot_seed 
 compile_of file None reg_seed = None
 compile_of file (Some slot_seed) None = None
 
+abbrev pub build_of : List ℕ → Option ℕ → Option ℕ → Option ℕ → Option Reading
+build_of file (Some slot_seed) (Some reg_seed) (Some layout_seed) = Some (Build file slot_seed reg_seed layout_seed)
+build_of file (Some slot_seed) (Some reg_seed) None = None
+build_of file (Some slot_seed) None layout_seed = None
+build_of file None reg_seed layout_seed = None
+
 abbrev pub run_of : List ℕ → Option ℕ → Option Reading
 run_of file (Some steps) = Some (Run file steps)
 run_of file None = None
 
 -- compile FILE --slot-seed N --reg-seed N
+-- build FILE --slot-seed N --reg-seed N --layout-seed N
 -- run FILE --steps N
 -- every other list of words has no reading
 abbrev pub reading_of : List (List ℕ) → Option Reading
@@ -46,4 +54,6 @@ reading_of (command ∷ file ∷ option ∷ n ∷ []) =
     if same command (codes "run") && (is_file file && same option (codes "--steps")) then run_of file (number_of n) else None
 reading_of (command ∷ file ∷ first ∷ a ∷ second ∷ b ∷ []) =
     if same command (codes "compile") && (is_file file && (same first (codes "--slot-seed") && same second (codes "--reg-seed"))) then compile_of file (number_of a) (number_of b) else None
+reading_of (command ∷ file ∷ first ∷ a ∷ second ∷ b ∷ third ∷ c ∷ []) =
+    if same command (codes "build") && (is_file file && (same first (codes "--slot-seed") && (same second (codes "--reg-seed") && same third (codes "--layout-seed")))) then build_of file (number_of a) (number_of b) (number_of c) else None
 reading_of words = None

@@ -1,47 +1,88 @@
-//! `compile`: the object of a module's text.
+//! `compile` and `build`: the object of a module's text, and its image.
 
 ghost use Rattle.std.specs.Prelude.{◌≡◌, Err, IfOk};
 ghost use Rattle.ir_narrow.specs.NarrowText.{Program, IsNarrowText};
-ghost use Rattle.rd_top.specs.Commands.{CompileMeans, IsObjectOf};
+ghost use Rattle.rd_top.specs.Commands.{CompileMeans, IsMade};
+ghost use Rattle.obj_core.specs.Object.{object_bytes as object_bytes_of};
+ghost use Rattle.obj_core.specs.WellFormed.{IsWellFormed};
+ghost use Rattle.obj_lay.specs.Layout.{layout};
+ghost use Rattle.elf_file.specs.Elf.{elf_bytes};
 
 use crate::answer::Answer;
 use ir_narrow::narrow::NarrowFault;
+use obj_core::checked::Checked;
+use obj_core::object::Object;
 use obj_file::write::write;
+use obj_lay::lay;
 use rd_compile::compile;
 use rd_io::{FileFail, Files, PutFail, Sink};
 use rd_num::list::List;
+use rd_num::width::NoMemory;
 use std::alloc::Global;
 
 /// The most bytes of a module's text.
 pub const TEXT_LIMIT: u64 = 8388608;
 
-/// The bytes of the object of a text.
-fn object_of(
+/// What is made of a module.
+#[derive(Clone, Copy)]
+pub enum Made {
+    /// Its object.
+    Object,
+    /// The image of its object, for a layout seed.
+    Image { layout_seed: u64 },
+}
+
+/// The bytes of an object.
+fn object_bytes(alloc: Global, object: &Object) -> Result<List<u8>, NoMemory>
+    requires { IsWellFormed object.now }
+    ensures { IfOk result (λ l. l ≡ object_bytes_of object.now) }
+{
+    write(alloc, object)
+}
+
+/// The bytes of the image of an object.
+fn image_bytes(alloc: Global, object: Object, layout_seed: u64) -> Result<List<u8>, NoMemory>
+    requires { IsWellFormed object }
+    ensures { IfOk result (λ l. l ≡ elf_bytes (layout object layout_seed)) }
+{
+    let checked = Checked::new(object);
+    let image = lay(alloc, &checked, layout_seed)?;
+    elf_file::write::write(alloc, &image)
+}
+
+/// The bytes of what is made of a text.
+fn bytes_of(
     alloc: Global,
     text: &[u8],
     slot_seed: u64,
     reg_seed: u64,
+    made: Made,
 ) -> Result<List<u8>, NarrowFault>
-    ensures made { IfOk result (IsObjectOf text.now slot_seed reg_seed) }
+    ensures made { IfOk result (IsMade text.now slot_seed reg_seed made) }
     ensures refused { result ≡ Err NarrowFault.NotNarrow → (p : Program) → IsNarrowText text.now p → ⊥ }
 {
     let object = compile(alloc, text, slot_seed, reg_seed)?;
-    match write(alloc, &object) {
+    let bytes = match made {
+        Made::Object => object_bytes(alloc, &object),
+        Made::Image { layout_seed } => image_bytes(alloc, object, layout_seed),
+    };
+    match bytes {
         Ok(bytes) => Ok(bytes),
         Err(_) => Err(NarrowFault::NoMemory),
     }
 }
 
-/// Writes the object of the text in a file, with both seeds.
+/// Writes what is made of the text in a file, with both seeds.
 pub fn compile_file<F: Files, O: Sink>(
     alloc: Global,
     file: &str,
     slot_seed: u64,
     reg_seed: u64,
+    made: Made,
     files: &mut F,
     out: &mut O,
 ) -> Answer
-    ensures { CompileMeans (F.held files.old file.now) file.now slot_seed reg_seed (record { lost = F.lost files.old; faults = F.faults files.old }) (record { lost = F.lost files.new; faults = F.faults files.new }) (record { written = O.written out.old; total = O.total out.old; faults = O.faults out.old }) (record { written = O.written out.new; total = O.total out.new; faults = O.faults out.new }) result }
+    ensures { CompileMeans (F.held files.old file.now) file.now slot_seed reg_seed made (record { lost = F.lost files.old; faults = F.faults files.old }) (record { lost = F.lost files.new; faults = F.faults files.new }) (record { written = O.written out.old; total = O.total out.old; faults = O.faults out.old }) (record { written = O.written out.new; total = O.total out.new; faults = O.faults out.new }) result }
 {
     let text = match files.read(alloc, file, TEXT_LIMIT) {
         Ok(text) => text,
@@ -49,7 +90,7 @@ pub fn compile_file<F: Files, O: Sink>(
         Err(FileFail::TooLong) => return Answer::Long,
         Err(FileFail::NoMemory) => return Answer::Memory,
     };
-    let bytes = match object_of(alloc, text.as_slice(), slot_seed, reg_seed) {
+    let bytes = match bytes_of(alloc, text.as_slice(), slot_seed, reg_seed, made) {
         Ok(bytes) => bytes,
         Err(NarrowFault::NotNarrow) => return Answer::Later,
         Err(NarrowFault::NoMemory) => return Answer::Memory,

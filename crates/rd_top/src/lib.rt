@@ -1,9 +1,10 @@
 //! The top call: words, files, a source and two sinks in, a status out.
 //!
 //!     read_main compile FILE --slot-seed N --reg-seed N
+//!     read_main build FILE --slot-seed N --reg-seed N --layout-seed N
 //!     read_main run FILE --steps N
 //!
-//! write the object of the module in FILE, and run the image in FILE. `words` reads the command line,
+//! write the object of the module in FILE, write the image of that object, and run the image in FILE. `words` reads the command line,
 //! `compile` and `run` do the work, and `answer` has the statuses with their lines. What a reading of
 //! words is stands in `specs/Words.antt`, what a command does to the outside in `specs/Commands.antt`
 //! and `specs/Running.antt`.
@@ -15,7 +16,7 @@ ghost use Rattle.rd_top.specs.Ends.{Ends, Tells};
 ghost use Rattle.rd_top.specs.Words.{reading_of};
 
 use answer::{Answer, line, status};
-use compile::compile_file;
+use compile::{Made, compile_file};
 use rd_io::{Files, PutFail, Sink, Source};
 use run::run_file;
 use std::alloc::Global;
@@ -46,7 +47,23 @@ fn work<F: Files, I: Source, O: Sink>(
                 slot_seed,
                 reg_seed,
             },
-        ) => compile_file(alloc, file, slot_seed, reg_seed, files, out),
+        ) => compile_file(alloc, file, slot_seed, reg_seed, Made::Object, files, out),
+        Some(
+            Command::Build {
+                file,
+                slot_seed,
+                reg_seed,
+                layout_seed,
+            },
+        ) => compile_file(
+            alloc,
+            file,
+            slot_seed,
+            reg_seed,
+            Made::Image { layout_seed },
+            files,
+            out,
+        ),
         Some(Command::Run { file, steps }) => run_file(alloc, file, steps, files, input, out),
     }
 }

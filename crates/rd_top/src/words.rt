@@ -76,6 +76,38 @@ fn compile_words<'a>(
     })
 }
 
+/// The values of `build`, where that is the command.
+fn build_words<'a>(
+    command: &'a str,
+    file: &'a str,
+    first: &'a str,
+    slot_seed: &'a str,
+    second: &'a str,
+    reg_seed: &'a str,
+    third: &'a str,
+    layout_seed: &'a str,
+) -> Option<Command<'a>>
+    ensures { MatchOption result (reading_of (command.now ∷ file.now ∷ first.now ∷ slot_seed.now ∷ second.now ∷ reg_seed.now ∷ third.now ∷ layout_seed.now ∷ []) ≡ None) (λ c. reading_of (command.now ∷ file.now ∷ first.now ∷ slot_seed.now ∷ second.now ∷ reg_seed.now ∷ third.now ∷ layout_seed.now ∷ []) ≡ Some (asked c)) }
+{
+    if command != "build"
+        || !names_file(file.as_bytes())
+        || first != "--slot-seed"
+        || second != "--reg-seed"
+        || third != "--layout-seed"
+    {
+        return None;
+    }
+    let slot_seed = number(slot_seed.as_bytes())?;
+    let reg_seed = number(reg_seed.as_bytes())?;
+    let layout_seed = number(layout_seed.as_bytes())?;
+    Some(Command::Build {
+        file,
+        slot_seed,
+        reg_seed,
+        layout_seed,
+    })
+}
+
 /// The values of `run`, where that is the command.
 fn run_words<'a>(
     command: &'a str,
@@ -104,6 +136,16 @@ pub fn read_words<'a>(words: &'a [String]) -> Option<Command<'a>>
             a.as_str(),
             second.as_str(),
             b.as_str(),
+        ),
+        [command, file, first, a, second, b, third, c] => build_words(
+            command.as_str(),
+            file.as_str(),
+            first.as_str(),
+            a.as_str(),
+            second.as_str(),
+            b.as_str(),
+            third.as_str(),
+            c.as_str(),
         ),
         [command, file, option, n] => run_words(
             command.as_str(),

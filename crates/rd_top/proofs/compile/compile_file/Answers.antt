@@ -6,10 +6,10 @@ use Rattle.rd_top.proofs.compile.compile_file.Goals as goal
 pub returns : goal.returns
 returns g c =
     inr (
-    part_of (g.F.Files.held c.args.files.now c.args.file.now) c.args.slot_seed c.args.reg_seed
+    part_of (g.F.Files.held c.args.files.now c.args.file.now) c.args.slot_seed c.args.reg_seed c.args.made
     (record { written = g.O.Sink.written c.args.out.now; total = g.O.Sink.total c.args.out.now; faults = g.O.Sink.faults c.args.out.now })
     (record { written = g.O.Sink.written c.put.new.self; total = g.O.Sink.total c.put.new.self; faults = g.O.Sink.faults c.put.new.self })
-    c.in-Ok.text c.as_slice.result.now c.in-Ok-object_of.bytes c.as_slice-2.result.now put.NoMemory
-    c.in-Ok.ensures.bytes c.as_slice.ensures c.in-Ok-object_of.ensures.made c.as_slice-2.ensures
+    c.in-Ok.text c.as_slice.result.now c.in-Ok-bytes_of.bytes c.as_slice-2.result.now put.NoMemory
+    c.in-Ok.ensures.bytes c.as_slice.ensures c.in-Ok-bytes_of.ensures.made c.as_slice-2.ensures
     c.in-Err-NoMemory-put.ensures.bytes c.in-Err-NoMemory-put.ensures.number
     )
