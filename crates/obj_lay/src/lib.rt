@@ -9,6 +9,7 @@
 mod bytes;
 mod code;
 mod image;
+pub mod law;
 mod order;
 mod slots;
 
