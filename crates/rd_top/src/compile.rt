@@ -13,6 +13,7 @@ use ir_narrow::narrow::NarrowFault;
 use obj_core::checked::Checked;
 use obj_core::object::Object;
 use obj_file::write::write;
+use obj_lay::law::layout_is_sound;
 use obj_lay::lay;
 use rd_compile::compile;
 use rd_io::{FileFail, Files, PutFail, Sink};
@@ -45,6 +46,7 @@ fn image_bytes(alloc: Global, object: Object, layout_seed: u64) -> Result<List<u
     requires { IsWellFormed object }
     ensures { IfOk result (λ l. l ≡ elf_bytes (layout object layout_seed)) }
 {
+    layout_is_sound();
     let checked = Checked::new(object);
     let image = lay(alloc, &checked, layout_seed)?;
     elf_file::write::write(alloc, &image)

@@ -12,6 +12,12 @@ pub enum Command<'a> {
         slot_seed: u64,
         reg_seed: u64,
     },
+    Build {
+        file: &'a str,
+        slot_seed: u64,
+        reg_seed: u64,
+        layout_seed: u64,
+    },
     Run {
         file: &'a str,
         steps: u64,
