@@ -5,3 +5,4 @@ pub mod Sizes
 pub mod Shown
 pub mod Lengths
 pub mod Sound
+pub mod Worked

@@ -1,17 +1,17 @@
 -- The image of a well-formed object is sound.
-use Rattle.std.proofs.Common.{◌≡◌, ℕ, zero, suc, ◌+◌, ◌*◌, ◌%◌, ◌<◌, ◌≤◌, List, [], ◌∷◌, ◌++◌, length, refl, sym, subst, ◌∙◌, ap, arith, length-append}
+use Rattle.std.proofs.Common.{◌≡◌, ℕ, ◌+◌, ◌*◌, ◌%◌, ◌≤◌, List, [], ◌∷◌, ◌++◌, length, refl, subst, ◌∙◌, ap, arith}
 use Rattle.std.specs.Prelude.{All, sum, map}
 use Rattle.std.proofs.lemmas.List.Elements.{All-cons}
 use Rattle.std.proofs.lemmas.List.Sums.{sum-map, sum_by-cons}
 use Rattle.x86_core.specs.declared.image.Segment.{Segment}
 use Rattle.machine_core.specs.Data.{ro_start, rw_start, segment}
-use Rattle.rd_draw.specs.Draw.{keystream_word}
 use Rattle.obj_core.specs.declared.object.Object.{Object}
 use Rattle.obj_core.specs.declared.object.Func.{Func}
 use Rattle.obj_core.specs.Slots.{slot_base}
 use Rattle.elf_file.specs.Sound.{IsRights, IsSegment, AreApart, total_bytes, IsSound}
-use Rattle.obj_lay.specs.Layout.{present, layout, slot_bytes, code_bytes, code_base, gap_purpose}
-use Rattle.obj_lay.proofs.Sizes.{code_len}
+use Rattle.obj_lay.specs.Layout.{present, layout, slot_bytes, code_bytes, code_base}
+use Rattle.obj_core.specs.WellFormed.{IsWellFormed}
+use Rattle.obj_lay.proofs.Sizes.{code_len, few_functions, some_slot, few_slots, little_code, little_data}
 use Rattle.obj_lay.proofs.Lengths.{length-slot_bytes, code_small}
 
 -- segments from an address on, at most so many, with so many bytes
@@ -88,3 +88,10 @@ layout_sound o seed functions some slots code data_bytes =
     let last : present base (code_bytes o seed) 1 ++ [] ≡ present base (code_bytes o seed) 1 = append_none (present base (code_bytes o seed) 1) in
     let others = λ (cs : List Segment). present slot_base (slot_bytes o seed) 1 ++ (present ro_start o.ro 4 ++ (present rw_start o.rw 6 ++ cs)) in
     sound_of _ _ _ _ (ap others last) all (omega arith) (present_some slot_base 1 (slot_bytes o seed) _ (omega arith))
+
+-- the same of an object that is only known to be well formed
+pub checked_sound : (o : Object) (seed : ℕ) → ∥ IsWellFormed o ∥₁ → IsSound (layout o seed)
+checked_sound o seed known =
+    let total : sum (map (λ (f : Func). length f.bytes) o.functions) ≡ code_len o.functions = sum-map (λ (f : Func). length f.bytes) o.functions in
+    let code : code_len o.functions ≤ 67108864 = little_code o known in
+    layout_sound o seed (few_functions o known) (some_slot o known) (few_slots o known) (omega arith) (little_data o known)

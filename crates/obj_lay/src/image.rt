@@ -3,6 +3,7 @@
 ghost use Rattle.std.specs.Prelude.{ℕ, ◌≡◌, ◌++◌, ◌<◌, ◌≤◌, ◌^◌, length, OnOk, IfOk};
 ghost use Rattle.obj_core.specs.Slots.{positions as positions_of};
 ghost use Rattle.obj_core.specs.WellFormed.{IsWellFormed};
+ghost use Rattle.elf_file.specs.Sound.{IsSound};
 ghost use Rattle.obj_lay.specs.Layout.{piece, order as order_of, starts as starts_of, code_base, code_bytes, slot_bytes, present, segments, layout};
 
 use crate::bytes::{SLOT_BASE, slot_address};
@@ -37,14 +38,23 @@ const READ_WRITE: u8 = 6;
 
 const RUN: u8 = 1;
 
-/// The image of an object for a layout seed. Time and memory are linear in the image.
+/// The image of an object for a layout seed, which is sound. Time and memory are linear in the image.
 pub fn lay(alloc: Global, o: &Checked, layout_seed: u64) -> Result<Image, NoMemory>
-    ensures { IfOk result (λ image. image ≡ layout o.now.object layout_seed) }
+    ensures layout { IfOk result (λ image. image ≡ layout o.now.object layout_seed) }
+    ensures sound { IfOk result IsSound }
 {
     let object = o.object();
     sizes_known(object);
-    image_of(alloc, object, layout_seed)
+    sound_known(object, layout_seed);
+    let image = image_of(alloc, object, layout_seed)?;
+    Ok(image)
 }
+
+/// Makes it known to a proof that the image of a well-formed object is sound.
+fn sound_known(o: &Object, layout_seed: u64)
+    requires { ∥ IsWellFormed o.now ∥₁ }
+    ensures { IsSound (layout o.now layout_seed) }
+{}
 
 /// Makes it known to a proof how large a well-formed object is at most.
 fn sizes_known(o: &Object)

@@ -1,4 +1,4 @@
-use Rattle.std.proofs.Common.{◌≡◌, ◌%◌, ◌^◌, ◌∙◌, ap, sym, refl}
+use Rattle.std.proofs.Common.{refl}
 use Rattle.obj_lay.proofs.Pieces.{address_some, address_none}
 use Rattle.obj_lay.proofs.code.code_address.Goals as goal
 

@@ -1,4 +1,4 @@
-use Rattle.std.proofs.Common.{◌≡◌, ◌∙◌, ap, sym, length}
+use Rattle.std.proofs.Common.{◌∙◌, ap, sym, length}
 use Rattle.obj_lay.specs.Layout.{Piece}
 use Rattle.obj_lay.proofs.Pieces.{piece_some, piece_none}
 use Rattle.obj_lay.proofs.code.piece_len.Goals as goal

@@ -1,5 +1,4 @@
-use Rattle.std.proofs.Common.{◌≡◌, ◌++◌, ◌∙◌, ap, sym, length, rules, OnOk}
-use Rattle.obj_lay.specs.Layout.{Piece, linked, whole, no_piece}
+use Rattle.std.proofs.Common.{rules}
 use Rattle.obj_lay.proofs.Pieces.{piece_some, piece_none}
 use Rattle.obj_lay.proofs.code.put_piece.Goals as goal
 
