@@ -124,60 +124,86 @@ fn hidden_code_is_not_printed(rt: HostRuntime) {
     assert!(rt; machine.run(&mut input, &mut sink, 1) == Ok(MachOutcome::Invalid));
 }
 
+/// How a machine stands after some steps, with the number of bytes that it printed.
+struct Seen {
+    outcome: MachOutcome,
+    rax: u64,
+    rcx: u64,
+    rsp: u64,
+    r11: u64,
+    printed: u64,
+}
+
+/// What is seen of this code after some steps with the input `a`; nothing where memory is wanting.
+fn seen(alloc: Global, code: &[u8], steps: u64) -> Option<Seen> {
+    let (Ok(mut machine), Ok(mut input)) = (started(alloc, code, 1), source(alloc, b"a")) else {
+        return None;
+    };
+    let mut sink = CountSink::new();
+    let Ok(outcome) = machine.run(&mut input, &mut sink, steps) else {
+        return None;
+    };
+    let regs = machine.regs();
+    Some(Seen {
+        outcome,
+        rax: regs.get(Reg::Rax),
+        rcx: regs.get(Reg::Rcx),
+        rsp: regs.get(Reg::Rsp),
+        r11: regs.get(Reg::R11),
+        printed: sink.count(),
+    })
+}
+
+/// Whether a system call with these numbers ends so, with this answer and so many bytes printed.
+fn answers(alloc: Global, call: [u32; 4], want: MachOutcome, answer: u64, printed: u64) -> bool {
+    let [rax, rdi, rsi, rdx] = call;
+    let Some(seen) = seen(alloc, &system_call(rax, rdi, rsi, rdx), 5) else {
+        return false;
+    };
+    let (place, packed) = if want == MachOutcome::Going {
+        (CODE + 22, 0x202)
+    } else {
+        (0, 0)
+    };
+    let answered = seen.rax == answer && seen.rcx == place && seen.r11 == packed;
+    answered && seen.outcome == want && seen.printed == printed
+}
+
 #[test]
 fn system_calls_answer(rt: HostRuntime) {
-    let alloc = rt.alloc();
-    let rows: [(u32, u32, u32, u32, MachOutcome, u64, u64); 13] = [
-        (60, 0x1FF, 0, 0, MachOutcome::Ended(255), 60, 0),
-        (1, 1, 0x2000_0000, 2, MachOutcome::Going, 2, 2),
-        (1, 1, 0xBBFF_F000, 5000, MachOutcome::Going, 4096, 4096),
-        (1, 1, 0x2000_0001, 2, MachOutcome::Going, BAD_ADDRESS, 0),
-        (1, 1, 0x4000_0000, 1, MachOutcome::Going, BAD_ADDRESS, 0),
-        (1, 1, 0, 0, MachOutcome::Going, 0, 0),
-        (1, 2, 0x2000_0000, 2, MachOutcome::BadCall, 1, 0),
-        (0, 0, 0x3000_0001, 9, MachOutcome::Going, 1, 0),
-        (0, 0, 0x2000_0000, 1, MachOutcome::Going, BAD_ADDRESS, 0),
-        (0, 0, 0x3000_0002, 1, MachOutcome::Going, BAD_ADDRESS, 0),
-        (0, 0, 0, 0, MachOutcome::Going, 0, 0),
-        (0, 1, 0x3000_0000, 1, MachOutcome::BadCall, 0, 0),
-        (2, 0, 0, 0, MachOutcome::BadCall, 2, 0),
+    let rows: [([u32; 4], MachOutcome, u64, u64); 13] = [
+        ([60, 0x1FF, 0, 0], MachOutcome::Ended(255), 60, 0),
+        ([1, 1, 0x2000_0000, 2], MachOutcome::Going, 2, 2),
+        ([1, 1, 0xBBFF_F000, 5000], MachOutcome::Going, 4096, 4096),
+        ([1, 1, 0x2000_0001, 2], MachOutcome::Going, BAD_ADDRESS, 0),
+        ([1, 1, 0x4000_0000, 1], MachOutcome::Going, BAD_ADDRESS, 0),
+        ([1, 1, 0, 0], MachOutcome::Going, 0, 0),
+        ([1, 2, 0x2000_0000, 2], MachOutcome::BadCall, 1, 0),
+        ([0, 0, 0x3000_0001, 9], MachOutcome::Going, 1, 0),
+        ([0, 0, 0x2000_0000, 1], MachOutcome::Going, BAD_ADDRESS, 0),
+        ([0, 0, 0x3000_0002, 1], MachOutcome::Going, BAD_ADDRESS, 0),
+        ([0, 0, 0, 0], MachOutcome::Going, 0, 0),
+        ([0, 1, 0x3000_0000, 1], MachOutcome::BadCall, 0, 0),
+        ([2, 0, 0, 0], MachOutcome::BadCall, 2, 0),
     ];
-    for (rax, rdi, rsi, rdx, want, answer, printed) in rows {
-        let code = system_call(rax, rdi, rsi, rdx);
-        let (Ok(mut machine), Ok(mut input)) = (started(alloc, &code, 1), source(alloc, b"a"))
-        else {
-            panic!(rt; "no memory");
-        };
-        let mut sink = CountSink::new();
-        let outcome = machine.run(&mut input, &mut sink, 5);
-        assert!(rt; outcome == Ok(want), "outcome of {rax} {rdi} {rsi}");
-        assert_eq!(rt;
-            machine.regs().get(Reg::Rax),
-            answer,
-            "answer of {rax} {rdi} {rsi}"
+    for (call, want, answer, printed) in rows {
+        assert!(rt;
+            answers(rt.alloc(), call, want, answer, printed),
+            "{call:?}"
         );
-        assert_eq!(rt; sink.count(), printed, "printed by {rax} {rdi} {rsi}");
-        let (place, packed) = if want == MachOutcome::Going {
-            (CODE + 22, 0x202)
-        } else {
-            (0, 0)
-        };
-        assert_eq!(rt;
-            machine.regs().get(Reg::Rcx),
-            place,
-            "rcx of {rax} {rdi} {rsi}"
-        );
-        assert_eq!(rt;
-            machine.regs().get(Reg::R11),
-            packed,
-            "r11 of {rax} {rdi} {rsi}"
-        );
+    }
+}
+
+/// Whether code is so after some steps, with this word in `rsp`.
+fn leads(alloc: Global, code: &[u8], steps: u64, want: MachOutcome, rsp: u64) -> bool {
+    match seen(alloc, code, steps) {
+        Some(seen) => seen.outcome == want && seen.rsp == rsp,
+        None => false,
     }
 }
 
 #[test]
 fn instructions_stop_or_go_on(rt: HostRuntime) {
-    let alloc = rt.alloc();
     let rows: [(&[u8], u64, MachOutcome, u64); 12] = [
         (&[0xCC], 1, MachOutcome::Breakpoint, STACK_END),
         (&[0x06], 1, MachOutcome::NoForm, STACK_END),
@@ -213,12 +239,7 @@ fn instructions_stop_or_go_on(rt: HostRuntime) {
         ),
     ];
     for (code, steps, want, rsp) in rows {
-        let (Ok(mut machine), Ok(mut input)) = (started(alloc, code, 1), source(alloc, &[])) else {
-            panic!(rt; "no memory");
-        };
-        let outcome = machine.run(&mut input, &mut CountSink::new(), steps);
-        assert!(rt; outcome == Ok(want), "outcome of {code:?}");
-        assert_eq!(rt; machine.regs().get(Reg::Rsp), rsp, "rsp of {code:?}");
+        assert!(rt; leads(rt.alloc(), code, steps, want, rsp), "{code:?}");
     }
 }
 
