@@ -111,3 +111,5 @@ of_file held name bytes image n files files2 input input2 out out2 answer.File c
 of_file held name bytes image n files files2 input input2 out out2 answer.Later content loads h = elim h [ ]
 of_file held name bytes image n files files2 input input2 out out2 (answer.Image rule) content loads h = elim h [ ]
 of_file held name bytes image n files files2 input input2 out out2 answer.Long content loads h = elim h [ ]
+of_file held name bytes image n files files2 input input2 out out2 (answer.Form place) content loads h = elim h [ ]
+of_file held name bytes image n files files2 input input2 out out2 (answer.Shape rule spot offset) content loads h = elim h [ ]

@@ -1,6 +1,6 @@
 -- What each command does to the outside, answer by answer.
-use Rattle.std.specs.Prelude.{◌≡◌, ℕ, ◌⊎◌, List, Option, Some, None, length}
-use Rattle.rd_io.specs.Outside.{Gets, GetsPart, Counts, CountsPart}
+use Rattle.std.specs.Prelude.{◌≡◌, ℕ, ◌⊎◌, List, Option, Some, None}
+use Rattle.rd_io.specs.Outside.{Gets, GetsPart}
 use Rattle.rd_io.specs.Causes.{Rose}
 use Rattle.ir_narrow.specs.NarrowText.{Program, IsNarrowText}
 use Rattle.obj_core.specs.declared.object.Object.{Object}
@@ -10,19 +10,11 @@ use Rattle.obj_lay.specs.Layout.{layout}
 use Rattle.elf_file.specs.Elf.{elf_bytes}
 use Rattle.rd_top.specs.declared.compile.Made.{Made}
 use Rattle.rd_top.specs.declared.answer.Answer.{Answer}
-use Rattle.rd_top.specs.declared.answer.Answer.TheVariants.{Done, Words, File, Later, Image, Long, Out, Input, Memory, Ran}
-use Rattle.rd_top.specs.Told.{FilesTold, InputTold, OutTold, IsContent, IsTooLong, Lost}
+use Rattle.rd_top.specs.declared.answer.Answer.TheVariants.{Done, Words, File, Later, Form, Shape, Image, Long, Out, Input, Memory, Ran}
+use Rattle.rd_top.specs.Told.{FilesTold, InputTold, OutTold, IsContent, IsTooLong, Lost, Wrote, WrotePart}
+use Rattle.rd_top.specs.Laying.{LayMeans}
 use Rattle.rd_top.specs.Running.{RunMeans}
-use Rattle.rd_top.specs.Words.{Reading, Compile, Build, Run}
-
--- bytes were appended, and a prefix of bytes was
-pub record Wrote (old new : OutTold) (bytes : List ℕ) : Type 0 where
-  pub bytes_told : Gets old.written new.written bytes
-  pub number_told : Counts old.total new.total (length bytes)
-
-pub record WrotePart (old new : OutTold) (bytes : List ℕ) : Type 0 where
-  pub bytes_told : GetsPart old.written new.written bytes
-  pub number_told : CountsPart old.total new.total (length bytes)
+use Rattle.rd_top.specs.Words.{Reading, Compile, Build, Lay, Run}
 
 -- the most bytes of a module's text
 abbrev pub text_limit : ℕ
@@ -75,6 +67,8 @@ CompileMeans held name slot_seed reg_seed made files files2 out out2 Long = IsTo
 CompileMeans held name slot_seed reg_seed made files files2 out out2 Out = Rose out.faults out2.faults × CompiledPart held slot_seed reg_seed made out out2
 CompileMeans held name slot_seed reg_seed made files files2 out out2 Memory = (out2 ≡ out) ⊎ CompiledPart held slot_seed reg_seed made out out2
 CompileMeans held name slot_seed reg_seed made files files2 out out2 Words = ⊥
+CompileMeans held name slot_seed reg_seed made files files2 out out2 (Form place) = ⊥
+CompileMeans held name slot_seed reg_seed made files files2 out out2 (Shape rule spot offset) = ⊥
 CompileMeans held name slot_seed reg_seed made files files2 out out2 (Image rule) = ⊥
 CompileMeans held name slot_seed reg_seed made files files2 out out2 Input = ⊥
 CompileMeans held name slot_seed reg_seed made files files2 out out2 (Ran outcome) = ⊥
@@ -86,6 +80,7 @@ Means held (Some (Compile file slot_seed reg_seed)) files files2 input input2 ou
     CompileMeans (held file) file slot_seed reg_seed Made.Object files files2 out out2 a × (input2 ≡ input)
 Means held (Some (Build file slot_seed reg_seed layout_seed)) files files2 input input2 out out2 a =
     CompileMeans (held file) file slot_seed reg_seed (Made.Image layout_seed) files files2 out out2 a × (input2 ≡ input)
+Means held (Some (Lay file layout_seed)) files files2 input input2 out out2 a = LayMeans (held file) file layout_seed files files2 out out2 a × (input2 ≡ input)
 Means held (Some (Run file steps)) files files2 input input2 out out2 a = RunMeans (held file) file steps files files2 input input2 out out2 a
 
 -- the line is on the sink for messages, or a fault came and a prefix of it is

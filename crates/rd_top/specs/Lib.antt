@@ -5,3 +5,4 @@ pub mod Commands
 pub mod Ends
 pub mod Asked
 pub mod Running
+pub mod Laying

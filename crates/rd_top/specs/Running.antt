@@ -86,6 +86,8 @@ RunOf image n input input2 out out2 answer.File = ⊥
 RunOf image n input input2 out out2 answer.Later = ⊥
 RunOf image n input input2 out out2 (answer.Image rule) = ⊥
 RunOf image n input input2 out out2 answer.Long = ⊥
+RunOf image n input input2 out out2 (answer.Form place) = ⊥
+RunOf image n input input2 out out2 (answer.Shape rule spot offset) = ⊥
 
 -- what each answer of `run` says of a file, of the files, the input and the sink
 abbrev pub RunMeans : Option (List ℕ) → List ℕ → ℕ → FilesTold → FilesTold → InputTold → InputTold → OutTold → OutTold → Answer → Type 0
@@ -99,3 +101,5 @@ RunMeans held name n files files2 input input2 out out2 answer.Memory = Untouche
 RunMeans held name n files files2 input input2 out out2 answer.Done = ⊥
 RunMeans held name n files files2 input input2 out out2 answer.Words = ⊥
 RunMeans held name n files files2 input input2 out out2 answer.Later = ⊥
+RunMeans held name n files files2 input input2 out out2 (answer.Form place) = ⊥
+RunMeans held name n files files2 input input2 out out2 (answer.Shape rule spot offset) = ⊥

@@ -1,6 +1,7 @@
 -- What files, the input and a sink tell, and what a file's content is.
 use Rattle.std.specs.Prelude.{◌≡◌, ℕ, ◌<◌, ◌≤◌, Bool, List, Option, Some, None, length}
 use Rattle.rd_io.specs.Causes.{Rose}
+use Rattle.rd_io.specs.Outside.{Gets, GetsPart, Counts, CountsPart}
 
 pub record FilesTold : Type 0 where
   pub lost : List ℕ
@@ -28,3 +29,12 @@ IsTooLong (Some held) limit = limit < length held
 -- a file of this name could not be read
 abbrev pub Lost : List ℕ → FilesTold → FilesTold → Type 0
 Lost name before now = Rose before.faults now.faults × (now.lost ≡ name)
+
+-- bytes were appended, and a prefix of bytes was
+pub record Wrote (old new : OutTold) (bytes : List ℕ) : Type 0 where
+  pub bytes_told : Gets old.written new.written bytes
+  pub number_told : Counts old.total new.total (length bytes)
+
+pub record WrotePart (old new : OutTold) (bytes : List ℕ) : Type 0 where
+  pub bytes_told : GetsPart old.written new.written bytes
+  pub number_told : CountsPart old.total new.total (length bytes)

@@ -6,6 +6,7 @@ use Rattle.std.specs.Cmp.Lexicographic.{pointwise}
 pub data Reading : Type 0 where
   Compile : (file : List ℕ) → (slot_seed : ℕ) → (reg_seed : ℕ) → Reading
   Build : (file : List ℕ) → (slot_seed : ℕ) → (reg_seed : ℕ) → (layout_seed : ℕ) → Reading
+  Lay : (file : List ℕ) → (layout_seed : ℕ) → Reading
   Run : (file : List ℕ) → (steps : ℕ) → Reading
 
 abbrev pub same : List ℕ → List ℕ → Bool
@@ -41,19 +42,29 @@ build_of file (Some slot_seed) (Some reg_seed) None = None
 build_of file (Some slot_seed) None layout_seed = None
 build_of file None reg_seed layout_seed = None
 
-abbrev pub run_of : List ℕ → Option ℕ → Option Reading
-run_of file (Some steps) = Some (Run file steps)
-run_of file None = None
+-- a command with one number
+abbrev pub with_number : (ℕ → Reading) → Option ℕ → Option Reading
+with_number ask (Some n) = Some (ask n)
+with_number ask None = None
+
+-- the values of a command, behind its file and its first option with its value
+abbrev pub by_options : List ℕ → List ℕ → List ℕ → List ℕ → List (List ℕ) → Option Reading
+by_options command file option n [] =
+    if is_file file then
+    (if same command (codes "run") && same option (codes "--steps") then with_number (Run file) (number_of n) else
+    (if same command (codes "lay") && same option (codes "--layout-seed") then with_number (Lay file) (number_of n) else None))
+    else None
+by_options command file first a (second ∷ b ∷ []) =
+    if same command (codes "compile") && (is_file file && (same first (codes "--slot-seed") && same second (codes "--reg-seed"))) then compile_of file (number_of a) (number_of b) else None
+by_options command file first a (second ∷ b ∷ third ∷ c ∷ []) =
+    if same command (codes "build") && (is_file file && (same first (codes "--slot-seed") && (same second (codes "--reg-seed") && same third (codes "--layout-seed")))) then build_of file (number_of a) (number_of b) (number_of c) else None
+by_options command file first a others = None
 
 -- compile FILE --slot-seed N --reg-seed N
 -- build FILE --slot-seed N --reg-seed N --layout-seed N
+-- lay FILE --layout-seed N
 -- run FILE --steps N
 -- every other list of words has no reading
 abbrev pub reading_of : List (List ℕ) → Option Reading
-reading_of (command ∷ file ∷ option ∷ n ∷ []) =
-    if same command (codes "run") && (is_file file && same option (codes "--steps")) then run_of file (number_of n) else None
-reading_of (command ∷ file ∷ first ∷ a ∷ second ∷ b ∷ []) =
-    if same command (codes "compile") && (is_file file && (same first (codes "--slot-seed") && same second (codes "--reg-seed"))) then compile_of file (number_of a) (number_of b) else None
-reading_of (command ∷ file ∷ first ∷ a ∷ second ∷ b ∷ third ∷ c ∷ []) =
-    if same command (codes "build") && (is_file file && (same first (codes "--slot-seed") && (same second (codes "--reg-seed") && same third (codes "--layout-seed")))) then build_of file (number_of a) (number_of b) (number_of c) else None
+reading_of (command ∷ file ∷ first ∷ a ∷ others) = by_options command file first a others
 reading_of words = None

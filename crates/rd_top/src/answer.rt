@@ -1,9 +1,10 @@
 //! How the program ends: the one place where status numbers and lines stand.
 
-ghost use Rattle.std.specs.Prelude.{◌≡◌, ◌∷◌, ◌++◌, [], IfOk, decimal};
-ghost use Rattle.rd_top.specs.Answers.{status_number, line_of, outcome_text};
+ghost use Rattle.std.specs.Prelude.{◌≡◌, ◌∷◌, ◌++◌, [], IfOk, OnOk, decimal};
+ghost use Rattle.rd_top.specs.Answers.{status_number, line_of, outcome_text, shape_text, spot_word, spot_number};
 
 use itoa::Buffer;
+use obj_check::fault::ShapeSpot;
 use rd_num::copied::copy_list;
 use rd_num::list::List;
 use rd_num::width::NoMemory;
@@ -21,6 +22,14 @@ pub enum Answer {
     File,
     /// The module is for a later version.
     Later,
+    /// The file is no object: where its bytes leave the format.
+    Form(u64),
+    /// The object isn't well formed: the first rule that it breaks, and where.
+    Shape {
+        rule: u8,
+        spot: ShapeSpot,
+        offset: u32,
+    },
     /// The file is no image: the first rule that it breaks.
     Image(u8),
     /// A file is longer than its limit.
@@ -43,6 +52,7 @@ pub fn status(answer: Answer) -> u8
         Answer::Words => 2,
         Answer::File => 3,
         Answer::Later => 4,
+        Answer::Form(_) | Answer::Shape { .. } => 5,
         Answer::Image(_) => 6,
         Answer::Long => 8,
         Answer::Out => 9,
@@ -59,13 +69,56 @@ pub fn status(answer: Answer) -> u8
     }
 }
 
+/// Appends a decimal number.
+fn put_number(line: &mut List<u8>, n: u64) -> Result<(), NoMemory>
+    ensures { OnOk result (line.new ≡ line.old ++ decimal n) }
+{
+    let mut buffer = Buffer::new();
+    line.append(buffer.format(n).as_bytes())
+}
+
 /// A word, a space, a decimal number and a line feed.
-fn numbered(alloc: Global, word: &[u8], n: u8) -> Result<List<u8>, NoMemory>
+fn numbered(alloc: Global, word: &[u8], n: u64) -> Result<List<u8>, NoMemory>
     ensures { IfOk result (λ l. l ≡ word.now ++ decimal n ++ 10 ∷ []) }
 {
     let mut line = copy_list(alloc, word)?;
-    let mut buffer = Buffer::new();
-    line.append(buffer.format(n).as_bytes())?;
+    put_number(&mut line, n)?;
+    line.append(b"\n")?;
+    Ok(line)
+}
+
+/// The word of a spot.
+fn spot_word_of(spot: ShapeSpot) -> &'static [u8]
+    ensures { result.now ≡ spot_word spot }
+{
+    match spot {
+        ShapeSpot::Whole => b" whole ",
+        ShapeSpot::Function(_) => b" function ",
+        ShapeSpot::Slot(_) => b" slot ",
+    }
+}
+
+/// The number of a spot's function or slot.
+fn spot_number_of(spot: ShapeSpot) -> u32
+    ensures { result ≡ spot_number spot }
+{
+    match spot {
+        ShapeSpot::Whole => 0,
+        ShapeSpot::Function(n) => n,
+        ShapeSpot::Slot(k) => k,
+    }
+}
+
+/// The line of an object that isn't well formed.
+fn shape_line(alloc: Global, rule: u8, spot: ShapeSpot, offset: u32) -> Result<List<u8>, NoMemory>
+    ensures { IfOk result (λ l. l ≡ shape_text rule spot offset) }
+{
+    let mut line = copy_list(alloc, b"shape ")?;
+    put_number(&mut line, u64::from(rule))?;
+    line.append(spot_word_of(spot))?;
+    put_number(&mut line, u64::from(spot_number_of(spot)))?;
+    line.append(b" ")?;
+    put_number(&mut line, u64::from(offset))?;
     line.append(b"\n")?;
     Ok(line)
 }
@@ -75,7 +128,7 @@ fn outcome_line(alloc: Global, outcome: MachOutcome) -> Result<List<u8>, NoMemor
     ensures { IfOk result (λ l. l ≡ outcome_text outcome) }
 {
     match outcome {
-        MachOutcome::Ended(status) => numbered(alloc, b"ended ", status),
+        MachOutcome::Ended(status) => numbered(alloc, b"ended ", u64::from(status)),
         MachOutcome::Going => copy_list(alloc, b"going\n"),
         MachOutcome::Divide => copy_list(alloc, b"trapped divide\n"),
         MachOutcome::Invalid => copy_list(alloc, b"trapped invalid\n"),
@@ -96,7 +149,9 @@ pub fn line(alloc: Global, answer: Answer) -> Result<List<u8>, NoMemory>
         Answer::Words => copy_list(alloc, b"words\n"),
         Answer::File => copy_list(alloc, b"file\n"),
         Answer::Later => copy_list(alloc, b"later\n"),
-        Answer::Image(rule) => numbered(alloc, b"image ", rule),
+        Answer::Form(place) => numbered(alloc, b"form ", place),
+        Answer::Shape { rule, spot, offset } => shape_line(alloc, rule, spot, offset),
+        Answer::Image(rule) => numbered(alloc, b"image ", u64::from(rule)),
         Answer::Long => copy_list(alloc, b"long\n"),
         Answer::Out => copy_list(alloc, b"out\n"),
         Answer::Input => copy_list(alloc, b"input\n"),

@@ -2,9 +2,11 @@
 //!
 //!     read_main compile FILE --slot-seed N --reg-seed N
 //!     read_main build FILE --slot-seed N --reg-seed N --layout-seed N
+//!     read_main lay FILE --layout-seed N
 //!     read_main run FILE --steps N
 //!
-//! write the object of the module in FILE, write the image of that object, and run the image in FILE. `words` reads the command line,
+//! write the object of the module in FILE, write the image of that object, write the image of the object
+//! in FILE, and run the image in FILE. `words` reads the command line,
 //! `compile` and `run` do the work, and `answer` has the statuses with their lines. What a reading of
 //! words is stands in `specs/Words.antt`, what a command does to the outside in `specs/Commands.antt`
 //! and `specs/Running.antt`.
@@ -17,6 +19,7 @@ ghost use Rattle.rd_top.specs.Words.{reading_of};
 
 use answer::{Answer, line, status};
 use compile::{Made, compile_file};
+use lay::lay_file;
 use rd_io::{Files, PutFail, Sink, Source};
 use run::run_file;
 use std::alloc::Global;
@@ -24,6 +27,7 @@ use words::{Command, read_words};
 
 pub mod answer;
 pub mod compile;
+pub mod lay;
 pub mod run;
 #[cfg(test)]
 mod tests;
@@ -64,6 +68,7 @@ fn work<F: Files, I: Source, O: Sink>(
             files,
             out,
         ),
+        Some(Command::Lay { file, layout_seed }) => lay_file(alloc, file, layout_seed, files, out),
         Some(Command::Run { file, steps }) => run_file(alloc, file, steps, files, input, out),
     }
 }

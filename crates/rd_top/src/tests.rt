@@ -46,19 +46,59 @@ fn ends<F: Files, O: Sink>(
     Ok(top(alloc, all.as_slice(), files, &mut input, out, &mut err))
 }
 
+/// What a run of the program left.
+#[derive(Drop)]
+struct Left {
+    status: u8,
+    out: List<u8>,
+    said: List<u8>,
+}
+
+/// A run over an outside that never fails, with this content in the file `m`.
+fn run_surely(alloc: Global, words: &[&str], content: &[u8]) -> Result<Left, Fail> {
+    let all = all_words(alloc, words)?;
+    let mut files = SureFiles::new(one_file(alloc, content)?);
+    let mut input = SureSource::new(List::new(alloc));
+    let mut out = SureSink::new(alloc);
+    let mut err = SureSink::new(alloc);
+    let status = top(
+        alloc,
+        all.as_slice(),
+        &mut files,
+        &mut input,
+        &mut out,
+        &mut err,
+    );
+    let out = copy_list(alloc, out.bytes().as_slice())?;
+    let said = copy_list(alloc, err.bytes().as_slice())?;
+    Ok(Left { status, out, said })
+}
+
 /// The status over an outside that never fails, and how many bytes came out.
 fn ends_surely(alloc: Global, words: &[&str], content: &[u8]) -> Result<(u8, usize), Fail> {
-    let mut files = SureFiles::new(one_file(alloc, content)?);
-    let mut out = SureSink::new(alloc);
-    let status = ends(alloc, words, &mut files, &mut out)?;
-    Ok((status, out.bytes().len()))
+    let left = run_surely(alloc, words, content)?;
+    Ok((left.status, left.out.len()))
 }
 
 #[test]
 fn words_have_these_statuses(rt: HostRuntime) -> Result<(), Fail> {
-    let rows: [(&[&str], u8); 13] = [
+    let rows: [(&[&str], u8); 15] = [
         (ASKED, 0),
         (&["run", "m", "--steps", "-1"], 2),
+        (&["lay", "m", "--steps", "1"], 2),
+        (
+            &[
+                "build",
+                "m",
+                "--slot-seed",
+                "1",
+                "--reg-seed",
+                "2",
+                "--steps",
+                "3",
+            ],
+            2,
+        ),
         (&["run", "m", "1", "--steps"], 2),
         (&[], 2),
         (&["compile"], 2),
@@ -228,24 +268,86 @@ fn images_run_to_these_lines(rt: HostRuntime) -> Result<(), Fail> {
     ];
     for (code, steps, want, line) in rows {
         let file = image_of(alloc, code)?;
-        let mut files = SureFiles::new(one_file(alloc, file.as_slice())?);
-        let all = all_words(alloc, &["run", "m", "--steps", steps])?;
-        let mut input = SureSource::new(List::new(alloc));
-        let mut out = SureSink::new(alloc);
-        let mut err = SureSink::new(alloc);
-        let status = top(
-            alloc,
-            all.as_slice(),
-            &mut files,
-            &mut input,
-            &mut out,
-            &mut err,
-        );
-        assert_eq!(rt; status, want);
-        assert!(rt; err.bytes().as_slice() == line);
+        let left = run_surely(alloc, &["run", "m", "--steps", steps], file.as_slice())?;
+        assert_eq!(rt; left.status, want);
+        assert!(rt; left.said.as_slice() == line);
     }
     let (refused, _) = ends_surely(alloc, &["run", "m", "--steps", "1"], SEVEN)?;
     assert_eq!(rt; refused, 6);
+    Ok(())
+}
+
+const SQUARE: &[u8] =
+    b"define i32 @main() { %a = add i32 40, 2 %b = mul i32 %a, %a %c = sub i32 %b, 1 ret i32 %c }";
+
+#[test]
+fn modules_become_images_that_run(rt: HostRuntime) -> Result<(), Fail> {
+    let alloc = rt.alloc();
+    let object = run_surely(alloc, ASKED, SQUARE)?;
+    for layout_seed in ["3", "4"] {
+        let lay = ["lay", "m", "--layout-seed", layout_seed];
+        let laid = run_surely(alloc, &lay, object.out.as_slice())?;
+        assert_eq!(rt; laid.status, 0);
+        let build = [
+            "build",
+            "m",
+            "--slot-seed",
+            "1",
+            "--reg-seed",
+            "2",
+            "--layout-seed",
+            layout_seed,
+        ];
+        let built = run_surely(alloc, &build, SQUARE)?;
+        assert!(rt; built.out == laid.out);
+        let ran = run_surely(
+            alloc,
+            &["run", "m", "--steps", "1000"],
+            built.out.as_slice(),
+        )?;
+        assert!(rt; ran.said.as_slice() == b"ended 227\n".as_slice());
+    }
+    Ok(())
+}
+
+/// An object of one function and one slot that leads to it, up to the function's size.
+#[rattlefmt::skip]
+const OBJECT: [u8; 44] = [
+    0x52, 0x44, 0x4F, 0x31, 1, 0, 0, 0,
+    0, 0, 0, 0, 0, 0, 0, 0,
+    0, 0, 0, 0, 0, 0, 0, 0,
+    1, 0, 0, 0, 1, 0, 0, 0,
+    0, 0, 0, 0, 0, 0, 0, 0,
+    0, 0, 0, 0,
+];
+
+#[test]
+fn objects_have_these_lines(rt: HostRuntime) -> Result<(), Fail> {
+    let alloc = rt.alloc();
+    let rows: [(&[u8], usize, u8, &[u8]); 6] = [
+        (b"\x0F\x0B", 0, 0, b""),
+        (b"\x0F\x0B", 1, 5, b"form 69\n"),
+        (b"\x0F\x05\x0F\x0B", 0, 5, b"shape 3 function 0 0\n"),
+        (
+            b"\x0F\x0B\xE9\xFA\xFF\xFF\xFF",
+            0,
+            5,
+            b"shape 4 function 0 2\n",
+        ),
+        (b"\x90", 0, 5, b"shape 5 function 0 0\n"),
+        (b"\x06", 0, 5, b"shape 2 function 0 0\n"),
+    ];
+    for (code, cut, want, line) in rows {
+        let mut file = Vec::new(alloc);
+        file.extend_from_slice(&OBJECT)?;
+        file.extend_from_slice(&[code.len() as u8, 0, 0, 0, 0, 0, 0, 0])?;
+        file.extend_from_slice(code)?;
+        file.resize(file.len() + 16, 0)?;
+        let length = file.len() - cut;
+        let left = run_surely(alloc, &["lay", "m", "--layout-seed", "7"], &file[..length])?;
+        assert_eq!(rt; left.status, want);
+        assert!(rt; left.said.as_slice() == line);
+    }
     Ok(())
 }
 

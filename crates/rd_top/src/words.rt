@@ -1,7 +1,7 @@
 //! The command line as one command with its values, or none.
 
 ghost use Rattle.std.specs.Prelude.{◌≡◌, ◌∷◌, [], Some, None, MatchOption, codes, map, string_bytes};
-ghost use Rattle.rd_top.specs.Words.{is_file, number_of, digits_from, reading_of};
+ghost use Rattle.rd_top.specs.Words.{is_file, number_of, digits_from, by_options, reading_of};
 ghost use Rattle.rd_top.specs.Asked.{asked};
 
 /// A command with its values.
@@ -16,6 +16,10 @@ pub enum Command<'a> {
         file: &'a str,
         slot_seed: u64,
         reg_seed: u64,
+        layout_seed: u64,
+    },
+    Lay {
+        file: &'a str,
         layout_seed: u64,
     },
     Run {
@@ -64,7 +68,7 @@ fn compile_words<'a>(
     second: &'a str,
     reg_seed: &'a str,
 ) -> Option<Command<'a>>
-    ensures { MatchOption result (reading_of (command.now ∷ file.now ∷ first.now ∷ slot_seed.now ∷ second.now ∷ reg_seed.now ∷ []) ≡ None) (λ c. reading_of (command.now ∷ file.now ∷ first.now ∷ slot_seed.now ∷ second.now ∷ reg_seed.now ∷ []) ≡ Some (asked c)) }
+    ensures { MatchOption result (by_options command.now file.now first.now slot_seed.now (second.now ∷ reg_seed.now ∷ []) ≡ None) (λ c. by_options command.now file.now first.now slot_seed.now (second.now ∷ reg_seed.now ∷ []) ≡ Some (asked c)) }
 {
     if command != "compile"
         || !names_file(file.as_bytes())
@@ -93,7 +97,7 @@ fn build_words<'a>(
     third: &'a str,
     layout_seed: &'a str,
 ) -> Option<Command<'a>>
-    ensures { MatchOption result (reading_of (command.now ∷ file.now ∷ first.now ∷ slot_seed.now ∷ second.now ∷ reg_seed.now ∷ third.now ∷ layout_seed.now ∷ []) ≡ None) (λ c. reading_of (command.now ∷ file.now ∷ first.now ∷ slot_seed.now ∷ second.now ∷ reg_seed.now ∷ third.now ∷ layout_seed.now ∷ []) ≡ Some (asked c)) }
+    ensures { MatchOption result (by_options command.now file.now first.now slot_seed.now (second.now ∷ reg_seed.now ∷ third.now ∷ layout_seed.now ∷ []) ≡ None) (λ c. by_options command.now file.now first.now slot_seed.now (second.now ∷ reg_seed.now ∷ third.now ∷ layout_seed.now ∷ []) ≡ Some (asked c)) }
 {
     if command != "build"
         || !names_file(file.as_bytes())
@@ -114,20 +118,56 @@ fn build_words<'a>(
     })
 }
 
-/// The values of `run`, where that is the command.
-fn run_words<'a>(
+/// The values of `run` or `lay`, where that is the command.
+fn run_or_lay_words<'a>(
     command: &'a str,
     file: &'a str,
     option: &'a str,
-    steps: &'a str,
+    value: &'a str,
 ) -> Option<Command<'a>>
-    ensures { MatchOption result (reading_of (command.now ∷ file.now ∷ option.now ∷ steps.now ∷ []) ≡ None) (λ c. reading_of (command.now ∷ file.now ∷ option.now ∷ steps.now ∷ []) ≡ Some (asked c)) }
+    ensures { MatchOption result (by_options command.now file.now option.now value.now [] ≡ None) (λ c. by_options command.now file.now option.now value.now [] ≡ Some (asked c)) }
 {
-    if command != "run" || !names_file(file.as_bytes()) || option != "--steps" {
+    if !names_file(file.as_bytes()) {
         return None;
     }
-    let steps = number(steps.as_bytes())?;
-    Some(Command::Run { file, steps })
+    let n = number(value.as_bytes())?;
+    if command == "run" && option == "--steps" {
+        Some(Command::Run { file, steps: n })
+    } else if command == "lay" && option == "--layout-seed" {
+        Some(Command::Lay {
+            file,
+            layout_seed: n,
+        })
+    } else {
+        None
+    }
+}
+
+/// What a command and a file ask for with their options and values, or none.
+fn read_options<'a>(
+    command: &'a str,
+    file: &'a str,
+    first: &'a str,
+    a: &'a str,
+    others: &'a [String],
+) -> Option<Command<'a>>
+    ensures { MatchOption result (by_options command.now file.now first.now a.now (map string_bytes others.now) ≡ None) (λ c. by_options command.now file.now first.now a.now (map string_bytes others.now) ≡ Some (asked c)) }
+{
+    match others {
+        [] => run_or_lay_words(command, file, first, a),
+        [second, b] => compile_words(command, file, first, a, second.as_str(), b.as_str()),
+        [second, b, third, c] => build_words(
+            command,
+            file,
+            first,
+            a,
+            second.as_str(),
+            b.as_str(),
+            third.as_str(),
+            c.as_str(),
+        ),
+        _ => None,
+    }
 }
 
 /// What the words ask for, or none.
@@ -135,30 +175,15 @@ pub fn read_words<'a>(words: &'a [String]) -> Option<Command<'a>>
     ensures { MatchOption result (reading_of (map string_bytes words.now) ≡ None) (λ c. reading_of (map string_bytes words.now) ≡ Some (asked c)) }
 {
     match words {
-        [command, file, first, a, second, b] => compile_words(
-            command.as_str(),
-            file.as_str(),
-            first.as_str(),
-            a.as_str(),
-            second.as_str(),
-            b.as_str(),
-        ),
-        [command, file, first, a, second, b, third, c] => build_words(
-            command.as_str(),
-            file.as_str(),
-            first.as_str(),
-            a.as_str(),
-            second.as_str(),
-            b.as_str(),
-            third.as_str(),
-            c.as_str(),
-        ),
-        [command, file, option, n] => run_words(
-            command.as_str(),
-            file.as_str(),
-            option.as_str(),
-            n.as_str(),
-        ),
+        [command, file, first, a, others @ ..] => {
+            read_options(
+                command.as_str(),
+                file.as_str(),
+                first.as_str(),
+                a.as_str(),
+                others,
+            )
+        }
         _ => None,
     }
 }
