@@ -11,6 +11,7 @@ mod code;
 mod image;
 pub mod law;
 mod order;
+pub mod readable;
 mod slots;
 
 pub use image::lay;
