@@ -2,10 +2,10 @@
 
 ghost use Rattle.std.specs.Prelude.{ℕ, ◌≡◌, ◌+◌, ◌%◌, ◌^◌, ◌<◌, ◌≤◌, ◌++◌, length, take, drop, OnOk, IfOk};
 ghost use Rattle.rd_draw.specs.Draw.{keystream_word};
-ghost use Rattle.obj_lay.specs.Layout.{linked, piece, placed, code_base, gap_purpose, start_behind, starts_from, code_from, displacement, overlaid, slot_in, address_by, address_in};
+ghost use Rattle.obj_lay.specs.Layout.{linked, piece, placed, code_base, gap_purpose, start_behind, starts_from, code_from, displacement, overlaid, slot_in};
 
-use crate::bytes::{address_at, number_at, overlay, put_filler, round_up, slot_address, way};
-use obj_core::object::{CodeAt, Func, Link};
+use crate::bytes::{overlay, put_filler, round_up, slot_address, way};
+use obj_core::object::{Func, Link};
 use rd_draw::Draw;
 use rd_num::list::List;
 use rd_num::width::NoMemory;
@@ -120,42 +120,4 @@ fn fill_link(all: &mut List<u8>, front: usize, link: &Link, positions: &[u32], s
     let end = start + u64::from(link.at) + 4;
     let bytes = way(slot_address(positions, link.slot), end);
     overlay(all, front + link.at as usize, &bytes);
-}
-
-/// Four bytes that lead from the end of an instruction to a byte of a function. Takes no memory.
-#[tactic(auto, using(crate::proofs::Pieces::displacement_again))]
-pub fn way_to_code(
-    functions: &[Func],
-    places: &[u32],
-    starts: &[u64],
-    to: &CodeAt,
-    end: u64,
-) -> [u8; 4]
-    requires { end < 2 ^ 63 }
-    ensures { result ≡ displacement (address_in functions.now places.now starts.now to.now) end }
-{
-    way(code_address(functions, places, starts, to), end)
-}
-
-/// The address of a byte of a function, modulo 2^64. Takes no memory.
-#[tactic(auto, using(crate::proofs::Pieces::address_some, crate::proofs::Pieces::address_none))]
-fn code_address(functions: &[Func], places: &[u32], starts: &[u64], to: &CodeAt) -> u64
-    ensures { result ≡ address_in functions.now places.now starts.now to.now % 2 ^ 64 }
-{
-    match functions.get(to.function as usize) {
-        Some(f) => address_inside(f, places, starts, to),
-        None => 0,
-    }
-}
-
-/// The address of a byte of a function that is there, modulo 2^64. Takes no memory.
-fn address_inside(function: &Func, places: &[u32], starts: &[u64], to: &CodeAt) -> u64
-    ensures { result ≡ address_by places.now starts.now to.now (Some function.now) % 2 ^ 64 }
-{
-    if (to.offset as usize) < function.bytes.len() {
-        let place = number_at(places, to.function as usize);
-        address_at(starts, place as usize).wrapping_add(u64::from(to.offset))
-    } else {
-        0
-    }
 }

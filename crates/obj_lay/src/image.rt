@@ -1,6 +1,7 @@
 //! The image of an object: slots, data and code, each in a segment of its own.
 
-ghost use Rattle.std.specs.Prelude.{ℕ, ◌≡◌, ◌++◌, ◌<◌, ◌≤◌, ◌^◌, length, OnOk, IfOk};
+ghost use Rattle.std.specs.Prelude.{ℕ, ◌≡◌, ◌++◌, ◌<◌, ◌≤◌, ◌^◌, length, OnOk, IfOk, if◌then◌else◌};
+ghost use Rattle.machine_core.specs.Data.{segment as segment_of};
 ghost use Rattle.obj_core.specs.Slots.{positions as positions_of};
 ghost use Rattle.obj_core.specs.WellFormed.{IsWellFormed};
 ghost use Rattle.elf_file.specs.Sound.{IsSound};
@@ -9,12 +10,12 @@ ghost use Rattle.obj_lay.specs.Layout.{piece, order as order_of, starts as start
 use crate::bytes::{SLOT_BASE, slot_address};
 use crate::code::{Code, put_code};
 use crate::order::inverted;
+use crate::readable::ReadBuilder;
 use crate::slots::put_slots;
 use bitflags::Flags;
 use obj_core::checked::Checked;
 use obj_core::object::Object;
 use rd_draw::{perm, shuffle_known};
-use rd_num::copied::copy_list;
 use rd_num::list::List;
 use rd_num::width::NoMemory;
 use std::alloc::Global;
@@ -31,11 +32,7 @@ const ORDER_PURPOSE: u32 = 1;
 
 const SLOT_PURPOSE: u32 = 2;
 
-/// The rights to read, and to read and write.
-const READ: u8 = 4;
-
-const READ_WRITE: u8 = 6;
-
+/// The right to run.
 const RUN: u8 = 1;
 
 /// The image of an object for a layout seed, which is sound. Time and memory are linear in the image.
@@ -160,32 +157,43 @@ fn four_segments(
     ensures { IfOk result (λ all. all ≡ present 268435456 slots 1 ++ (present 536870912 o.now.ro 4 ++ (present 805306368 o.now.rw 6 ++ present base code 1))) }
 {
     let mut all = List::new(alloc);
-    let ro = copy_list(alloc, o.ro.as_slice())?;
-    let rw = copy_list(alloc, o.rw.as_slice())?;
-    put_segment(&mut all, SLOT_BASE, slots, RUN)?;
-    put_segment(&mut all, RO_START, ro, READ)?;
-    put_segment(&mut all, RW_START, rw, READ_WRITE)?;
-    put_segment(&mut all, base, code, RUN)?;
+    let ro = data(alloc, RO_START, o.ro.as_slice(), false)?;
+    let rw = data(alloc, RW_START, o.rw.as_slice(), true)?;
+    put_segment(&mut all, runnable(SLOT_BASE, slots))?;
+    put_segment(&mut all, ro)?;
+    put_segment(&mut all, rw)?;
+    put_segment(&mut all, runnable(base, code))?;
     Ok(all)
 }
 
-/// Puts a segment at the end, unless it is empty.
-fn put_segment(
-    all: &mut List<Segment>,
-    start: u64,
-    bytes: List<u8>,
-    rights: u8,
-) -> Result<(), NoMemory>
-    ensures { OnOk result (all.new ≡ all.old ++ present start bytes rights) }
+/// A readable segment of these bytes.
+fn data(alloc: Global, start: u64, bytes: &[u8], writable: bool) -> Result<Segment, NoMemory>
+    ensures { IfOk result (λ s. s ≡ segment_of start bytes.now (if writable then 6 else 4)) }
 {
-    if bytes.is_empty() {
-        return Ok(());
-    }
-    all.add(Segment {
+    let mut builder = ReadBuilder::new(alloc, start);
+    builder.bytes(bytes)?;
+    Ok(builder.finish(writable))
+}
+
+/// A segment that may be run alone. Takes no memory.
+fn runnable(start: u64, bytes: List<u8>) -> Segment
+    ensures { result ≡ segment_of start bytes 1 }
+{
+    Segment {
         start,
         bytes,
-        rights: Rights::from_bits_retain(rights),
-    })
+        rights: Rights::from_bits_retain(RUN),
+    }
+}
+
+/// Puts a segment at the end, unless it is empty.
+fn put_segment(all: &mut List<Segment>, segment: Segment) -> Result<(), NoMemory>
+    ensures { OnOk result (all.new ≡ all.old ++ present segment.start segment.bytes segment.rights.0) }
+{
+    if segment.bytes.is_empty() {
+        return Ok(());
+    }
+    all.add(segment)
 }
 
 /// Where slots stand, by their numbers.

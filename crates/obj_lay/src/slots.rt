@@ -4,7 +4,7 @@ ghost use Rattle.std.specs.Prelude.{◌≡◌, ◌+◌, ◌<◌, ◌^◌, ◌++�
 ghost use Rattle.obj_lay.specs.Layout.{address_in, start_of, jump, call, filler, trampoline, trampolines, displacement};
 
 use crate::bytes::{put_filler, slot_address};
-use crate::code::way_to_code;
+use crate::hidden::{place, put_branch};
 use obj_core::object::{CodeAt, Func, Slot};
 use rd_num::list::List;
 use rd_num::width::NoMemory;
@@ -66,7 +66,7 @@ fn put_slot(
         Slot::Jump { target } => put_entry(all, functions, places, starts, at, *target),
         Slot::Call { target, back } => {
             let to = start(*target);
-            put_branch(all, 0xE8, functions, places, starts, &to, at + 5)?;
+            put_way(all, 0xE8, functions, places, starts, &to, at + 5)?;
             put_back(all, functions, places, starts, at, back)
         }
         Slot::Indirect { back } => {
@@ -93,7 +93,7 @@ fn put_entry(
     ensures { OnOk result (all.new ≡ all.old ++ (jump (address_in functions.now places.now starts.now (start_of target)) (at + 5) ++ filler 11)) }
 {
     let to = start(target);
-    put_branch(all, 0xE9, functions, places, starts, &to, at + 5)?;
+    put_way(all, 0xE9, functions, places, starts, &to, at + 5)?;
     put_filler(all, 11)?;
     Ok(())
 }
@@ -110,13 +110,14 @@ fn put_back(
     requires { at < 2 ^ 40 }
     ensures { OnOk result (all.new ≡ all.old ++ (jump (address_in functions.now places.now starts.now back.now) (at + 10) ++ filler 6)) }
 {
-    put_branch(all, 0xE9, functions, places, starts, back, at + 10)?;
+    put_way(all, 0xE9, functions, places, starts, back, at + 10)?;
     put_filler(all, 6)?;
     Ok(())
 }
 
-/// An opcode and the displacement to a byte of a function, for an instruction that ends at an address.
-fn put_branch(
+/// Puts an opcode and the displacement to a byte of a function at the end.
+#[tactic(auto, using(crate::proofs::Pieces::displacement_again))]
+fn put_way(
     all: &mut List<u8>,
     opcode: u8,
     functions: &[Func],
@@ -128,9 +129,8 @@ fn put_branch(
     requires { end < 2 ^ 41 }
     ensures { OnOk result (all.new ≡ all.old ++ opcode ∷ displacement (address_in functions.now places.now starts.now to.now) end) }
 {
-    all.add(opcode)?;
-    all.append(&way_to_code(functions, places, starts, to, end))?;
-    Ok(())
+    let address = place(functions, places, starts, to);
+    put_branch(all, opcode, &address, end)
 }
 
 /// The first byte of a function. Takes no memory.
