@@ -7,3 +7,4 @@ pub mod Worked
 pub mod Starts
 pub mod Rules
 pub mod Closed
+pub mod Filling
