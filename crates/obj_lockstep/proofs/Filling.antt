@@ -58,7 +58,7 @@ behind_stays e d at (i ∷ is) h le =
     ap (λ t. (if t then redirected d i else i) ∷ with_branch e d (at + size_of i) is) differ ∙ ap (λ r. i ∷ r) (behind_stays e d (at + size_of i) is h.1 (omega (arith, le)))
 
 -- one branch gets the displacement
-one_branch : (d : ℤ) (before : List Instr) (i : Instr) (after : List Instr) (at e : ℕ) → Each IsInstr (before ++ i ∷ after) → e ≡ at + length (spelled before) + size_of i → with_branch e d at (before ++ i ∷ after) ≡ before ++ redirected d i ∷ after
+pub one_branch : (d : ℤ) (before : List Instr) (i : Instr) (after : List Instr) (at e : ℕ) → Each IsInstr (before ++ i ∷ after) → e ≡ at + length (spelled before) + size_of i → with_branch e d at (before ++ i ∷ after) ≡ before ++ redirected d i ∷ after
 one_branch d [] i after at e h same =
     let here : nat_eq (at + size_of i) e ≡ true = eq-eqb (at + size_of i) e (omega (arith, same)) in
     ap (λ t. (if t then redirected d i else i) ∷ with_branch e d (at + size_of i) after) here ∙ ap (λ r. redirected d i ∷ r) (behind_stays e d (at + size_of i) after h.1 (omega (arith, same)))
@@ -83,13 +83,13 @@ pub record IsBranch (i : Instr) : Type 0 where
   pub spells : (d : ℤ) → encoding (redirected d i) ≡ opcode ++ number32 d
   pub itself : encoding i ≡ opcode ++ number32 by
 
-branch_is : (i : Instr) (by : ℤ) → displacement i ≡ Some by → IsBranch i
+pub branch_is : (i : Instr) (by : ℤ) → displacement i ≡ Some by → IsBranch i
 branch_is (Jcc c d) by h = record { opcode = 0x0F ∷ (0x80 + cond_code c) ∷ []; by = d; spells = λ x. refl; itself = refl }
 branch_is (Jmp d) by h = record { opcode = 0xE9 ∷ []; by = d; spells = λ x. refl; itself = refl }
 branch_is i by h = absurd (cc)
 
 -- the bytes of a row with one branch patched
-patched_branch : (d : ℤ) (before : List Instr) (i : Instr) (after : List Instr) (at : ℕ) → IsBranch i → at + 4 ≡ length (spelled before) + size_of i → patched (spelled (before ++ i ∷ after)) at (number32 d) ≡ spelled (before ++ redirected d i ∷ after)
+pub patched_branch : (d : ℤ) (before : List Instr) (i : Instr) (after : List Instr) (at : ℕ) → IsBranch i → at + 4 ≡ length (spelled before) + size_of i → patched (spelled (before ++ i ∷ after)) at (number32 d) ≡ spelled (before ++ redirected d i ∷ after)
 patched_branch d before i after at b e =
     let front = spelled before ++ b.opcode in
     let parts : (x : ℤ) (j : Instr) → encoding j ≡ b.opcode ++ number32 x → spelled (before ++ j ∷ after) ≡ front ++ (number32 x ++ spelled after) = λ x j s.

@@ -8,3 +8,4 @@ pub mod Starts
 pub mod Rules
 pub mod Closed
 pub mod Filling
+pub mod Filled
