@@ -50,16 +50,16 @@ position_below o k lt =
     let words = keystream_word o.slot_seed slot_purpose 0 in
     shuffled_below words (length o.slots) k 0 (omega (arith, lt, shuffled_long words (length o.slots)))
 
-slot_fits : (o : Object) (k : ℕ) → length o.slots ≤ 1048576 → k < length o.slots → slot_start o k + 5 < 2 ^ 64
+pub slot_fits : (o : Object) (k : ℕ) → length o.slots ≤ 1048576 → k < length o.slots → slot_start o k + 5 < 2 ^ 64
 slot_fits o k few lt = omega (arith, few, position_below o k lt)
 
 -- the bytes of a function from an instruction on
-bytes_from : (bytes : List ℕ) (cut : List Instr) (off : ℕ) → IsCut bytes cut → (h : IsIn cut 0 off) → drop off bytes ≡ encoding h.instr ++ spelled h.after
+pub bytes_from : (bytes : List ℕ) (cut : List Instr) (off : ℕ) → IsCut bytes cut → (h : IsIn cut 0 off) → drop off bytes ≡ encoding h.instr ++ spelled h.after
 bytes_from bytes cut off c h =
     let split : bytes ≡ spelled h.before ++ (encoding h.instr ++ spelled h.after) = sym c.whole ∙ ap spelled h.split ∙ spelled-append h.before (h.instr ∷ h.after) in
     ap (drop off) split ∙ drop_at (spelled h.before) (encoding h.instr ++ spelled h.after) off (omega (arith, h.offset))
 
-instr_from : (bytes : List ℕ) (cut : List Instr) (off : ℕ) → IsCut bytes cut → (h : IsIn cut 0 off) → IsInstr h.instr
+pub instr_from : (bytes : List ℕ) (cut : List Instr) (off : ℕ) → IsCut bytes cut → (h : IsIn cut 0 off) → IsInstr h.instr
 instr_from bytes cut off c h = (each_right IsInstr h.before (h.instr ∷ h.after) (subst (Each IsInstr) h.split c.instructions)).0
 
 module _ (o : Object) (well : IsWellFormed o) where

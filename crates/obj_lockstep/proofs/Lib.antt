@@ -9,3 +9,6 @@ pub mod Rules
 pub mod Closed
 pub mod Filling
 pub mod Filled
+pub mod Sizes
+pub mod Displacements
+pub mod Functions
