@@ -4,10 +4,7 @@ use Rattle.std.specs.Prelude.{nat_le, ℤ, pos, negsuc}
 use Rattle.std.proofs.lemmas.Bool.{leb-true, leb-false}
 use Rattle.x86_core.specs.Arithmetic.{moved}
 use Rattle.x86_core.specs.Encoding.{IsNumber32}
-
--- from an address to another
-abbrev pub between : ℕ → ℕ → ℤ
-between from to = if nat_le from to then pos (to - from) else negsuc (from - to - 1)
+use Rattle.obj_lockstep.specs.Filled.{between}
 
 leads_by : (from to : ℕ) → from < 2 ^ 64 → to < 2 ^ 64 → (t : Bool) → nat_le from to ≡ t → moved (from % 2 ^ 64) (if t then pos (to - from) else negsuc (from - to - 1)) ≡ to
 leads_by from to a b true e = let le : from ≤ to = leb-true from to e in omega (arith, a, b, le)

@@ -12,8 +12,9 @@ use Rattle.obj_core.specs.Cut.{Found, found, found_from, spelled, size_of}
 use Rattle.obj_core.specs.WellFormed.{displacement, is_zero, end_of, fills_zero, is_good_link, bad_links, is_linked}
 use Rattle.obj_core.specs.SymbolicMachine.{link_before}
 use Rattle.obj_core.proofs.Cuts.{spelled-append}
+use Rattle.obj_lockstep.specs.Filled.{patched, patched_all, InRange}
 use Rattle.obj_lockstep.proofs.Starts.{other_empty}
-use Rattle.obj_lockstep.proofs.Filling.{patched, redirected, redirected_at, with_branch, one_branch, IsBranch, branch_is, patched_branch}
+use Rattle.obj_lockstep.proofs.Filling.{redirected, redirected_at, with_branch, one_branch, IsBranch, branch_is, patched_branch}
 
 each_map : {T : Type 0} (P Q : T → Type 0) (xs : List T) → ((x : T) → P x → Q x) → Each P xs → Each Q xs
 each_map P Q [] f h = tt
@@ -116,11 +117,7 @@ pub record Behind (cut : List Instr) (off : ℕ) (i : Instr) : Type 0 where
   pub long : length (spelled front) ≡ off
 
 module _ (disp : Link → ℤ) where
-  -- the bytes, the row, and one instruction, with all links filled in
-  abbrev pub patched_all : List Link → List ℕ → List ℕ
-  patched_all [] bytes = bytes
-  patched_all (l ∷ ls) bytes = patched_all ls (patched bytes l.at (number32 (disp l)))
-
+  -- a row and one instruction with all links filled in
   abbrev pub filled : List Link → List Instr → List Instr
   filled [] cut = cut
   filled (l ∷ ls) cut = filled ls (with_branch (l.at + 4) (disp l) 0 cut)
@@ -128,9 +125,6 @@ module _ (disp : Link → ℤ) where
   abbrev pub filled_one : List Link → ℕ → Instr → Instr
   filled_one [] e i = i
   filled_one (l ∷ ls) e i = filled_one ls e (if nat_eq e (l.at + 4) then redirected (disp l) i else i)
-
-  abbrev pub InRange : List Link → Type 0
-  InRange ls = Each (λ l. IsNumber32 (disp l)) ls
 
   one_patched : (l : Link) (cut : List Instr) → Each IsInstr cut → EndsBranch cut 0 l.at → patched (spelled cut) l.at (number32 (disp l)) ≡ spelled (with_branch (l.at + 4) (disp l) 0 cut)
   one_patched l cut h x =
@@ -140,14 +134,14 @@ module _ (disp : Link → ℤ) where
       sym (ap spelled (ap (with_branch (l.at + 4) (disp l) 0) x.split ∙ whole))
 
   -- patched bytes spell the filled row
-  pub patched_spelled : (ls : List Link) (cut : List Instr) → Each IsInstr cut → InRange ls → Each (λ (l : Link). EndsBranch cut 0 l.at) ls → patched_all ls (spelled cut) ≡ spelled (filled ls cut)
+  pub patched_spelled : (ls : List Link) (cut : List Instr) → Each IsInstr cut → InRange disp ls → Each (λ (l : Link). EndsBranch cut 0 l.at) ls → patched_all disp ls (spelled cut) ≡ spelled (filled ls cut)
   patched_spelled [] cut h r x = refl
   patched_spelled (l ∷ ls) cut h r x =
       let next = with_branch (l.at + 4) (disp l) 0 cut in
       let ends = each_map (λ (m : Link). EndsBranch cut 0 m.at) (λ (m : Link). EndsBranch next 0 m.at) ls (λ m y. ends_with (l.at + 4) (disp l) cut m.at y) x.1 in
-      ap (patched_all ls) (one_patched l cut h x.0) ∙ patched_spelled ls next (each_with (l.at + 4) (disp l) r.0 0 cut h) r.1 ends
+      ap (patched_all disp ls) (one_patched l cut h x.0) ∙ patched_spelled ls next (each_with (l.at + 4) (disp l) r.0 0 cut h) r.1 ends
 
-  pub filled_instrs : (ls : List Link) (cut : List Instr) → Each IsInstr cut → InRange ls → Each IsInstr (filled ls cut)
+  pub filled_instrs : (ls : List Link) (cut : List Instr) → Each IsInstr cut → InRange disp ls → Each IsInstr (filled ls cut)
   filled_instrs [] cut h r = h
   filled_instrs (l ∷ ls) cut h r = filled_instrs ls (with_branch (l.at + 4) (disp l) 0 cut) (each_with (l.at + 4) (disp l) r.0 0 cut h) r.1
 

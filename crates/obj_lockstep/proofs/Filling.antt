@@ -16,11 +16,8 @@ use Rattle.obj_core.specs.Cut.{Found, found, found_from, spelled, size_of}
 use Rattle.obj_core.specs.WellFormed.{displacement, end_of, fills_zero, is_good_link, bad_links, is_linked}
 use Rattle.obj_core.specs.SymbolicMachine.{link_before}
 use Rattle.obj_core.proofs.Cuts.{spelled-append, length-spelled-append, each_right, each_left}
+use Rattle.obj_lockstep.specs.Filled.{patched}
 use Rattle.obj_lockstep.proofs.Starts.{other_empty}
-
--- bytes with others in the place of those from an index on
-abbrev pub patched : List ℕ → ℕ → List ℕ → List ℕ
-patched bytes at new = take at bytes ++ (new ++ drop (at + length new) bytes)
 
 -- a branch with another displacement
 abbrev pub redirected : ℤ → Instr → Instr

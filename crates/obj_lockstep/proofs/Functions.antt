@@ -22,14 +22,15 @@ use Rattle.obj_core.specs.WellFormed.{bad_branches, displacement, is_linked, goe
 use Rattle.obj_core.specs.SymbolicMachine.{link_before, target}
 use Rattle.obj_core.proofs.Cuts.{spelled-append, each_right}
 use Rattle.obj_lockstep.specs.Placed.{IsAt, IsAtTo, HasInstr}
-use Rattle.obj_lockstep.specs.Places.{CodeBytes}
+use Rattle.obj_lockstep.specs.Places.{is_code_place, CodeBytes, IsLaid}
+use Rattle.obj_lockstep.specs.Filled.{between, patched_all, to_slot, InRange, IsFilledIn, IsFilled}
 use Rattle.obj_lockstep.proofs.Starts.{IsIn, start_is_in, branch_goes}
-use Rattle.obj_lockstep.proofs.Rules.{LinkSays, link_says, function_keeps}
+use Rattle.obj_lockstep.proofs.Rules.{HasCut, function_of_cut, LinkSays, link_says, function_keeps}
 use Rattle.obj_lockstep.proofs.Closed.{slot_fits, bytes_from, instr_from}
 use Rattle.obj_lockstep.proofs.Filling.{redirected, size_some}
-use Rattle.obj_lockstep.proofs.Filled.{Behind, patched_all, filled, filled_one, InRange, patched_spelled, filled_instrs, filled_behind, ByLink, FilledBy, filled_says, links_branch}
+use Rattle.obj_lockstep.proofs.Filled.{Behind, filled, filled_one, patched_spelled, filled_instrs, filled_behind, ByLink, FilledBy, filled_says, links_branch}
 use Rattle.obj_lockstep.proofs.Sizes.{size_small}
-use Rattle.obj_lockstep.proofs.Displacements.{between, between_leads, moved_inside}
+use Rattle.obj_lockstep.proofs.Displacements.{between_leads, moved_inside}
 
 -- bytes begin with one instruction at most
 one_instr : (bytes : List ℕ) (i j : Instr) (r s : List ℕ) → IsInstr i → IsInstr j → bytes ≡ encoding i ++ r → bytes ≡ encoding j ++ s → i ≡ j
@@ -55,19 +56,6 @@ inside : (bytes : List ℕ) (cut : List Instr) (off : ℕ) → IsCut bytes cut �
 inside bytes cut off c h =
     let whole : length bytes ≡ length (spelled h.before ++ (encoding h.instr ++ spelled h.after)) = ap length (sym c.whole ∙ ap spelled h.split ∙ spelled-append h.before (h.instr ∷ h.after)) in
     omega (arith, whole, h.offset, length-append (spelled h.before) (encoding h.instr ++ spelled h.after), length-append (encoding h.instr) (spelled h.after))
-
--- the displacement that a link gets in a function that starts at an address
-abbrev pub to_slot : Object → ℕ → Link → ℤ
-to_slot o start l = between (start + l.at + 4) (slot_start o l.slot)
-
--- a function stands at an address, with its links filled in and other bytes behind it
-pub record IsFilledIn (exec : List Segment) (place : Place → ℕ) (o : Object) (n : ℕ) (f : Func) : Type 0 where
-  pub start : ℕ
-  pub low : start + length f.bytes < 2 ^ 63
-  pub address : (off : ℕ) → off < length f.bytes → place (Place.Code n off) ≡ start + off
-  pub range : InRange (to_slot o start) f.links
-  pub rest : List ℕ
-  pub bytes : (off : ℕ) → off < length f.bytes → code_at exec (start + off) ≡ Some (take 16 (drop off (patched_all (to_slot o start) f.links f.bytes ++ rest)))
 
 module _ (exec : List Segment) (place : Place → ℕ) (o : Object) (well : IsWellFormed o) (slots_at : (k : ℕ) → place (Place.Slot k 0) ≡ slot_start o k) (n : ℕ) (f : Func) (cut : List Instr) (e : slice_get o.functions n ≡ Some f) (d : slice_get well.cuts n ≡ Some cut) (c : IsCut f.bytes cut) (h : IsFilledIn exec place o n f) where
   abbrev disp : Link → ℤ
@@ -147,3 +135,40 @@ module _ (exec : List Segment) (place : Place → ℕ) (o : Object) (well : IsWe
       let bytes : drop off f.bytes ≡ encoding s.instr ++ s.rest = ap (λ (g : Func). drop off g.bytes) func ∙ s.bytes in
       let same : p.instr ≡ s.instr = one_instr (drop off f.bytes) p.instr s.instr (spelled p.after) s.rest is s.is_instr (bytes_from f.bytes cut off c p) bytes in
       subst (λ g. CodeBytes exec place o g n off s.instr) func (subst (CodeBytes exec place o f n off) same here)
+
+  -- neighbours stand side by side
+  function_neighbours : (off size : ℕ) → starts_at (found cut) off ≡ true → starts_at (found cut) (off + size) ≡ true → place (Place.Code n (off + size)) ≡ (place (Place.Code n off) + size) % 2 ^ 64
+  function_neighbours off size first second =
+      let p = start_is_in cut 0 off first in
+      let q = start_is_in cut 0 (off + size) second in
+      let lt : off < length f.bytes = omega (arith, inside f.bytes cut off c p, size_some p.instr (instr_from f.bytes cut off c p)) in
+      let end : off + size < length f.bytes = omega (arith, inside f.bytes cut (off + size) c q, size_some q.instr (instr_from f.bytes cut (off + size) c q)) in
+      let here = h.address off lt in
+      let there = h.address (off + size) end in
+      omega (arith, here, there, end, h.low)
+
+-- functions that stand whole, with their links filled in, are laid
+module _ (exec : List Segment) (place : Place → ℕ) (o : Object) (well : IsWellFormed o) (h : IsFilled exec place o) where
+  slots_at : (k : ℕ) → place (Place.Slot k 0) ≡ slot_start o k
+  slots_at k = let e = h.addresses k 0 in omega arith
+
+  code_laid : (n off : ℕ) (x : Option (List Instr)) → slice_get well.cuts n ≡ x → is_code_place x off ≡ true → (s : HasInstr o n off) → CodeBytes exec place o s.func n off s.instr
+  code_laid n off None d there s = absurd (cc)
+  code_laid n off (Some cut) d there s =
+      let c = function_of_cut o.functions well.cuts well.cut n cut d in
+      function_code exec place o well slots_at n c.func cut c.found d c.is_cut (h.functions n c.func c.found) off there s
+
+  code_neighbours : (n off size : ℕ) (x : Option (List Instr)) → slice_get well.cuts n ≡ x → is_code_place x off ≡ true → is_code_place x (off + size) ≡ true → place (Place.Code n (off + size)) ≡ (place (Place.Code n off) + size) % 2 ^ 64
+  code_neighbours n off size None d first second = absurd (cc)
+  code_neighbours n off size (Some cut) d first second =
+      let c = function_of_cut o.functions well.cuts well.cut n cut d in
+      function_neighbours exec place o well slots_at n c.func cut c.found d c.is_cut (h.functions n c.func c.found) off size first second
+
+  pub filled_laid : IsLaid exec place o well.cuts
+  filled_laid = record {
+    hidden = h.hidden;
+    code = λ n off there s. code_laid n off (slice_get well.cuts n) refl there s;
+    neighbours = λ n off size first second. code_neighbours n off size (slice_get well.cuts n) refl first second;
+    slots = h.slots;
+    addresses = h.addresses;
+  }
