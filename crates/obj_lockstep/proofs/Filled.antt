@@ -1,7 +1,6 @@
 -- All links of a function filled in: what stands at the start of each instruction.
-use Rattle.std.proofs.Common.{◌≡◌, ℕ, zero, suc, ◌+◌, ◌≤◌, ◌<◌, Bool, true, false, ◌||◌, ◌&&◌, List, [], ◌∷◌, ◌++◌, length, drop, Option, Some, None, refl, sym, ◌∙◌, ap, subst, inl, inr, if◌then◌else◌, arith, length-append}
+use Rattle.std.proofs.Common.{◌≡◌, ℕ, ◌+◌, ◌≤◌, ◌<◌, Bool, true, false, ◌||◌, ◌&&◌, List, [], ◌∷◌, ◌++◌, length, Option, Some, None, refl, sym, ◌∙◌, ap, subst, inl, inr, if◌then◌else◌, arith, length-append}
 use Rattle.std.specs.Prelude.{nat_eq, nat_lt, ℤ}
-use Rattle.std.proofs.lemmas.List.{drop_at}
 use Rattle.std.proofs.lemmas.Bool.{eqb-true, eqb-false, eq-eqb, ne_eqb, and_parts, or_cases, or_parts, ltb-true}
 use Rattle.x86_core.specs.declared.instr.Instr.{Instr}
 use Rattle.x86_core.specs.declared.instr.Instr.TheVariants.{Jcc, Jmp}
@@ -9,9 +8,8 @@ use Rattle.x86_core.specs.Encoding.{encoding, number32, IsInstr, IsNumber32}
 use Rattle.obj_core.specs.declared.object.Link.{Link}
 use Rattle.obj_core.specs.Object.{Each}
 use Rattle.obj_core.specs.Cut.{Found, found, found_from, spelled, size_of}
-use Rattle.obj_core.specs.WellFormed.{displacement, is_zero, end_of, fills_zero, is_good_link, bad_links, is_linked}
+use Rattle.obj_core.specs.WellFormed.{displacement, is_zero, fills_zero, is_good_link, bad_links, is_linked}
 use Rattle.obj_core.specs.SymbolicMachine.{link_before}
-use Rattle.obj_core.proofs.Cuts.{spelled-append}
 use Rattle.obj_lockstep.specs.Filled.{patched, patched_all, InRange}
 use Rattle.obj_lockstep.proofs.Starts.{other_empty}
 use Rattle.obj_lockstep.proofs.Filling.{redirected, redirected_at, with_branch, one_branch, IsBranch, branch_is, patched_branch}
@@ -116,6 +114,9 @@ pub record Behind (cut : List Instr) (off : ℕ) (i : Instr) : Type 0 where
   pub split : cut ≡ front ++ i ∷ rest
   pub long : length (spelled front) ≡ off
 
+carried : (cut other : List Instr) (off : ℕ) (i : Instr) → cut ≡ other → Behind other off i → Behind cut off i
+carried cut other off i e h = record { front = h.front; rest = h.rest; split = e ∙ h.split; long = h.long }
+
 module _ (disp : Link → ℤ) where
   -- a row and one instruction with all links filled in
   abbrev pub filled : List Link → List Instr → List Instr
@@ -155,8 +156,8 @@ module _ (disp : Link → ℤ) where
       let size = size_at f (disp l) off i in
       let whole = split_with f (disp l) before i after 0 off (omega (arith, long)) in
       let more = filled_behind ls (with_branch f (disp l) 0 before) j (with_branch f (disp l) (off + size_of i) after) off e (long_with f (disp l) 0 before ∙ long) (omega (arith, size, end)) in
-      let moved = subst (λ n. Behind (filled ls (with_branch f (disp l) 0 before ++ j ∷ with_branch f (disp l) (off + size_of i) after)) off (filled_one ls e n)) same more in
-      record { front = moved.front; rest = moved.rest; split = ap (filled ls) whole ∙ moved.split; long = moved.long }
+      let others = with_branch f (disp l) 0 before ++ j ∷ with_branch f (disp l) (off + size_of i) after in
+      carried _ (filled ls others) off _ (ap (filled ls) whole) (subst (λ n. Behind (filled ls others) off (filled_one ls e n)) same more)
 
   -- where no link ends nothing changes
   unlinked : (ls : List Link) (e : ℕ) (i : Instr) → is_linked ls e ≡ false → filled_one ls e i ≡ i
@@ -194,6 +195,7 @@ module _ (disp : Link → ℤ) where
     where
       first : filled_one (l ∷ ls) e i ≡ filled_one ls e i
       first = ap (λ t. filled_one ls e (if t then redirected (disp l) i else i)) (ne_eqb e (l.at + 4) (λ z. eqb-false (l.at + 4) e same (sym z)))
+
       by_rest : (o : Option ℕ) → FilledBy ls e i o → FilledBy (l ∷ ls) e i o
       by_rest None h = first ∙ h
       by_rest (Some k) h = record { link = h.link; slot = h.slot; ends = h.ends; filled_so = first ∙ h.filled_so }

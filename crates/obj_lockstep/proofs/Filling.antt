@@ -1,23 +1,19 @@
 -- The bytes of a function whose linked branches get other displacements, one link after another.
-use Rattle.std.proofs.Common.{◌≡◌, ℕ, zero, suc, ◌+◌, ◌-◌, ◌≤◌, ◌<◌, ◌⊎◌, Bool, true, false, ◌||◌, ◌&&◌, List, [], ◌∷◌, ◌++◌, length, take, drop, Option, Some, None, refl, sym, ◌∙◌, ap, subst, inl, inr, if◌then◌else◌, arith, append_assoc, length-append}
-use Rattle.std.specs.Prelude.{nat_eq, nat_lt, ℤ}
+use Rattle.std.proofs.Common.{◌≡◌, ℕ, zero, suc, ◌+◌, ◌≤◌, true, false, List, [], ◌∷◌, ◌++◌, length, drop, Some, refl, sym, ◌∙◌, ap, if◌then◌else◌, arith, append_assoc, length-append}
+use Rattle.std.specs.Prelude.{nat_eq, ℤ}
 use Rattle.std.proofs.lemmas.List.{take_at, drop_at}
-use Rattle.std.proofs.lemmas.Bool.{eqb-true, eq-eqb, ne_eqb, and_parts, ltb-true}
+use Rattle.std.proofs.lemmas.Bool.{eq-eqb, ne_eqb}
 use Rattle.x86_core.specs.declared.instr.Instr.{Instr}
 use Rattle.x86_core.specs.declared.instr.Instr.TheVariants.{Jcc, Jmp}
-use Rattle.x86_core.specs.declared.instr.Decoded.{Decoded}
-use Rattle.x86_core.specs.declared.instr.Decoded.TheVariants.{One, Short, Unknown}
-use Rattle.x86_core.specs.Encoding.{encoding, number32, low32, cond_code, IsInstr, IsNumber32}
+use Rattle.x86_core.specs.declared.instr.Decoded.TheVariants.{One}
+use Rattle.x86_core.specs.Encoding.{encoding, number32, cond_code, IsInstr}
 use Rattle.x86_core.specs.Decoding.{decode}
 use Rattle.x86_core.proofs.Back.{decode_back}
-use Rattle.obj_core.specs.declared.object.Link.{Link}
 use Rattle.obj_core.specs.Object.{Each}
-use Rattle.obj_core.specs.Cut.{Found, found, found_from, spelled, size_of}
-use Rattle.obj_core.specs.WellFormed.{displacement, end_of, fills_zero, is_good_link, bad_links, is_linked}
-use Rattle.obj_core.specs.SymbolicMachine.{link_before}
-use Rattle.obj_core.proofs.Cuts.{spelled-append, length-spelled-append, each_right, each_left}
+use Rattle.obj_core.specs.Cut.{spelled, size_of}
+use Rattle.obj_core.specs.WellFormed.{displacement}
+use Rattle.obj_core.proofs.Cuts.{spelled-append, each_right}
 use Rattle.obj_lockstep.specs.Filled.{patched}
-use Rattle.obj_lockstep.proofs.Starts.{other_empty}
 
 -- a branch with another displacement
 abbrev pub redirected : ℤ → Instr → Instr
@@ -70,7 +66,7 @@ one_branch d (b ∷ bs) i after at e h same =
 patched_between : (front old rest new : List ℕ) (at : ℕ) → length front ≡ at → length old ≡ length new → patched (front ++ (old ++ rest)) at new ≡ front ++ (new ++ rest)
 patched_between front old rest new at e long =
     let back : drop (at + length new) (front ++ (old ++ rest)) ≡ rest =
-        ap (drop (at + length new)) (sym (append_assoc front old rest)) ∙ drop_at (front ++ old) rest (at + length new) (omega (arith, e, long, length-append front old)) in
+    ap (drop (at + length new)) (sym (append_assoc front old rest)) ∙ drop_at (front ++ old) rest (at + length new) (omega (arith, e, long, length-append front old)) in
     ap (λ r. r ++ (new ++ drop (at + length new) (front ++ (old ++ rest)))) (take_at front (old ++ rest) at e) ∙ ap (λ r. front ++ (new ++ r)) back
 
 -- a branch is what stands before its displacement, and the displacement
@@ -90,7 +86,7 @@ pub patched_branch : (d : ℤ) (before : List Instr) (i : Instr) (after : List I
 patched_branch d before i after at b e =
     let front = spelled before ++ b.opcode in
     let parts : (x : ℤ) (j : Instr) → encoding j ≡ b.opcode ++ number32 x → spelled (before ++ j ∷ after) ≡ front ++ (number32 x ++ spelled after) = λ x j s.
-        spelled-append before (j ∷ after) ∙ ap (λ r. spelled before ++ (r ++ spelled after)) s ∙ ap (λ r. spelled before ++ r) (append_assoc b.opcode (number32 x) (spelled after)) ∙ sym (append_assoc (spelled before) b.opcode (number32 x ++ spelled after)) in
+    spelled-append before (j ∷ after) ∙ ap (λ r. spelled before ++ (r ++ spelled after)) s ∙ ap (λ r. spelled before ++ r) (append_assoc b.opcode (number32 x) (spelled after)) ∙ sym (append_assoc (spelled before) b.opcode (number32 x ++ spelled after)) in
     let size : size_of i ≡ length (b.opcode ++ number32 b.by) = ap length b.itself in
     let long : length front ≡ at = omega (arith, e, size, length-append b.opcode (number32 b.by), length-append (spelled before) b.opcode) in
     ap (λ r. patched r at (number32 d)) (parts b.by i b.itself) ∙ patched_between front (number32 b.by) (spelled after) (number32 d) at long refl ∙ sym (parts d (redirected d i) (b.spells d))

@@ -1,5 +1,5 @@
 -- A function whose links are filled in, at an address: what stands at the start of each instruction.
-use Rattle.std.proofs.Common.{◌≡◌, ℕ, suc, ◌+◌, ◌-◌, ◌≤◌, ◌<◌, ◌%◌, ◌^◌, Bool, true, false, ◌||◌, List, [], ◌∷◌, ◌++◌, length, take, drop, Option, Some, None, refl, sym, ◌∙◌, ap, subst, arith, append_assoc, length-append}
+use Rattle.std.proofs.Common.{◌≡◌, ℕ, suc, ◌+◌, ◌-◌, ◌≤◌, ◌<◌, ◌%◌, ◌^◌, true, ◌||◌, List, [], ◌∷◌, ◌++◌, length, take, drop, Option, Some, None, refl, sym, ◌∙◌, ap, subst, arith, append_assoc, length-append}
 use Rattle.std.specs.Prelude.{slice_get, ℤ}
 use Rattle.std.proofs.lemmas.List.{drop_at}
 use Rattle.x86_core.specs.declared.instr.Instr.{Instr}
@@ -10,7 +10,10 @@ use Rattle.x86_core.specs.Arithmetic.{moved}
 use Rattle.x86_core.specs.Encoding.{encoding, IsInstr, IsNumber32}
 use Rattle.x86_core.specs.Decoding.{decode}
 use Rattle.x86_core.proofs.Back.{decode_back}
-use Rattle.machine_core.specs.Memory.{code_at}
+use Rattle.x86_core.specs.declared.image.Image.{Image}
+use Rattle.machine_core.specs.Memory.{code_at, code_of, data_of}
+use Rattle.machine_core.specs.Data.{data_segments}
+use Rattle.machine_core.specs.Machine.{machine_segments}
 use Rattle.obj_core.specs.declared.object.Object.{Object}
 use Rattle.obj_core.specs.declared.object.Func.{Func}
 use Rattle.obj_core.specs.declared.object.Link.{Link}
@@ -21,14 +24,14 @@ use Rattle.obj_core.specs.Cut.{IsCut, found, starts_at, spelled, size_of}
 use Rattle.obj_core.specs.WellFormed.{bad_branches, displacement, is_linked, goes_well, IsWellFormed}
 use Rattle.obj_core.specs.SymbolicMachine.{link_before, target}
 use Rattle.obj_core.proofs.Cuts.{spelled-append, each_right}
-use Rattle.obj_lockstep.specs.Placed.{IsAt, IsAtTo, HasInstr}
-use Rattle.obj_lockstep.specs.Places.{is_code_place, CodeBytes, IsLaid}
-use Rattle.obj_lockstep.specs.Filled.{between, patched_all, to_slot, InRange, IsFilledIn, IsFilled}
+use Rattle.obj_lockstep.specs.Placed.{IsAt, IsAtTo, HasInstr, IsImageOf}
+use Rattle.obj_lockstep.specs.Places.{is_code_place, is_step_place, CodeBytes, IsLaid}
+use Rattle.obj_lockstep.specs.Filled.{patched_all, to_slot, IsFilledIn, IsFilled}
 use Rattle.obj_lockstep.proofs.Starts.{IsIn, start_is_in, branch_goes}
-use Rattle.obj_lockstep.proofs.Rules.{HasCut, function_of_cut, LinkSays, link_says, function_keeps}
-use Rattle.obj_lockstep.proofs.Closed.{slot_fits, bytes_from, instr_from}
+use Rattle.obj_lockstep.proofs.Rules.{function_of_cut, LinkSays, link_says, function_keeps}
+use Rattle.obj_lockstep.proofs.Closed.{slot_fits, bytes_from, instr_from, laid_placed}
 use Rattle.obj_lockstep.proofs.Filling.{redirected, size_some}
-use Rattle.obj_lockstep.proofs.Filled.{Behind, filled, filled_one, patched_spelled, filled_instrs, filled_behind, ByLink, FilledBy, filled_says, links_branch}
+use Rattle.obj_lockstep.proofs.Filled.{Behind, filled, filled_one, patched_spelled, filled_instrs, filled_behind, FilledBy, filled_says, links_branch}
 use Rattle.obj_lockstep.proofs.Sizes.{size_small}
 use Rattle.obj_lockstep.proofs.Displacements.{between_leads, moved_inside}
 
@@ -70,10 +73,10 @@ module _ (exec : List Segment) (place : Place → ℕ) (o : Object) (well : IsWe
       let split : filled disp f.links cut ≡ b.front ++ j ∷ b.rest = ap (filled disp f.links) p.split ∙ b.split in
       let instrs : Each IsInstr (b.front ++ j ∷ b.rest) = subst (Each IsInstr) split (filled_instrs disp f.links cut c.instructions h.range) in
       let spells : patched_all disp f.links f.bytes ≡ spelled b.front ++ (encoding j ++ spelled b.rest) =
-          ap (patched_all disp f.links) (sym c.whole) ∙ patched_spelled disp f.links cut c.instructions h.range (links_branch None cut (length o.slots) f.links keeps.links) ∙ ap spelled split ∙ spelled-append b.front (j ∷ b.rest) in
+      ap (patched_all disp f.links) (sym c.whole) ∙ patched_spelled disp f.links cut c.instructions h.range (links_branch None cut (length o.slots) f.links keeps.links) ∙ ap spelled split ∙ spelled-append b.front (j ∷ b.rest) in
       let more = spelled b.rest ++ h.rest in
       let whole : patched_all disp f.links f.bytes ++ h.rest ≡ spelled b.front ++ (encoding j ++ more) =
-          ap (λ r. r ++ h.rest) spells ∙ append_assoc (spelled b.front) (encoding j ++ spelled b.rest) h.rest ∙ ap (λ r. spelled b.front ++ r) (append_assoc (encoding j) (spelled b.rest) h.rest) in
+      ap (λ r. r ++ h.rest) spells ∙ append_assoc (spelled b.front) (encoding j ++ spelled b.rest) h.rest ∙ ap (λ r. spelled b.front ++ r) (append_assoc (encoding j) (spelled b.rest) h.rest) in
       let some = size_some p.instr (instr_from f.bytes cut off c p) in
       let lt : off < length f.bytes = omega (arith, inside f.bytes cut off c p, some) in
       record {
@@ -172,3 +175,12 @@ module _ (exec : List Segment) (place : Place → ℕ) (o : Object) (well : IsWe
     slots = h.slots;
     addresses = h.addresses;
   }
+
+-- an image whose code and slots stand so is an image of the object
+pub filled_image : (image : Image) (place : Place → ℕ) (o : Object) (well : IsWellFormed o) → IsFilled (code_of (machine_segments image)) place o → data_of (machine_segments image) ≡ data_segments o.ro o.rw → image.entry ≡ slot_start o 0 → IsImageOf image place (is_step_place o well.cuts) o
+filled_image image place o well h readable entry = record {
+  placed = laid_placed o well (code_of (machine_segments image)) place (filled_laid (code_of (machine_segments image)) place o well h);
+  readable = readable;
+  entry = entry;
+  some_slot = omega (arith, well.few.some_slot);
+}

@@ -1,5 +1,5 @@
 -- An instruction has at most sixteen bytes, which is what a fetch sees.
-use Rattle.std.proofs.Common.{◌≡◌, ℕ, ◌+◌, ◌-◌, ◌≤◌, Bool, true, false, List, [], ◌∷◌, ◌++◌, length, take, refl, sym, ◌∙◌, ap, if◌then◌else◌, arith, length-append}
+use Rattle.std.proofs.Common.{ℕ, ◌≤◌, Bool, true, false, List, [], ◌∷◌, ◌++◌, length, if◌then◌else◌, arith, length-append}
 use Rattle.std.specs.Prelude.{nat_eq}
 use Rattle.x86_core.specs.declared.reg.Reg.{Reg}
 use Rattle.x86_core.specs.declared.instr.Size.{Size}
@@ -7,8 +7,8 @@ use Rattle.x86_core.specs.declared.instr.HighSize.{HighSize}
 use Rattle.x86_core.specs.declared.instr.Mem.{Mem}
 use Rattle.x86_core.specs.declared.instr.WidenKind.{WidenKind}
 use Rattle.x86_core.specs.declared.instr.Instr.{Instr}
-use Rattle.x86_core.specs.declared.instr.Instr.TheVariants.{Mov, MovImm64, MovImm32, Alu, AluImm, Imul, Shift, Div, High, Widen, Load, Store, Lea, Push, Pop, SetCond, Cmov, Jcc, Jmp, Call, Ret, CallR11, JmpR11, Syscall, Ud2, Int3, Nop}
-use Rattle.x86_core.specs.Encoding.{encoding, rex_if, is_wide, extended, low3, modrm, index_of, number32, memory}
+use Rattle.x86_core.specs.declared.instr.Instr.TheVariants.{Mov, MovImm64, MovImm32, Alu, AluImm, Imul, Shift, Div, High, Widen, Load, Store, Lea, Push, Pop}
+use Rattle.x86_core.specs.Encoding.{rex_if, is_wide, extended, low3, index_of, number32, memory}
 use Rattle.obj_core.specs.Cut.{size_of}
 
 rex_short : (w r b : Bool) → length (rex_if w r b) ≤ 1

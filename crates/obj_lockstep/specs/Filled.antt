@@ -1,5 +1,5 @@
 -- When functions stand whole at addresses, with the displacements of their links filled in, and slots at theirs.
-use Rattle.std.specs.Prelude.{◌≡◌, ℕ, ◌+◌, ◌-◌, ◌^◌, ◌<◌, nat_le, if◌then◌else◌, List, [], ◌∷◌, ◌++◌, length, take, drop, Option, Some, slice_get, ℤ, pos, negsuc}
+use Rattle.std.specs.Prelude.{◌≡◌, ℕ, ◌+◌, ◌-◌, ◌^◌, ◌<◌, nat_le, if◌then◌else◌, List, [], ◌∷◌, ◌++◌, length, take, drop, Some, slice_get, ℤ, pos, negsuc}
 use Rattle.x86_core.specs.declared.image.Segment.{Segment}
 use Rattle.x86_core.specs.Encoding.{number32, IsNumber32}
 use Rattle.machine_core.specs.Memory.{code_at}
