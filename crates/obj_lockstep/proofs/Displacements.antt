@@ -11,17 +11,21 @@ use Rattle.obj_core.specs.Cut.{size_of}
 use Rattle.obj_lockstep.specs.Placed.{IsAt, IsAtTo}
 use Rattle.obj_lockstep.specs.Filled.{between}
 
+-- forwards and backwards
 leads_by : (from to : ℕ) → from < 2 ^ 64 → to < 2 ^ 64 → (t : Bool) → nat_le from to ≡ t → moved (from % 2 ^ 64) (if t then pos (to - from) else negsuc (from - to - 1)) ≡ to
 leads_by from to a b true e = let le : from ≤ to = leb-true from to e in omega (arith, a, b, le)
 leads_by from to a b false e = let gt : to < from = leb-false from to e in omega (arith, a, b, gt)
 
+-- the displacement between two addresses leads from one to the other
 pub between_leads : (from to : ℕ) → from < 2 ^ 64 → to < 2 ^ 64 → moved (from % 2 ^ 64) (between from to) ≡ to
 between_leads from to a b = leads_by from to a b (nat_le from to) refl
 
+-- forwards and backwards
 fits_by : (from to : ℕ) → from < to + 2 ^ 31 → to < from + 2 ^ 31 → (t : Bool) → nat_le from to ≡ t → IsNumber32 (if t then pos (to - from) else negsuc (from - to - 1))
 fits_by from to a b true e = let le : from ≤ to = leb-true from to e in omega (arith, a, b, le)
 fits_by from to a b false e = let gt : to < from = leb-false from to e in omega (arith, a, b, gt)
 
+-- the displacement between near addresses is in range
 pub between_fits : (from to : ℕ) → from < to + 2 ^ 31 → to < from + 2 ^ 31 → IsNumber32 (between from to)
 between_fits from to a b = fits_by from to a b (nat_le from to) refl
 
@@ -52,6 +56,7 @@ difference_by from to a b false e =
     let gt : to < from = leb-false from to e in
     four_bytes ((to + 2 ^ 64 - from) % 2 ^ 64) (2 ^ 32 - suc (from - to - 1)) (2 ^ 32 - 1) (omega (arith, a, b, gt))
 
+-- the displacement between near addresses is the low bytes of their difference
 pub difference_bytes : (from to : ℕ) → from < to + 2 ^ 31 → to < from + 2 ^ 31 → le_bytes 4 ((to + 2 ^ 64 - from) % 2 ^ 64) ≡ number32 (between from to)
 difference_bytes from to a b = difference_by from to a b (nat_le from to) refl
 

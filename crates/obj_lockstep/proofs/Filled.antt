@@ -14,6 +14,7 @@ use Rattle.obj_lockstep.specs.Filled.{patched, patched_all, InRange}
 use Rattle.obj_lockstep.proofs.Starts.{other_empty}
 use Rattle.obj_lockstep.proofs.Filling.{redirected, redirected_at, with_branch, one_branch, IsBranch, branch_is, patched_branch}
 
+-- what follows of each element
 each_map : {T : Type 0} (P Q : T → Type 0) (xs : List T) → ((x : T) → P x → Q x) → Each P xs → Each Q xs
 each_map P Q [] f h = tt
 each_map P Q (x ∷ xs) f h = (f x h.0, each_map P Q xs f h.1)
@@ -27,11 +28,13 @@ pub record EndsBranch (cut : List Instr) (at x : ℕ) : Type 0 where
   pub branch : IsBranch instr
   pub offset : x + 4 ≡ at + length (spelled before) + size_of instr
 
+-- only branches have the displacement 0
 branch_of_zero : (i : Instr) → is_zero (displacement i) ≡ true → IsBranch i
 branch_of_zero (Jcc c by) h = branch_is (Jcc c by) by refl
 branch_of_zero (Jmp by) h = branch_is (Jmp by) by refl
 branch_of_zero i h = absurd (cc)
 
+-- a branch of the others is one of the row
 later_branch : (i : Instr) (is : List Instr) (at x : ℕ) → EndsBranch is (at + size_of i) x → EndsBranch (i ∷ is) at x
 later_branch i is at x h = record {
   before = i ∷ h.before;
@@ -42,6 +45,7 @@ later_branch i is at x h = record {
   offset = omega (arith, h.offset, length-append (encoding i) (spelled h.before));
 }
 
+-- a place that is good for a link is at a branch
 pub ends_branch : (cut : List Instr) (at x : ℕ) → fills_zero (found_from at cut) x ≡ true → EndsBranch cut at x
 ends_branch [] at x h = absurd (cc)
 ends_branch (i ∷ is) at x h = elim (or_cases (nat_eq (at + size_of i) (x + 4) && is_zero (displacement i)) _ h) [
@@ -52,16 +56,19 @@ ends_branch (i ∷ is) at x h = elim (or_cases (nat_eq (at + size_of i) (x + 4) 
   | inr more ↦ later_branch i is at x (ends_branch is (at + size_of i) x more)
 ]
 
+-- a branch keeps its length
 size_redirected : (d : ℤ) (i : Instr) → size_of (redirected d i) ≡ size_of i
 size_redirected d (Jcc c by) = refl
 size_redirected d (Jmp by) = refl
 size_redirected d i = refl
 
+-- and its range
 instr_redirected : (d : ℤ) (i : Instr) → IsNumber32 d → IsInstr i → IsInstr (redirected d i)
 instr_redirected d (Jcc c by) r h = r
 instr_redirected d (Jmp by) r h = r
 instr_redirected d i r h = h
 
+-- and stays a branch
 branch_redirected : (d : ℤ) (i : Instr) → IsBranch i → IsBranch (redirected d i)
 branch_redirected d (Jcc c by) b = branch_is (Jcc c d) d refl
 branch_redirected d (Jmp by) b = branch_is (Jmp d) d refl
@@ -73,9 +80,11 @@ by_test P d i h k true = k
 by_test P d i h k false = h
 
 module _ (e : ℕ) (d : ℤ) where
+  -- the same of what ends at an offset
   size_at : (at : ℕ) (i : Instr) → size_of (redirected_at e d at i) ≡ size_of i
   size_at at i = by_test (λ j. size_of j ≡ size_of i) d i refl (size_redirected d i) (nat_eq (at + size_of i) e)
 
+  -- a row keeps its length
   long_with : (at : ℕ) (is : List Instr) → length (spelled (with_branch e d at is)) ≡ length (spelled is)
   long_with at [] = refl
   long_with at (i ∷ is) =
@@ -83,16 +92,19 @@ module _ (e : ℕ) (d : ℤ) where
       let size = size_at at i in
       omega (arith, more, size, length-append (encoding i) (spelled is), length-append (encoding (redirected_at e d at i)) (spelled (with_branch e d (at + size_of i) is)))
 
+  -- and its instructions their ranges
   each_with : IsNumber32 d → (at : ℕ) (is : List Instr) → Each IsInstr is → Each IsInstr (with_branch e d at is)
   each_with r at [] h = tt
   each_with r at (i ∷ is) h = (by_test IsInstr d i h.0 (instr_redirected d i r h.0) (nat_eq (at + size_of i) e), each_with r (at + size_of i) is h.1)
 
+  -- a row is redirected part by part
   split_with : (before : List Instr) (i : Instr) (after : List Instr) (at off : ℕ) → off ≡ at + length (spelled before) → with_branch e d at (before ++ i ∷ after) ≡ with_branch e d at before ++ redirected_at e d off i ∷ with_branch e d (off + size_of i) after
   split_with [] i after at off same =
       let here : at ≡ off = omega (arith, same) in
       ap (λ n. redirected_at e d n i ∷ with_branch e d (n + size_of i) after) here
   split_with (b ∷ bs) i after at off same = ap (λ r. redirected_at e d at b ∷ r) (split_with bs i after (at + size_of b) off (omega (arith, same, length-append (encoding b) (spelled bs))))
 
+  -- a branch of the row is one of the redirected row
   ends_with : (cut : List Instr) (x : ℕ) → EndsBranch cut 0 x → EndsBranch (with_branch e d 0 cut) 0 x
   ends_with cut x h =
       let off = 0 + length (spelled h.before) in
@@ -114,6 +126,7 @@ pub record Behind (cut : List Instr) (off : ℕ) (i : Instr) : Type 0 where
   pub split : cut ≡ front ++ i ∷ rest
   pub long : length (spelled front) ≡ off
 
+-- the same in an equal row
 carried : (cut other : List Instr) (off : ℕ) (i : Instr) → cut ≡ other → Behind other off i → Behind cut off i
 carried cut other off i e h = record { front = h.front; rest = h.rest; split = e ∙ h.split; long = h.long }
 
@@ -123,10 +136,12 @@ module _ (disp : Link → ℤ) where
   filled [] cut = cut
   filled (l ∷ ls) cut = filled ls (with_branch (l.at + 4) (disp l) 0 cut)
 
+  -- the links that end where an instruction ends give it their displacements
   abbrev pub filled_one : List Link → ℕ → Instr → Instr
   filled_one [] e i = i
   filled_one (l ∷ ls) e i = filled_one ls e (if nat_eq e (l.at + 4) then redirected (disp l) i else i)
 
+  -- one link
   one_patched : (l : Link) (cut : List Instr) → Each IsInstr cut → EndsBranch cut 0 l.at → patched (spelled cut) l.at (number32 (disp l)) ≡ spelled (with_branch (l.at + 4) (disp l) 0 cut)
   one_patched l cut h x =
       let whole = one_branch (disp l) x.before x.instr x.after 0 (l.at + 4) (subst (Each IsInstr) x.split h) x.offset in
@@ -183,10 +198,12 @@ module _ (disp : Link → ℤ) where
     pub ends : link.at + 4 ≡ e
     pub filled_so : filled_one ls e i ≡ redirected (disp link) i
 
+  -- by what the links say of an offset
   abbrev pub FilledBy : List Link → ℕ → Instr → Option ℕ → Type 0
   FilledBy ls e i None = filled_one ls e i ≡ i
   FilledBy ls e i (Some k) = ByLink ls e i k
 
+  -- by the first link, or by the others
   filled_test : (l : Link) (ls : List Link) (e : ℕ) (i : Instr) → ((l.at + 4 ≡ e) → is_linked ls e ≡ false) → FilledBy ls e i (link_before ls e) → (t : Bool) → nat_eq (l.at + 4) e ≡ t → FilledBy (l ∷ ls) e i (if t then Some l.slot else link_before ls e)
   filled_test l ls e i none more true same =
       let z = eqb-true (l.at + 4) e same in
@@ -212,6 +229,7 @@ link_branch : (before : Option ℕ) (cut : List Instr) (slots : ℕ) (l : Link) 
 link_branch None cut slots l h = ends_branch cut 0 l.at (and_parts (fills_zero (found cut) l.at) _ h).0
 link_branch (Some b) cut slots l h = ends_branch cut 0 l.at (and_parts (fills_zero (found cut) l.at) _ (and_parts (nat_lt b l.at) _ h).1).0
 
+-- each link of a good list is at a branch
 pub links_branch : (before : Option ℕ) (cut : List Instr) (slots : ℕ) (ls : List Link) → bad_links before (found cut) slots ls ≡ [] → Each (λ (l : Link). EndsBranch cut 0 l.at) ls
 links_branch before cut slots [] h = tt
 links_branch before cut slots (l ∷ ls) h =

@@ -25,6 +25,7 @@ redirected d i = i
 abbrev pub redirected_at : ℕ → ℤ → ℕ → Instr → Instr
 redirected_at e d at i = if nat_eq (at + size_of i) e then redirected d i else i
 
+-- a row in which what ends at an offset is redirected
 abbrev pub with_branch : ℕ → ℤ → ℕ → List Instr → List Instr
 with_branch e d at [] = []
 with_branch e d at (i ∷ is) = redirected_at e d at i ∷ with_branch e d (at + size_of i) is
@@ -35,6 +36,7 @@ unfolding decode
 nothing_short [] i n e h = absurd (cc)
 nothing_short (b ∷ bs) i n e h = absurd (omega (arith, e))
 
+-- each instruction has a byte
 pub size_some : (i : Instr) → IsInstr i → 1 ≤ size_of i
 size_some i h = by_size (size_of i) refl
   where
@@ -76,6 +78,7 @@ pub record IsBranch (i : Instr) : Type 0 where
   pub spells : (d : ℤ) → encoding (redirected d i) ≡ opcode ++ number32 d
   pub itself : encoding i ≡ opcode ++ number32 by
 
+-- what has a displacement that may be linked is a branch
 pub branch_is : (i : Instr) (by : ℤ) → displacement i ≡ Some by → IsBranch i
 branch_is (Jcc c d) by h = record { opcode = 0x0F ∷ (0x80 + cond_code c) ∷ []; by = d; spells = λ x. refl; itself = refl }
 branch_is (Jmp d) by h = record { opcode = 0xE9 ∷ []; by = d; spells = λ x. refl; itself = refl }

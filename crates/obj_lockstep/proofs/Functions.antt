@@ -61,6 +61,7 @@ inside bytes cut off c h =
     omega (arith, whole, h.offset, length-append (spelled h.before) (encoding h.instr ++ spelled h.after), length-append (encoding h.instr) (spelled h.after))
 
 module _ (exec : List Segment) (place : Place → ℕ) (o : Object) (well : IsWellFormed o) (slots_at : (k : ℕ) → place (Place.Slot k 0) ≡ slot_start o k) (n : ℕ) (f : Func) (cut : List Instr) (e : slice_get o.functions n ≡ Some f) (d : slice_get well.cuts n ≡ Some cut) (c : IsCut f.bytes cut) (h : IsFilledIn exec place o n f) where
+  -- the displacement that a link gets
   abbrev disp : Link → ℤ
   disp = to_slot o h.start
 
@@ -118,6 +119,7 @@ module _ (exec : List Segment) (place : Place → ℕ) (o : Object) (well : IsWe
     plain_here i again None filled here = subst (IsAt exec (place (Place.Code n off))) filled here
     plain_here i again (Some k) filled here = subst (IsAt exec (place (Place.Code n off))) (filled.filled_so ∙ again (disp filled.link)) here
 
+    -- each kind of instruction
     by_instr : (i : Instr) → IsInstr i → off + size_of i ≤ length f.bytes → FilledBy disp f.links (off + size_of i) i (link_before f.links (off + size_of i)) → LinkSays (length o.slots) f.links (off + size_of i) (link_before f.links (off + size_of i)) → (is_linked f.links (off + size_of i) || goes_well (found cut) (off + size_of i) (displacement i)) ≡ true → IsAt exec (place (Place.Code n off)) (filled_one disp f.links (off + size_of i) i) → CodeBytes exec place o f n off i
     by_instr (Jcc cond by) r le filled says goes here = branch_to (Jcc cond) 6 (λ x. refl) (λ x y. refl) by r le (link_before f.links (off + 6)) filled says goes here
     by_instr (Jmp by) r le filled says goes here = branch_to Jmp 5 (λ x. refl) (λ x y. refl) by r le (link_before f.links (off + 5)) filled says goes here
@@ -152,15 +154,18 @@ module _ (exec : List Segment) (place : Place → ℕ) (o : Object) (well : IsWe
 
 -- functions that stand whole, with their links filled in, are laid
 module _ (exec : List Segment) (place : Place → ℕ) (o : Object) (well : IsWellFormed o) (h : IsFilled exec place o) where
+  -- where slots begin
   slots_at : (k : ℕ) → place (Place.Slot k 0) ≡ slot_start o k
   slots_at k = let e = h.addresses k 0 in omega arith
 
+  -- each instruction of each function
   code_laid : (n off : ℕ) (x : Option (List Instr)) → slice_get well.cuts n ≡ x → is_code_place x off ≡ true → (s : HasInstr o n off) → CodeBytes exec place o s.func n off s.instr
   code_laid n off None d there s = absurd (cc)
   code_laid n off (Some cut) d there s =
       let c = function_of_cut o.functions well.cuts well.cut n cut d in
       function_code exec place o well slots_at n c.func cut c.found d c.is_cut (h.functions n c.func c.found) off there s
 
+  -- neighbours in each function
   code_neighbours : (n off size : ℕ) (x : Option (List Instr)) → slice_get well.cuts n ≡ x → is_code_place x off ≡ true → is_code_place x (off + size) ≡ true → place (Place.Code n (off + size)) ≡ (place (Place.Code n off) + size) % 2 ^ 64
   code_neighbours n off size None d first second = absurd (cc)
   code_neighbours n off size (Some cut) d first second =

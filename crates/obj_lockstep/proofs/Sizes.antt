@@ -11,6 +11,7 @@ use Rattle.x86_core.specs.declared.instr.Instr.TheVariants.{Mov, MovImm64, MovIm
 use Rattle.x86_core.specs.Encoding.{rex_if, is_wide, extended, low3, index_of, number32, memory}
 use Rattle.obj_core.specs.Cut.{size_of}
 
+-- the parts of an encoding
 rex_short : (w r b : Bool) → length (rex_if w r b) ≤ 1
 rex_short false false false = omega arith
 rex_short true r b = omega arith
@@ -24,12 +25,14 @@ index_short false = omega arith
 memory_short : (r : Reg) (m : Mem) → length (memory r m) ≤ 6
 memory_short r m = omega (arith, length-append (index_of m.base) (number32 m.disp), index_short (nat_eq (low3 m.base) 4))
 
+-- an encoding behind its prefix
 behind_rex : (w r b : Bool) (xs : List ℕ) → length xs ≤ 10 → length (rex_if w r b ++ xs) ≤ 16
 behind_rex w r b xs le = omega (arith, le, rex_short w r b, length-append (rex_if w r b) xs)
 
 behind_word : (w r b : Bool) (xs : List ℕ) → length xs ≤ 10 → length (0x66 ∷ (rex_if w r b ++ xs)) ≤ 16
 behind_word w r b xs le = omega (arith, le, rex_short w r b, length-append (rex_if w r b) xs)
 
+-- each instruction has at most sixteen bytes
 pub size_small : (i : Instr) → size_of i ≤ 16
 size_small (Mov w d s) = behind_rex (is_wide w) (extended s) (extended d) _ (omega arith)
 size_small (MovImm64 d n) = omega arith

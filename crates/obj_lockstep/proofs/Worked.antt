@@ -41,10 +41,12 @@ image = record { entry = 268435456; segments = segment 268435456 ((233 ∷ 251 �
 abbrev other : Image
 other = record { entry = 268435456; segments = segment 268435456 ((233 ∷ 254 ∷ 15 ∷ 0 ∷ 48 ∷ []) ++ replicate 11 204) 1 ∷ segment 1073745920 (204 ∷ 204 ∷ 204 ∷ 15 ∷ 11 ∷ []) 1 ∷ [] }
 
+-- the addresses of places, where the code begins at this one
 abbrev place : ℕ → Place → ℕ
 place code (Place.Code n off) = code + off
 place code (Place.Slot k at) = 268435456 + at
 
+-- the places at which a step may stand
 abbrev is_place : Place → Bool
 is_place (Place.Code n off) = nat_eq n 0 && nat_eq off 0
 is_place (Place.Slot k at) = nat_eq k 0 && (nat_eq at 0 || nat_eq at 5)
@@ -121,6 +123,7 @@ other_holds = record {
 abbrev two_steps : List Act
 two_steps = Step ∷ Step ∷ []
 
+-- both machines come to the instruction
 object_ends : (symbolic_run object [] two_steps).ending ≡ Invalid
 unfolding decode effect_of request_of
 object_ends = refl
@@ -129,6 +132,7 @@ image_ends : (machine_run image [] two_steps).ending ≡ Invalid
 unfolding decode effect_of request_of
 image_ends = refl
 
+-- and show the same, wherever the code is
 alike : observe (machine_run image [] two_steps) ≡ observe (machine_run other [] two_steps)
 alike = images_alike object image other (place 1073741824) (place 1073745923) is_place is_place image_holds other_holds [] two_steps (λ e. let same = sym object_ends ∙ e in absurd (cc))
 
@@ -152,10 +156,12 @@ below_5 P a b c d e (suc (suc (suc zero))) lt = d
 below_5 P a b c d e (suc (suc (suc (suc zero)))) lt = e
 below_5 P a b c d e (suc (suc (suc (suc (suc n))))) lt = absurd (omega (arith, lt))
 
+-- its slot is at the first position
 round_slot : slot_start round 0 ≡ 268435456
 unfolding positions shuffled
 round_slot = refl
 
+-- the function stands with its link filled in
 turning_filled : IsFilledIn round_code (place 1073741824) round 0 turning
 unfolding positions shuffled
 turning_filled = record {
@@ -171,6 +177,7 @@ round_functions : (n : ℕ) (f : Func) → slice_get round.functions n ≡ Some 
 round_functions zero f e = let same : turning ≡ f = cc in subst (IsFilledIn round_code (place 1073741824) round 0) same turning_filled
 round_functions (suc n) f e = absurd (cc)
 
+-- and so does the slot
 round_slots : (k : ℕ) (s : Slot) → slice_get round.slots k ≡ Some s → SlotBytes round_code (place 1073741824) round k s
 round_slots zero s e =
     let same : Slot.Entry 0 ≡ s = cc in

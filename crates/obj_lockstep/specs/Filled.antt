@@ -31,6 +31,7 @@ module _ (disp : Link → ℤ) where
   patched_all [] bytes = bytes
   patched_all (l ∷ ls) bytes = patched_all ls (patched bytes l.at (number32 (disp l)))
 
+  -- each displacement is in the range of four bytes
   abbrev pub InRange : List Link → Type 0
   InRange ls = Each (λ l. IsNumber32 (disp l)) ls
 
