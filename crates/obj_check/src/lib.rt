@@ -21,6 +21,8 @@ mod few;
 mod marks;
 mod saved;
 mod slots;
+#[cfg(test)]
+mod tests;
 
 use code::{CodeRule, first_in_functions};
 use cut::{Cut, Cuts, cut_all};

@@ -3,9 +3,7 @@ use Rattle.std.proofs.Common.{◌≡◌, ℕ, Bool, true, false, List, Option, S
 use Rattle.rd_num.specs.Number.{le_bytes}
 use Rattle.x86_core.specs.declared.instr.Instr.{Instr}
 use Rattle.x86_core.specs.declared.instr.Instr.TheVariants.{Mov, MovImm64, MovImm32, Alu, AluImm, Imul, Shift, Div, High, Widen, Load, Store, Lea, Push, Pop, SetCond, Cmov, Jcc, Jmp, Call, Ret, CallR11, JmpR11, Syscall, Ud2, Int3, Nop}
-use Rattle.x86_core.specs.declared.instr.Size.{Size}
 use Rattle.x86_core.specs.declared.reg.Reg.TheVariants.{R11}
-use Rattle.x86_core.specs.declared.reg.Reg.{Reg}
 use Rattle.x86_core.specs.declared.effect.Change.{Change}
 use Rattle.x86_core.specs.declared.effect.Next.{Next}
 use Rattle.x86_core.specs.declared.effect.Next.TheVariants as next

@@ -1,5 +1,5 @@
 -- What the kernel does is what the machine's definition says, for each of its answers and each fault of the outside.
-use Rattle.std.proofs.Common.{◌≡◌, ℕ, ◌+◌, ◌<◌, ◌≤◌, zero, suc, Bool, true, false, ◌||◌, List, [], ◌∷◌, ◌++◌, length, Option, Some, None, Result, Ok, Err, refl, sym, ap, subst, ◌∙◌, arith, length-append}
+use Rattle.std.proofs.Common.{◌≡◌, ℕ, ◌+◌, ◌<◌, Bool, true, false, List, [], ◌∷◌, length, Option, Some, None, Result, Ok, Err, refl, sym, ap, subst, ◌∙◌, arith, length-append}
 use Rattle.rd_io.specs.Outside.{Gets, GetsPart, Counts, CountsPart, Takes}
 use Rattle.rd_io.specs.declared.RunFault.{RunFault}
 use Rattle.rd_io.specs.declared.RunFault.TheVariants as fault

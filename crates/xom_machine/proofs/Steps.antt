@@ -1,24 +1,18 @@
 -- Steps in a row: none, one more, and none that counts once the machine has stopped.
-use Rattle.std.proofs.Common.{◌≡◌, ℕ, ◌+◌, ◌-◌, ◌<◌, ◌≤◌, zero, suc, Bool, true, false, not, List, [], ◌∷◌, ◌++◌, length, Option, Some, None, Result, Ok, Err, OnOk, OnErr, IfErr, refl, sym, ap, subst, ◌∙◌, arith}
-use Rattle.behavior.specs.Ending.{Ending, is_going}
+use Rattle.std.proofs.Common.{◌≡◌, ℕ, ◌+◌, ◌-◌, ◌<◌, ◌≤◌, zero, suc, true, false, List, [], length, Some, Result, Ok, Err, OnOk, OnErr, IfErr, refl, sym, ap, subst, ◌∙◌, arith}
+use Rattle.behavior.specs.Ending.{is_going}
 use Rattle.behavior.specs.System.{iter}
 use Rattle.behavior.proofs.Between.{iter_add}
-use Rattle.rd_io.specs.Outside.{Gets, GetsPart, Counts, CountsPart}
+use Rattle.rd_io.specs.Outside.{Gets, Counts}
 use Rattle.rd_io.proofs.Grown.{gets_nothing, counts_nothing, gets_both, counts_both}
 use Rattle.rd_io.specs.declared.RunFault.{RunFault}
 use Rattle.rd_io.specs.declared.RunFault.TheVariants as fault
-use Rattle.x86_core.specs.declared.image.MachOutcome.{MachOutcome}
-use Rattle.x86_core.specs.declared.image.MachOutcome.TheVariants.{Going}
-use Rattle.x86_core.specs.declared.instr.Instr.{Instr}
-use Rattle.x86_core.specs.declared.instr.Decoded.{Decoded}
-use Rattle.x86_core.specs.Arithmetic.{moved}
-use Rattle.machine_core.specs.Step.{State, Fetched, act, sorted, step_of}
-use Rattle.machine_core.specs.Machine.{machine_fetch, machine_step, by_decoded}
+use Rattle.machine_core.specs.Step.{State, Fetched, act}
+use Rattle.machine_core.specs.Machine.{machine_fetch, machine_step}
 use Rattle.machine_core.proofs.Laws.{step_stays}
 use Rattle.xom_machine.specs.declared.machine.Machine.{Machine}
-use Rattle.xom_machine.specs.Standing.{ending_of, state_of, Told, told, Stands}
-use Rattle.xom_machine.specs.Calls.{Took, Did, Ran, Kept, CutOff, IsCut, GotPart, Becomes, piece_of}
-use Rattle.xom_machine.proofs.Served.{done_alone, silent, ran_as}
+use Rattle.xom_machine.specs.Standing.{ending_of, state_of, Told, Stands}
+use Rattle.xom_machine.specs.Calls.{Took, Did, Ran, Kept, CutOff, IsCut, GotPart, Becomes}
 
 -- a machine that goes on does what stands at its next place
 pub goes : (m : Machine) (x : Fetched ℕ) → is_going (ending_of m.outcome) ≡ true → machine_fetch m.memory m.next ≡ x →

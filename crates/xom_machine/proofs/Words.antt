@@ -1,5 +1,5 @@
 -- Zeros behind bytes don't change the number that they spell.
-use Rattle.std.proofs.Common.{◌≡◌, ℕ, ◌+◌, ◌*◌, ◌∙◌, zero, suc, List, [], ◌∷◌, ◌++◌, length, drop, refl, ap, arith}
+use Rattle.std.proofs.Common.{◌≡◌, ℕ, ◌+◌, ◌*◌, zero, suc, List, [], ◌∷◌, ◌++◌, drop, refl, ap, arith}
 use Rattle.rd_num.specs.Number.{le_number}
 
 le_number-drop : (zs : List ℕ) (k : ℕ) → le_number zs ≡ 0 → le_number (drop k zs) ≡ 0

@@ -1,5 +1,5 @@
 -- What the calls of a machine do to it and to the outside, by the steps of the machine's definition.
-use Rattle.std.specs.Prelude.{ℕ, ◌≡◌, ◌+◌, ◌<◌, ◌≤◌, List, [], ◌∷◌, ◌++◌, length, Option, Some, Result, Ok, Err}
+use Rattle.std.specs.Prelude.{ℕ, ◌≡◌, ◌+◌, ◌<◌, ◌≤◌, List, [], ◌∷◌, ◌++◌, length, Some, Result, Ok, Err}
 use Rattle.behavior.specs.System.{iter}
 use Rattle.rd_io.specs.Causes.{Rose}
 use Rattle.rd_io.specs.Outside.{Gets, Counts, IsPrefixOf}

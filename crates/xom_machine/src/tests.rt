@@ -125,6 +125,7 @@ fn hidden_code_is_not_printed(rt: HostRuntime) {
 }
 
 /// How a machine stands after some steps, with the number of bytes that it printed.
+#[derive(Clone, Copy)]
 struct Seen {
     outcome: MachOutcome,
     rax: u64,
@@ -135,7 +136,7 @@ struct Seen {
 }
 
 /// What is seen of this code after some steps with the input `a`; nothing where memory is wanting.
-fn seen(alloc: Global, code: &[u8], steps: u64) -> Option<Seen> {
+fn after_steps(alloc: Global, code: &[u8], steps: u64) -> Option<Seen> {
     let (Ok(mut machine), Ok(mut input)) = (started(alloc, code, 1), source(alloc, b"a")) else {
         return None;
     };
@@ -157,7 +158,7 @@ fn seen(alloc: Global, code: &[u8], steps: u64) -> Option<Seen> {
 /// Whether a system call with these numbers ends so, with this answer and so many bytes printed.
 fn answers(alloc: Global, call: [u32; 4], want: MachOutcome, answer: u64, printed: u64) -> bool {
     let [rax, rdi, rsi, rdx] = call;
-    let Some(seen) = seen(alloc, &system_call(rax, rdi, rsi, rdx), 5) else {
+    let Some(seen) = after_steps(alloc, &system_call(rax, rdi, rsi, rdx), 5) else {
         return false;
     };
     let (place, packed) = if want == MachOutcome::Going {
@@ -196,7 +197,7 @@ fn system_calls_answer(rt: HostRuntime) {
 
 /// Whether code is so after some steps, with this word in `rsp`.
 fn leads(alloc: Global, code: &[u8], steps: u64, want: MachOutcome, rsp: u64) -> bool {
-    match seen(alloc, code, steps) {
+    match after_steps(alloc, code, steps) {
         Some(seen) => seen.outcome == want && seen.rsp == rsp,
         None => false,
     }

@@ -1,4 +1,4 @@
-use Rattle.std.proofs.Common.{◌≡◌, refl, false, true, ◌∙◌, ap, sym, subst, ℕ}
+use Rattle.std.proofs.Common.{◌≡◌, false}
 use Rattle.machine_core.specs.Memory.{writes, is_allowed}
 use Rattle.xom_machine.proofs.Served.{done_alone, take_refused, not_true}
 use Rattle.xom_machine.proofs.machine.Machine.take.Goals as goal
