@@ -4,7 +4,13 @@ set -u
 cd "$(dirname "$0")/.." || exit 1
 copy=$(mktemp -d)
 trap 'rm -rf "$copy"' EXIT
-git archive HEAD crates crates.txt HANDLES | tar -x -C "$copy" || exit 1
+cp crates.txt HANDLES "$copy" || exit 1
+for crate in crates/*; do
+  mkdir -p "$copy/$crate" || exit 1
+  for part in src specs proofs must-fail; do
+    [ ! -d "$crate/$part" ] || cp -r "$crate/$part" "$copy/$crate" || exit 1
+  done
+done
 
 cat >>"$copy/crates/obj_lay/src/slots.rt" <<'RATTLE'
 
