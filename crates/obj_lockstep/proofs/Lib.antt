@@ -1,0 +1,5 @@
+pub mod Segments
+pub mod Natural
+pub mod Fetching
+pub mod Lockstep
+pub mod Images
