@@ -1,0 +1,4 @@
+pub mod Overlaid
+pub mod Pieces
+pub mod Inverse
+pub mod Sizes
