@@ -6,15 +6,18 @@ use Rattle.x86_core.proofs.Parts.{number_back4}
 use Rattle.obj_core.specs.Object.{Each, IsByte, field}
 use Rattle.obj_file.specs.Texts.{IsText, IsRaw, IsNumber, FieldThen, Then, Times}
 
+-- no text of the set begins another, and it has a text
 pub record Good (L : List ℕ → Type 0) : Type 0 where
   pub unique : (s t x y : List ℕ) → L s → L t → s ++ x ≡ t ++ y → (s ≡ t) × (x ≡ y)
   pub some : List ℕ
   pub holds : L some
 
-cons_tail : (a b : ℕ) (x y : List ℕ) → a ∷ x ≡ b ∷ y → x ≡ y
+-- equal lists have equal tails
+pub cons_tail : (a b : ℕ) (x y : List ℕ) → a ∷ x ≡ b ∷ y → x ≡ y
 cons_tail a b x y e = cc
 
-cons_head : (a b : ℕ) (x y : List ℕ) → a ∷ x ≡ b ∷ y → a ≡ b
+-- equal lists have equal heads
+pub cons_head : (a b : ℕ) (x y : List ℕ) → a ∷ x ≡ b ∷ y → a ≡ b
 cons_head a b x y e = cc
 
 -- two lists with beginnings of one length
@@ -27,6 +30,7 @@ same_split (a ∷ ds) (b ∷ bs) x y h e =
     let first = cons_head a b (ds ++ x) (bs ++ y) e in
     (ap (λ c. c ∷ ds) first ∙ ap (λ cs. b ∷ cs) rest.0, rest.1)
 
+-- one text alone
 pub good_text : (c : List ℕ) → Good (IsText c)
 good_text c = record {
   unique = λ s t x y h k e. let q : s ≡ t = h.same ∙ sym k.same in (q, (same_split s t x y (ap length q) e).1);
@@ -34,13 +38,16 @@ good_text c = record {
   holds = record { same = refl };
 }
 
+-- a repeated item
 pub each_replicate : {T : Type 0} (P : T → Type 0) (n : ℕ) (x : T) → P x → Each P (replicate n x)
 each_replicate P zero x h = tt
 each_replicate P (suc n) x h = (h, each_replicate P n x h)
 
+-- zeros are bytes
 pub zeros_raw : (n : ℕ) → IsRaw n (replicate n 0)
 zeros_raw n = record { bytes = each_replicate IsByte n 0 (omega arith); size = length-replicate n 0 }
 
+-- rows of bytes of one length
 pub good_raw : (n : ℕ) → Good (IsRaw n)
 good_raw n = record {
   unique = λ s t x y h k e. same_split s t x y (h.size ∙ sym k.size) e;
@@ -59,6 +66,7 @@ pub record IsLimit (limit : ℕ) : Type 0 where
   pub some : 0 < limit
   pub fits : limit ≤ 2 ^ 32
 
+-- fields below a limit
 pub good_number : (limit : ℕ) → IsLimit limit → Good (IsNumber limit)
 good_number limit l = record {
   unique = λ s t x y h k e. unique s t x y h k e;
@@ -73,6 +81,7 @@ good_number limit l = record {
         let both = field_unique h.number k.number x y small small2 (ap (λ z. z ++ x) (sym h.text) ∙ e ∙ ap (λ z. z ++ y) k.text) in
         (h.text ∙ ap field both.0 ∙ sym k.text, both.1)
 
+-- a field and what its number names
 pub good_field : (limit : ℕ) (L : ℕ → List ℕ → Type 0) → IsLimit limit → ((n : ℕ) → Good (L n)) → Good (FieldThen limit L)
 good_field limit L l good = record {
   unique = λ s t x y h k e. unique s t x y h k e;
@@ -91,6 +100,7 @@ good_field limit L l good = record {
         let rests = (good k.number).unique h.rest k.rest x y there k.ends both.1 in
         (h.text ∙ ap (λ n. field n ++ h.rest) both.0 ∙ ap (λ r. field k.number ++ r) rests.0 ∙ sym k.text, rests.1)
 
+-- texts of one set, and of another
 pub good_then : (L M : List ℕ → Type 0) → Good L → Good M → Good (Then L M)
 good_then L M l m = record {
   unique = λ s t x y h k e. unique s t x y h k e;
@@ -106,6 +116,7 @@ good_then L M l m = record {
         let two = m.unique h.second k.second x y h.ends k.ends one.1 in
         (h.text ∙ ap (λ z. z ++ h.second) one.0 ∙ ap (λ z. k.first ++ z) two.0 ∙ sym k.text, two.1)
 
+-- so many texts of a set
 pub good_times : (L : List ℕ → Type 0) (n : ℕ) → Good L → Good (Times L n)
 good_times L zero l = good_text []
 good_times L (suc n) l = good_then L (Times L n) l (good_times L n l)

@@ -3,7 +3,7 @@ use Rattle.std.proofs.Common.{◌≡◌, ℕ, ◌+◌, ◌<◌, ◌^◌, List, [
 use Rattle.obj_core.specs.Object.{field}
 use Rattle.obj_file.specs.declared.fault.FormFault.{FormFault}
 use Rattle.obj_file.specs.Texts.{IsNumber, FieldThen, Then, Spans, NoneBegins, Leaves, Fault}
-use Rattle.obj_file.proofs.Good.{Good, field_unique, IsLimit, good_number}
+use Rattle.obj_file.proofs.Good.{cons_tail, cons_head, Good, field_unique, IsLimit, good_number}
 
 -- how two beginnings of one list lie
 pub record Longer (short long : List ℕ) (after : List ℕ) : Type 0 where
@@ -13,16 +13,12 @@ pub record Longer (short long : List ℕ) (after : List ℕ) : Type 0 where
   pub rest : List ℕ
   pub ends : after ≡ next ∷ (more ++ rest)
 
+-- the second beginning is within the first
 pub record Shorter (long short : List ℕ) : Type 0 where
   pub more : List ℕ
   pub begins : long ≡ short ++ more
 
-cons_tail : (a b : ℕ) (x y : List ℕ) → a ∷ x ≡ b ∷ y → x ≡ y
-cons_tail a b x y e = cc
-
-cons_head : (a b : ℕ) (x y : List ℕ) → a ∷ x ≡ b ∷ y → a ≡ b
-cons_head a b x y e = cc
-
+-- one of two beginnings is within the other
 pub two_ways : (a x b y : List ℕ) → a ++ x ≡ b ++ y → Shorter a b ⊎ Longer a b x
 two_ways [] x [] y e = inl (record { more = []; begins = refl })
 two_ways [] x (b ∷ bs) y e = inr (record { next = b; more = bs; begins = refl; rest = y; ends = e })
@@ -46,10 +42,12 @@ pub record Closed (M : List ℕ → Type 0) (s : List ℕ) : Type 0 where
   pub rest : List ℕ
   pub whole : M (s ++ rest)
 
+-- a list with an item is not empty
 not_nil : (x : List ℕ) (n : ℕ) (more : List ℕ) → [] ≡ x ++ n ∷ more → ⊥
 not_nil [] n more e = cc
 not_nil (a ∷ x) n more e = cc
 
+-- no text of the whole goes on as no text of the part does
 none_part : (L M : List ℕ → Type 0) (front : List ℕ) (next : ℕ) (more others : List ℕ) → Good L → L (front ++ next ∷ more) → ((t : List ℕ) → M t → Led L t) → NoneBegins L front others → NoneBegins M front others
 none_part L M front next more [] g h leads w = tt
 none_part L M front next more (b ∷ bs) g h leads w =
@@ -84,6 +82,7 @@ leaves_part L M bytes n g closes leads v =
       wrong = none_part L M v.front v.next v.more v.others g v.goes_on leads v.wrong;
     }
 
+-- the same behind a part that was read
 none_past : (N M : List ℕ → Type 0) (s front others : List ℕ) → ((t : List ℕ) → M (s ++ t) → N t) → NoneBegins N front others → NoneBegins M (s ++ front) others
 none_past N M s front [] leads w = tt
 none_past N M s front (b ∷ bs) leads w = λ rest m. w rest (leads (front ++ b ∷ rest) (subst M (append_assoc s front (b ∷ rest)) m))
@@ -101,6 +100,7 @@ leaves_past N M s bytes n closes leads v = record {
   wrong = none_past N M s v.front v.others leads v.wrong;
 }
 
+-- a fault in the first part is one of the whole
 pub fault_part : (L M : List ℕ → Type 0) (bytes : List ℕ) (at : ℕ) (e : FormFault) → Good L → ((s : List ℕ) → L s → Closed M s) → ((t : List ℕ) → M t → Led L t) → Fault L bytes at e → Fault M bytes at e
 fault_part L M bytes at e g closes leads f = record {
   left = λ place is.
@@ -108,6 +108,7 @@ fault_part L M bytes at e g closes leads f = record {
       record { inside = v.inside; is = v.is; leaves = leaves_part L M (drop at bytes) v.inside g closes leads v.leaves };
 }
 
+-- a fault behind a part that was read is one of the whole
 pub fault_past : (N M : List ℕ → Type 0) (bytes : List ℕ) (at to : ℕ) (s : List ℕ) (e : FormFault) → Spans bytes at to s → ((t : List ℕ) → N t → M (s ++ t)) → ((t : List ℕ) → M (s ++ t) → N t) → Fault N bytes to e → Fault M bytes at e
 fault_past N M bytes at to s e p closes leads f = record {
   left = λ place is.

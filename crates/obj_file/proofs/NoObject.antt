@@ -14,6 +14,7 @@ use Rattle.obj_file.proofs.Spelled.{object_spelled, object_text}
 take_one : (front : List ℕ) (b : ℕ) (bs : List ℕ) → take (length front + 1) (front ++ b ∷ bs) ≡ front ++ b ∷ []
 take_one front b bs = take-append-add front (b ∷ bs) 1
 
+-- a list with an item is not empty
 not_nil : (n : ℕ) (more : List ℕ) → [] ≡ n ∷ more → ⊥
 not_nil n more e = cc
 
@@ -28,6 +29,7 @@ none_leaves front [] next more goes_on wrong h =
     not_nil next more (sym (good_object.unique (front ++ []) (front ++ next ∷ more) (next ∷ more) [] h goes_on same).1)
 none_leaves front (b ∷ bs) next more goes_on wrong h = wrong bs h
 
+-- the bytes end there, or no object goes on so
 longest_at : (front others : List ℕ) → NoneBegins IsObjectText front others → (length front ≡ length (front ++ others)) ⊎ (BeginsOne (take (length front + 1) (front ++ others)) → ⊥)
 longest_at front [] wrong = inl (sym (ap length (append-nil front)))
 longest_at front (b ∷ bs) wrong =
@@ -35,6 +37,7 @@ longest_at front (b ∷ bs) wrong =
     let t : BeginsOne (front ++ b ∷ []) = subst BeginsOne (take_one front b bs) s in
     wrong t.more (subst IsObjectText (append_assoc front (b ∷ []) t.more) (begun_text (front ++ b ∷ []) t)))
 
+-- bytes that leave the set of whole files
 from_leaves : (bytes : List ℕ) (n : ℕ) → Leaves IsObjectText bytes n → IsNoneFrom bytes n
 from_leaves bytes n v =
     let whole = object_spelled (v.front ++ v.next ∷ v.more) v.goes_on in
@@ -47,6 +50,7 @@ from_leaves bytes n v =
     } in
     subst (λ b. IsNoneFrom b n) (sym v.split) (subst (λ k. IsNoneFrom (v.front ++ v.others) k) (sym v.size) at_front)
 
+-- a fault in a whole file
 pub explained : (bytes : List ℕ) (e : FormFault) → Fault IsObjectText bytes 0 e → Explains bytes e
 explained bytes (FormFault.At place) f =
     let v = f.left place refl in

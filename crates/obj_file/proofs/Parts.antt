@@ -14,9 +14,11 @@ use Rattle.obj_file.proofs.Rows.{row_times, links_row, spans_join}
 pub spans_to : (bytes : List ℕ) (at to end : ℕ) (s : List ℕ) → to ≡ end → Spans bytes at to s → Spans bytes at end s
 spans_to bytes at to end s e p = subst (λ k. Spans bytes at k s) e p
 
+-- a link
 pub link_text : (x : Link) → IsLink x → IsLinkText (link_bytes x)
 link_text x h = record { number = x.at; below = h.at; rest = field x.slot; text = refl; ends = record { number = x.slot; below = h.slot; text = refl } }
 
+-- a slot of each kind
 pub slot_text : (s : Slot) → IsSlot s → IsSlotText (slot_bytes s)
 slot_text (Slot.Entry t) h = record {
   number = 0;
@@ -129,10 +131,12 @@ slot_text (Slot.System b) h = record {
       };
 }
 
+-- there are two kinds of functions
 pub kind_below : (k : FuncKind) → kind_number k < 2
 kind_below FuncKind.Plain = omega arith
 kind_below FuncKind.Saved = omega arith
 
+-- a function
 pub function_text : (f : Func) → IsFunc f → IsFunctionText (function_bytes f)
 function_text f h =
     let code = f.bytes ++ links_bytes f.links in

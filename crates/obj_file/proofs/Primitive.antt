@@ -9,6 +9,7 @@ use Rattle.std.proofs.lemmas.List.Elements.{All-head, All-tail, All-drop, All-ta
 use Rattle.rd_num.specs.Number.{le_bytes, le_number}
 use Rattle.x86_core.proofs.Parts.{IsBytes, bytes_back}
 use Rattle.obj_core.specs.Object.{Each, IsByte, field}
+use Rattle.obj_core.proofs.Cuts.{each_append}
 use Rattle.obj_file.specs.declared.fault.FormFault.{FormFault}
 use Rattle.obj_file.specs.Texts.{IsText, IsRaw, IsNumber, full, Spans, NoneBegins, LeavesAt, Fault}
 use Rattle.obj_file.proofs.Good.{each_replicate}
@@ -24,17 +25,15 @@ fault_at L bytes at place v = record {
 pub fault_memory : (L : List ℕ → Type 0) (bytes : List ℕ) (at : ℕ) (e : FormFault) → e ≡ FormFault.NoMemory → Fault L bytes at e
 fault_memory L bytes at e is = record { left = λ p e2. absurd (cc) }
 
+-- what holds at each index holds of each item
 pub each_from_all : (P : ℕ → Type 0) (xs : List ℕ) → All P xs → Each P xs
 each_from_all P [] h = tt
 each_from_all P (x ∷ xs) h = (All-head P x xs h, each_from_all P xs (All-tail P x xs h))
 
-bytes_of_each : (xs : List ℕ) → Each IsByte xs → IsBytes xs
+-- bytes, as the laws of numbers name them
+pub bytes_of_each : (xs : List ℕ) → Each IsByte xs → IsBytes xs
 bytes_of_each [] h = tt
 bytes_of_each (x ∷ xs) h = (h.0, bytes_of_each xs h.1)
-
-pub each_more : {T : Type 0} (P : T → Type 0) (xs ys : List T) → Each P xs → Each P ys → Each P (xs ++ ys)
-each_more P [] ys h k = k
-each_more P (x ∷ xs) ys h k = (h.0, each_more P xs ys h.1 k)
 
 -- a piece of a file as a row of bytes
 pub piece_spans : (bytes : List ℕ) (at n : ℕ) → at + n ≤ length bytes → Spans bytes at (at + n) (take n (drop at bytes))
@@ -46,6 +45,7 @@ piece_spans bytes at n h =
       within = h;
     }
 
+-- a piece of a file is bytes
 pub piece_raw : (bytes : List ℕ) (at n : ℕ) → All (λ b. b < 256) bytes → at + n ≤ length bytes → IsRaw n (take n (drop at bytes))
 piece_raw bytes at n all h = record {
   bytes = each_from_all IsByte (take n (drop at bytes)) (All-take (λ b. b < 256) n (drop at bytes) (All-drop (λ b. b < 256) at bytes all));
@@ -61,6 +61,7 @@ number_spans bytes at k n all h e =
     ap (λ m. le_bytes k m) e ∙ ap (λ j. le_bytes j (le_number piece)) (sym raw.size) ∙ bytes_back piece (bytes_of_each piece raw.bytes) in
     subst (λ s. Spans bytes at (at + k) s) (sym back) (piece_spans bytes at k h)
 
+-- zeros that fill a row
 filled_to : (rest : List ℕ) (k : ℕ) → length rest < k → length (rest ++ 0 ∷ replicate (k - length rest - 1) 0) ≡ k
 filled_to rest k h =
     let zeros : List ℕ = replicate (k - length rest - 1) 0 in
@@ -87,7 +88,7 @@ short_leaves L k bytes at made all within short =
         size = refl;
         next = 0;
         more = replicate missing 0;
-        goes_on = made (rest ++ 0 ∷ replicate missing 0) (record { bytes = each_more IsByte rest (0 ∷ replicate missing 0) each zeros; size = filled });
+        goes_on = made (rest ++ 0 ∷ replicate missing 0) (record { bytes = each_append IsByte rest (0 ∷ replicate missing 0) each zeros; size = filled });
         wrong = tt;
       };
     }
@@ -102,6 +103,7 @@ small_number (a ∷ b ∷ c ∷ d ∷ []) h e =
     let p : a < 256 = h.0 in let q : b < 256 = h.1.0 in let r : c < 256 = h.1.1.0 in let t : d < 256 = h.1.1.1.0 in omega arith
 small_number (a ∷ b ∷ c ∷ d ∷ x ∷ s) h e = absurd (omega arith)
 
+-- four bytes are a field
 pub raw_number : (s : List ℕ) → IsRaw 4 s → IsNumber full s
 raw_number s h = record {
   number = le_number s;
@@ -109,6 +111,7 @@ raw_number s h = record {
   text = sym (ap (λ j. le_bytes j (le_number s)) (sym h.size) ∙ bytes_back s (bytes_of_each s h.bytes));
 }
 
+-- a row of bytes is itself
 same_raw : (k : ℕ) (s : List ℕ) → IsRaw k s → IsRaw k s
 same_raw k s h = h
 
@@ -119,13 +122,16 @@ pub record IsShort (bytes : List ℕ) (at size : ℕ) (e : FormFault) : Type 0 w
   pub short : length bytes < at + size
   pub is : e ≡ FormFault.At (length bytes)
 
+-- the fault of a file that is too short
 short_fault : (L : List ℕ → Type 0) (bytes : List ℕ) (at size : ℕ) (e : FormFault) → ((s : List ℕ) → IsRaw size s → L s) → IsShort bytes at size e → Fault L bytes at e
 short_fault L bytes at size e made h =
     subst (λ f. Fault L bytes at f) (sym h.is) (fault_at L bytes at (length bytes) (short_leaves L size bytes at made h.all h.within h.short))
 
+-- too short for a row of bytes
 pub raw_fault : (bytes : List ℕ) (at size : ℕ) (e : FormFault) → IsShort bytes at size e → Fault (IsRaw size) bytes at e
 raw_fault bytes at size e h = short_fault (IsRaw size) bytes at size e (same_raw size) h
 
+-- too short for a field
 pub field_fault : (bytes : List ℕ) (at : ℕ) (e : FormFault) → IsShort bytes at 4 e → Fault (IsNumber full) bytes at e
 field_fault bytes at e h = short_fault (IsNumber full) bytes at 4 e raw_number h
 
@@ -141,14 +147,17 @@ one_more bytes wanted at i h inside within same =
     ap (λ c. take i (drop at bytes) ++ c ∷ []) (sym same ∙ sym (get_or-drop at bytes i 0)) ∙
     sym (take_more (drop at bytes) i 0 room)
 
+-- fixed bytes: all of them stand there
 pub all_stand : (bytes wanted : List ℕ) (at i : ℕ) → i ≡ length wanted → take i wanted ≡ take i (drop at bytes) → at + i ≤ length bytes → Spans bytes at (at + length wanted) wanted
 all_stand bytes wanted at i e h within =
     let whole : take i wanted ≡ wanted = take_all i wanted (omega arith) in
     subst (λ n. Spans bytes at (at + n) wanted) e (subst (λ s. Spans bytes at (at + i) s) (sym h ∙ whole) (piece_spans bytes at i within))
 
+-- a list around one of its items
 split_text : (wanted : List ℕ) (i : ℕ) → i < length wanted → wanted ≡ take i wanted ++ get_or wanted i 0 ∷ drop (i + 1) wanted
 split_text wanted i h = sym (take-append-drop i wanted) ∙ ap (λ z. take i wanted ++ z) (drop_more wanted i 0 h)
 
+-- fixed bytes don't go on with another byte
 none_text : (wanted others front : List ℕ) (i : ℕ) → front ≡ take i wanted → i < length wanted → ((b : ℕ) (bs : List ℕ) → others ≡ b ∷ bs → b ≢ get_or wanted i 0) → NoneBegins (IsText wanted) front others
 none_text wanted [] front i e h w = tt
 none_text wanted (b ∷ bs) front i e h w =
@@ -157,6 +166,7 @@ none_text wanted (b ∷ bs) front i e h w =
     let tails : b ∷ rest ≡ get_or wanted i 0 ∷ drop (i + 1) wanted = append_cancel_left front (b ∷ rest) (get_or wanted i 0 ∷ drop (i + 1) wanted) same in
     w b bs refl (let c : b ≡ get_or wanted i 0 = cc in c)
 
+-- fixed bytes: the first that doesn't stand there
 text_leaves : (bytes wanted : List ℕ) (at i : ℕ) → take i wanted ≡ take i (drop at bytes) → i < length wanted → at + i ≤ length bytes → (at + i < length bytes → get_or bytes (at + i) 0 ≢ get_or wanted i 0) → LeavesAt (IsText wanted) bytes at (at + i)
 text_leaves bytes wanted at i h inside within wrong =
     let rest = drop at bytes in
@@ -187,9 +197,11 @@ text_leaves bytes wanted at i h inside within wrong =
         let is : b ≡ get_or (drop at bytes) i 0 = cc in
         λ same. wrong within2 (sym (get_or-drop at bytes i 0) ∙ sym is ∙ same)
 
+-- fixed bytes: the file ends before
 pub text_short : (bytes wanted : List ℕ) (at i : ℕ) → take i wanted ≡ take i (drop at bytes) → i < length wanted → at + i ≤ length bytes → length bytes ≤ at + i → Fault (IsText wanted) bytes at (FormFault.At (at + i))
 text_short bytes wanted at i h inside within short = fault_at (IsText wanted) bytes at (at + i) (text_leaves bytes wanted at i h inside within (λ l. absurd (omega arith)))
 
+-- fixed bytes: another byte stands there
 pub text_wrong : (bytes wanted : List ℕ) (at i : ℕ) → take i wanted ≡ take i (drop at bytes) → i < length wanted → at + i ≤ length bytes → get_or bytes (at + i) 0 ≢ get_or wanted i 0 → Fault (IsText wanted) bytes at (FormFault.At (at + i))
 text_wrong bytes wanted at i h inside within differ = fault_at (IsText wanted) bytes at (at + i) (text_leaves bytes wanted at i h inside within (λ l. differ))
 
@@ -200,6 +212,7 @@ field_small n h =
     let b : n / 256 ≡ 0 = omega arith in
     ap (λ x. x ∷ le_bytes 3 (n / 256)) a ∙ ap (λ x. n ∷ le_bytes 3 x) b
 
+-- no number below the limit has another first byte
 none_below : (limit : ℕ) (others : List ℕ) → limit ≤ 256 → ((b : ℕ) (bs : List ℕ) → others ≡ b ∷ bs → limit ≤ b) → NoneBegins (IsNumber limit) [] others
 none_below limit [] h w = tt
 none_below limit (b ∷ bs) h w =
@@ -237,6 +250,7 @@ below_leaves bytes at limit some fits within wrong = record {
         let is : b ≡ get_or bytes at 0 = cc in
         subst (λ n. limit ≤ n) (sym is) (wrong room)
 
+-- the fault of a first byte
 pub below_fault : (bytes : List ℕ) (at limit : ℕ) → 0 < limit → limit ≤ 256 → at ≤ length bytes → (at < length bytes → limit ≤ get_or bytes at 0) → Fault (IsNumber limit) bytes at (FormFault.At at)
 below_fault bytes at limit some fits within wrong = fault_at (IsNumber limit) bytes at at (below_leaves bytes at limit some fits within wrong)
 

@@ -6,7 +6,7 @@ use Rattle.obj_file.specs.declared.fault.FormFault.{FormFault}
 use Rattle.obj_file.specs.Texts.{Times, Spans, Fault}
 use Rattle.obj_file.proofs.Good.{Good, good_times}
 use Rattle.obj_file.proofs.Leaving.{fault_first, fault_second}
-use Rattle.obj_file.proofs.Primitive.{each_more}
+use Rattle.obj_core.proofs.Cuts.{each_append}
 
 -- two pieces of a file, the second where the first ends
 pub spans_join : (bytes : List ℕ) (at mid to : ℕ) (s t : List ℕ) → Spans bytes at mid s → Spans bytes mid to t → Spans bytes at to (s ++ t)
@@ -16,6 +16,7 @@ spans_join bytes at mid to s t p q = record {
   within = q.within;
 }
 
+-- an empty piece
 pub spans_none : (bytes : List ℕ) (at : ℕ) → at ≤ length bytes → Spans bytes at at []
 spans_none bytes at h = record { text = refl; size = omega arith; within = h }
 
@@ -24,6 +25,7 @@ pub record Split (bytes : List ℕ) (at to : ℕ) (s t : List ℕ) : Type 0 wher
   pub first : Spans bytes at (at + length s) s
   pub second : Spans bytes (at + length s) to t
 
+-- the two parts of a piece
 pub spans_split : (bytes : List ℕ) (at to : ℕ) (s t : List ℕ) → Spans bytes at to (s ++ t) → Split bytes at to s t
 spans_split bytes at to s t p =
     let long : length (s ++ t) ≡ length s + length t = length-append s t in
@@ -52,21 +54,26 @@ pub record IsRow {T : Type 0} (one : T → List ℕ) (all : List T → List ℕ)
   pub none : all [] ≡ []
   pub more : (x : T) (xs : List T) → all (x ∷ xs) ≡ one x ++ all xs
 
+-- links
 pub links_row : IsRow link_bytes links_bytes
 links_row = record { none = refl; more = λ x xs. refl }
 
+-- slots
 pub slots_row : IsRow slot_bytes slots_bytes
 slots_row = record { none = refl; more = λ x xs. refl }
 
+-- functions
 pub functions_row : IsRow function_bytes functions_bytes
 functions_row = record { none = refl; more = λ x xs. refl }
 
+-- the bytes of one more item come last
 pub row_end : {T : Type 0} (one : T → List ℕ) (all : List T → List ℕ) (r : IsRow one all) (xs : List T) (x : T) → all (xs ++ x ∷ []) ≡ all xs ++ one x
 row_end one all r [] x = r.more x [] ∙ ap (λ z. one x ++ z) r.none ∙ append-nil (one x) ∙ ap (λ z. z ++ one x) (sym r.none)
 row_end one all r (y ∷ xs) x =
     r.more y (xs ++ x ∷ []) ∙ ap (λ z. one y ++ z) (row_end one all r xs x) ∙ sym (append_assoc (one y) (all xs) (one x)) ∙
     ap (λ z. z ++ one x) (sym (r.more y xs))
 
+-- a row of items is a row of texts
 pub row_times : {T : Type 0} (P : T → Type 0) (one : T → List ℕ) (all : List T → List ℕ) (L : List ℕ → Type 0) (r : IsRow one all) (xs : List T) → ((x : T) → P x → L (one x)) → Each P xs → Times L (length xs) (all xs)
 row_times P one all L r [] made h = record { same = r.none }
 row_times P one all L r (x ∷ xs) made h = record { first = one x; second = all xs; text = r.more x xs; begins = made x h.0; ends = row_times P one all L r xs made h.1 }
@@ -77,22 +84,26 @@ pub record RowRead {T : Type 0} (P : T → Type 0) (all : List T → List ℕ) (
   pub count : length items ≡ done
   pub spans : Spans bytes at to (all items)
 
+-- nothing is read yet
 pub row_none : {T : Type 0} (P : T → Type 0) (one : T → List ℕ) (all : List T → List ℕ) (r : IsRow one all) (bytes : List ℕ) (at : ℕ) → at ≤ length bytes → RowRead P all bytes at at 0 []
 row_none P one all r bytes at h = record { each = tt; count = refl; spans = subst (λ s. Spans bytes at at s) (sym r.none) (spans_none bytes at h) }
 
+-- one more item is read
 pub row_more : {T : Type 0} (P : T → Type 0) (one : T → List ℕ) (all : List T → List ℕ) (r : IsRow one all) (bytes : List ℕ) (at to end done : ℕ) (items : List T) (x : T) (now : List T) → RowRead P all bytes at to done items → P x → Spans bytes to end (one x) → now ≡ items ++ x ∷ [] → RowRead P all bytes at end (done + 1) now
 row_more P one all r bytes at to end done items x now h p s e =
     subst (λ l. RowRead P all bytes at end (done + 1) l) (sym e)
     (record {
-      each = each_more P items (x ∷ []) h.each (p, tt);
+      each = each_append P items (x ∷ []) h.each (p, tt);
       count = length-append items (x ∷ []) ∙ (let c = h.count in omega arith);
       spans = subst (λ z. Spans bytes at end z) (sym (row_end one all r items x)) (spans_join bytes at to end (all items) (one x) h.spans s);
     })
 
+-- a fault in the next item
 pub row_fault : {T : Type 0} (P : T → Type 0) (one : T → List ℕ) (all : List T → List ℕ) (L : List ℕ → Type 0) (r : IsRow one all) (bytes : List ℕ) (at to done n : ℕ) (items : List T) (e : FormFault) → Good L → ((x : T) → P x → L (one x)) → RowRead P all bytes at to done items → done < n → Fault L bytes to e → Fault (Times L n) bytes at e
 row_fault P one all L r bytes at to done n items e g made h less f =
     let times : Times L done (all items) = subst (λ k. Times L k (all items)) h.count (row_times P one all L r items made h.each) in
     fault_row L bytes at to done n (all items) e g times less h.spans f
 
+-- a row of so many items
 pub row_counted : {T : Type 0} (P : T → Type 0) (one : T → List ℕ) (all : List T → List ℕ) (L : List ℕ → Type 0) (r : IsRow one all) (xs : List T) (n : ℕ) → ((x : T) → P x → L (one x)) → Each P xs → length xs ≡ n → Times L n (all xs)
 row_counted P one all L r xs n made h e = subst (λ k. Times L k (all xs)) e (row_times P one all L r xs made h)

@@ -3,13 +3,14 @@ use Rattle.std.proofs.Common.{◌≡◌, ℕ, zero, suc, ◌*◌, ◌/◌, ◌<�
 use Rattle.std.specs.Prelude.{nat_le}
 use Rattle.std.proofs.Math.Nat.{pow-succ'}
 use Rattle.rd_num.specs.Number.{le_bytes, le_number}
-use Rattle.x86_core.proofs.Parts.{IsBytes, bytes_back}
+use Rattle.x86_core.proofs.Parts.{bytes_back}
 use Rattle.obj_core.specs.declared.object.Object.{Object}
 use Rattle.obj_core.specs.declared.object.Func.{Func}
 use Rattle.obj_core.specs.declared.object.FuncKind.{FuncKind}
 use Rattle.obj_core.specs.declared.object.Slot.{Slot}
 use Rattle.obj_core.specs.Object.{Each, IsByte, field, kind_number, function_bytes, functions_bytes, link_bytes, links_bytes, slot_fields, slot_bytes, slots_bytes, object_bytes, IsFunc, IsLink, IsSlot, IsObject}
 use Rattle.obj_file.specs.Texts.{IsRaw, Times, limit_if, IsLinkText, IsFunctionText, IsSlotText, IsObjectText, body_bytes, counted_bytes, opening}
+use Rattle.obj_file.proofs.Primitive.{bytes_of_each}
 use Rattle.obj_file.proofs.Rows.{IsRow, row_times, links_row, slots_row, functions_row}
 use Rattle.obj_file.proofs.Parts.{slot_text, function_text}
 
@@ -26,6 +27,7 @@ pub record RowSpelled {T : Type 0} (P : T → Type 0) (all : List T → List ℕ
   pub count : length items ≡ n
   pub text : s ≡ all items
 
+-- a row of texts spells a row of items
 row_spelled : {T : Type 0} (P : T → Type 0) (one : T → List ℕ) (all : List T → List ℕ) (L : List ℕ → Type 0) (r : IsRow one all) → ((s : List ℕ) → L s → Spelled P one s) → (n : ℕ) (s : List ℕ) → Times L n s → RowSpelled P all n s
 row_spelled P one all L r each zero s h = record { items = []; each = tt; count = refl; text = h.same ∙ sym r.none }
 row_spelled P one all L r each (suc n) s h =
@@ -38,6 +40,7 @@ row_spelled P one all L r each (suc n) s h =
       text = h.text ∙ ap (λ z. z ++ h.second) first.text ∙ ap (λ z. one first.item ++ z) rest.text ∙ sym (r.more first.item rest.items);
     }
 
+-- a link
 link_spelled : (s : List ℕ) → IsLinkText s → Spelled IsLink link_bytes s
 link_spelled s h = record {
   item = record { at = h.number; slot = h.ends.number };
@@ -45,21 +48,25 @@ link_spelled s h = record {
   text = h.text ∙ ap (λ z. field h.number ++ z) h.ends.text;
 }
 
+-- the kind of a number
 pub kind_at : ℕ → FuncKind
 kind_at zero = FuncKind.Plain
 kind_at (suc n) = FuncKind.Saved
 
+-- a kind's number
 kind_at_number : (k : ℕ) → k < 2 → kind_number (kind_at k) ≡ k
 unfolding kind_at
 kind_at_number zero h = refl
 kind_at_number (suc zero) h = refl
 kind_at_number (suc (suc k)) h = absurd (omega arith)
 
+-- a number's kind
 pub kind_back : (k : FuncKind) → kind_at (kind_number k) ≡ k
 unfolding kind_at
 kind_back FuncKind.Plain = refl
 kind_back FuncKind.Saved = refl
 
+-- a function
 function_spelled : (s : List ℕ) → IsFunctionText s → Spelled IsFunc function_bytes s
 function_spelled s h =
     let size = h.ends in
@@ -86,6 +93,7 @@ function_spelled s h =
       text = text;
     }
 
+-- the slot of four fields
 slot_built : (k t f o : ℕ) → k < 5 → t < limit_if (nat_le k 2) → f < limit_if (nat_le 2 k) → o < limit_if (nat_le 2 k) → Spelled IsSlot slot_bytes (slot_fields k t f o)
 slot_built zero t f o h a b c =
     let e : f ≡ 0 = omega arith in let g : o ≡ 0 = omega arith in
@@ -103,6 +111,7 @@ slot_built (suc (suc (suc (suc zero)))) t f o h a b c =
     record { item = Slot.System (record { function = f; offset = o }); holds = record { function = b; offset = c }; text = ap (λ n. slot_fields 4 n f o) e }
 slot_built (suc (suc (suc (suc (suc k))))) t f o h a b c = absurd (omega arith)
 
+-- a slot
 slot_spelled : (s : List ℕ) → IsSlotText s → Spelled IsSlot slot_bytes s
 slot_spelled s h =
     let target = h.ends in
@@ -115,10 +124,6 @@ slot_spelled s h =
       text = h.text ∙ ap (λ z. field h.number ++ z) (target.text ∙ ap (λ z. field target.number ++ z) (back.text ∙ ap (λ z. field back.number ++ z) offset.text)) ∙ built.text;
     }
 
-bytes_of_each : (xs : List ℕ) → Each IsByte xs → IsBytes xs
-bytes_of_each [] h = tt
-bytes_of_each (x ∷ xs) h = (h.0, bytes_of_each xs h.1)
-
 -- bytes spell a number that is as small as they are few
 number_small : (xs : List ℕ) → Each IsByte xs → le_number xs < 256 ^ length xs
 number_small [] h = omega arith
@@ -128,6 +133,7 @@ number_small (x ∷ xs) h =
     let e : 256 ^ suc (length xs) ≡ 256 * 256 ^ length xs = pow-succ' 256 (length xs) in
     omega arith
 
+-- eight bytes are a word
 word_spelled : (s : List ℕ) → IsRaw 8 s → Spelled (λ n. n < 2 ^ 64) (le_bytes 8) s
 word_spelled s h = record {
   item = le_number s;
@@ -135,6 +141,7 @@ word_spelled s h = record {
   text = sym (ap (λ j. le_bytes j (le_number s)) (sym h.size) ∙ bytes_back s (bytes_of_each s h.bytes));
 }
 
+-- each text of the set is the spelling of an object
 pub object_spelled : (s : List ℕ) → IsObjectText s → Spelled IsObject object_bytes s
 object_spelled s h =
     let seeds = h.ends in
@@ -179,6 +186,7 @@ object_spelled s h =
       text = text;
     }
 
+-- a number's bytes
 pub word_raw : (k n : ℕ) → IsRaw k (le_bytes k n)
 word_raw zero n = record { bytes = tt; size = refl }
 word_raw (suc k) n =

@@ -1,6 +1,5 @@
 -- Spellings tell what they spell.
-use Rattle.std.proofs.Common.{◌≡◌, ℕ, zero, suc, ◌+◌, ◌<◌, ◌≤◌, ◌^◌, List, [], ◌∷◌, ◌++◌, length, refl, sym, ◌∙◌, ap, subst, arith, append_assoc}
-use Rattle.std.proofs.lemmas.List.{append-nil}
+use Rattle.std.proofs.Common.{◌≡◌, ℕ, zero, suc, ◌<◌, ◌^◌, List, [], ◌∷◌, ◌++◌, length, refl, sym, ◌∙◌, ap, arith, append_assoc}
 use Rattle.rd_num.specs.Number.{le_bytes, le_number}
 use Rattle.x86_core.proofs.Parts.{number_back8}
 use Rattle.obj_core.specs.declared.object.Object.{Object}
@@ -21,6 +20,7 @@ use Rattle.obj_file.proofs.Spelled.{kind_at, kind_back}
 pub record Tells {T : Type 0} (P : T → Type 0) (one : T → List ℕ) : Type 0 where
   pub same : (x y : T) (s t : List ℕ) → P x → P y → one x ++ s ≡ one y ++ t → (x ≡ y) × (s ≡ t)
 
+-- rows of as many items
 row_tells : {T : Type 0} (P : T → Type 0) (one : T → List ℕ) (all : List T → List ℕ) (r : IsRow one all) (tells : Tells P one) (xs ys : List T) (s t : List ℕ) → length xs ≡ length ys → Each P xs → Each P ys → all xs ++ s ≡ all ys ++ t → (xs ≡ ys) × (s ≡ t)
 row_tells P one all r tells [] [] s t n h k e = (refl, ap (λ z. z ++ s) (sym r.none) ∙ e ∙ ap (λ z. z ++ t) r.none)
 row_tells P one all r tells [] (y ∷ ys) s t n h k e = absurd (omega arith)
@@ -32,6 +32,7 @@ row_tells P one all r tells (x ∷ xs) (y ∷ ys) s t n h k e =
     let rest = row_tells P one all r tells xs ys s t (omega arith) h.1 k.1 first.1 in
     (ap (λ z. z ∷ xs) first.0 ∙ ap (λ zs. y ∷ zs) rest.0, rest.1)
 
+-- links
 link_tells : Tells IsLink link_bytes
 link_tells = record { same = λ x y s t h k e. same x y s t h k e }
   where
@@ -52,6 +53,7 @@ slot_kind (Slot.Call t b) = 2
 slot_kind (Slot.Indirect b) = 3
 slot_kind (Slot.System b) = 4
 
+-- the target, or 0
 slot_target : Slot → ℕ
 slot_target (Slot.Entry t) = t
 slot_target (Slot.Jump t) = t
@@ -59,6 +61,7 @@ slot_target (Slot.Call t b) = t
 slot_target (Slot.Indirect b) = 0
 slot_target (Slot.System b) = 0
 
+-- the way back, or zeros
 slot_back : Slot → CodeAt
 slot_back (Slot.Entry t) = record { function = 0; offset = 0 }
 slot_back (Slot.Jump t) = record { function = 0; offset = 0 }
@@ -66,6 +69,7 @@ slot_back (Slot.Call t b) = b
 slot_back (Slot.Indirect b) = b
 slot_back (Slot.System b) = b
 
+-- the slot of these fields
 slot_at : ℕ → ℕ → CodeAt → Slot
 slot_at zero t b = Slot.Entry t
 slot_at (suc zero) t b = Slot.Jump t
@@ -73,6 +77,7 @@ slot_at (suc (suc zero)) t b = Slot.Call t b
 slot_at (suc (suc (suc zero))) t b = Slot.Indirect b
 slot_at (suc (suc (suc (suc k)))) t b = Slot.System b
 
+-- the fields give the slot
 slot_again : (s : Slot) → slot_at (slot_kind s) (slot_target s) (slot_back s) ≡ s
 unfolding slot_kind slot_target slot_back slot_at
 slot_again (Slot.Entry t) = refl
@@ -89,6 +94,7 @@ record FieldsOf (s : Slot) : Type 0 where
   function : (slot_back s).function < 2 ^ 32
   offset : (slot_back s).offset < 2 ^ 32
 
+-- each slot has them
 fields_of : (s : Slot) → IsSlot s → FieldsOf s
 unfolding slot_kind slot_target slot_back
 fields_of (Slot.Entry t) h = record { spelling = refl; kind = omega arith; target = h; function = omega arith; offset = omega arith }
@@ -97,6 +103,7 @@ fields_of (Slot.Call t b) h = record { spelling = refl; kind = omega arith; targ
 fields_of (Slot.Indirect b) h = record { spelling = refl; kind = omega arith; target = omega arith; function = h.function; offset = h.offset }
 fields_of (Slot.System b) h = record { spelling = refl; kind = omega arith; target = omega arith; function = h.function; offset = h.offset }
 
+-- slots
 slot_tells : Tells IsSlot slot_bytes
 slot_tells = record { same = λ x y s t h k e. same x y s t h k e }
   where
@@ -119,6 +126,7 @@ slot_tells = record { same = λ x y s t h k e. same x y s t h k e }
           four.1,
         )
 
+-- functions
 function_tells : Tells IsFunc function_bytes
 function_tells = record { same = λ x y s t h k e. same x y s t h k e }
   where
@@ -139,11 +147,13 @@ function_tells = record { same = λ x y s t h k e. same x y s t h k e }
         let build : FuncKind → List ℕ → List Link → Func = λ a b c. record { kind = a; bytes = b; links = c } in
         (ap (λ a. build a x.bytes x.links) kinds ∙ ap (λ b. build y.kind b x.links) four.0 ∙ ap (λ c. build y.kind y.bytes c) five.0, five.1)
 
+-- words of eight bytes
 word_unique : (n m : ℕ) (x y : List ℕ) → n < 2 ^ 64 → m < 2 ^ 64 → le_bytes 8 n ++ x ≡ le_bytes 8 m ++ y → (n ≡ m) × (x ≡ y)
 word_unique n m x y h k e =
     let both = same_split (le_bytes 8 n) (le_bytes 8 m) x y refl e in
     (sym (number_back8 n h) ∙ ap le_number both.0 ∙ number_back8 m k, both.1)
 
+-- whole objects
 pub object_tells : (a b : Object) → IsObject a → IsObject b → object_bytes a ≡ object_bytes b → a ≡ b
 object_tells a b h k e =
     let body_a = body_bytes a.functions a.slots a.ro a.rw in
@@ -168,9 +178,11 @@ object_tells a b h k e =
     ap (λ r. build b.slot_seed b.reg_seed b.functions b.slots r a.rw) last.0 ∙
     ap (λ w. build b.slot_seed b.reg_seed b.functions b.slots b.ro w) last.1
 
+-- functions in range
 functions_fit : (fs : List Func) → Each IsFunc fs → Each FunctionFits fs
 functions_fit [] h = tt
 functions_fit (f ∷ fs) h = (record { bytes = h.0.length_fits; links = h.0.links_fit }, functions_fit fs h.1)
 
+-- an object in range has counts that fit
 pub object_fits : (o : Object) → IsObject o → CountsFit o
 object_fits o h = record { functions = h.functions_fit; slots = h.slots_fit; ro = h.ro_fits; rw = h.rw_fits; each_function = functions_fit o.functions h.functions }

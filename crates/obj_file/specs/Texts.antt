@@ -49,6 +49,7 @@ full = 2 ^ 32
 abbrev pub limit_if : Bool → ℕ
 limit_if used = if used then full else 1
 
+-- a link: two fields
 abbrev pub IsLinkText : List ℕ → Type 0
 IsLinkText = FieldThen full (λ at. IsNumber full)
 
@@ -56,12 +57,15 @@ IsLinkText = FieldThen full (λ at. IsNumber full)
 abbrev pub CodeText : ℕ → ℕ → List ℕ → Type 0
 CodeText size links = Then (IsRaw size) (Times IsLinkText links)
 
+-- the number of links, and what it and the size count
 abbrev pub LinksText : ℕ → List ℕ → Type 0
 LinksText size = FieldThen full (CodeText size)
 
+-- the size, and what follows it
 abbrev pub SizeText : List ℕ → Type 0
 SizeText = FieldThen full LinksText
 
+-- a function from its kind on
 abbrev pub IsFunctionText : List ℕ → Type 0
 IsFunctionText = FieldThen 2 (λ kind. SizeText)
 
@@ -69,12 +73,15 @@ IsFunctionText = FieldThen 2 (λ kind. SizeText)
 abbrev pub OffsetText : ℕ → List ℕ → Type 0
 OffsetText kind = IsNumber (limit_if (nat_le 2 kind))
 
+-- the way back
 abbrev pub BackText : ℕ → List ℕ → Type 0
 BackText kind = FieldThen (limit_if (nat_le 2 kind)) (λ function. OffsetText kind)
 
+-- the target and the way back
 abbrev pub TargetText : ℕ → List ℕ → Type 0
 TargetText kind = FieldThen (limit_if (nat_le kind 2)) (λ target. BackText kind)
 
+-- a slot from its kind on
 abbrev pub IsSlotText : List ℕ → Type 0
 IsSlotText = FieldThen 5 TargetText
 
@@ -82,21 +89,27 @@ IsSlotText = FieldThen 5 TargetText
 abbrev pub DataText : ℕ → ℕ → List ℕ → Type 0
 DataText ro rw = Then (IsRaw ro) (IsRaw rw)
 
+-- the slots and the data
 abbrev pub SlotsText : ℕ → ℕ → ℕ → List ℕ → Type 0
 SlotsText slots ro rw = Then (Times IsSlotText slots) (DataText ro rw)
 
+-- the functions, the slots and the data
 abbrev pub BodyText : ℕ → ℕ → ℕ → ℕ → List ℕ → Type 0
 BodyText functions slots ro rw = Then (Times IsFunctionText functions) (SlotsText slots ro rw)
 
+-- from the fourth count on
 abbrev pub AfterRo : ℕ → ℕ → ℕ → List ℕ → Type 0
 AfterRo functions slots ro = FieldThen full (BodyText functions slots ro)
 
+-- from the third count on
 abbrev pub AfterSlots : ℕ → ℕ → List ℕ → Type 0
 AfterSlots functions slots = FieldThen full (AfterRo functions slots)
 
+-- from the second count on
 abbrev pub AfterFunctions : ℕ → List ℕ → Type 0
 AfterFunctions functions = FieldThen full (AfterSlots functions)
 
+-- from the first count on
 abbrev pub CountedText : List ℕ → Type 0
 CountedText = FieldThen full AfterFunctions
 
@@ -104,12 +117,15 @@ CountedText = FieldThen full AfterFunctions
 abbrev pub opening : List ℕ
 opening = magic ++ field 1
 
+-- from the register seed on
 abbrev pub RegSeedText : List ℕ → Type 0
 RegSeedText = Then (IsRaw 8) CountedText
 
+-- from the slot seed on
 abbrev pub SlotSeedText : List ℕ → Type 0
 SlotSeedText = Then (IsRaw 8) RegSeedText
 
+-- a whole file
 abbrev pub IsObjectText : List ℕ → Type 0
 IsObjectText = Then (IsText opening) SlotSeedText
 
@@ -117,6 +133,7 @@ IsObjectText = Then (IsText opening) SlotSeedText
 abbrev pub body_bytes : List Func → List Slot → List ℕ → List ℕ → List ℕ
 body_bytes functions slots ro rw = functions_bytes functions ++ (slots_bytes slots ++ (ro ++ rw))
 
+-- the counts and what they count
 abbrev pub counted_bytes : List Func → List Slot → List ℕ → List ℕ → List ℕ
 counted_bytes functions slots ro rw =
     field (length functions) ++ (field (length slots) ++ (field (length ro) ++ (field (length rw) ++ body_bytes functions slots ro rw)))

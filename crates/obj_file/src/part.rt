@@ -3,7 +3,7 @@
 //! Each function reads at `at`, which counts from the start of the file, and its fault names the
 //! place at which the bytes leave what may stand there.
 
-ghost use Rattle.std.specs.Prelude.{◌≡◌, ◌+◌, ◌<◌, ◌≤◌, ◌^◌, length, IfOk, IfErr};
+ghost use Rattle.std.specs.Prelude.{◌≡◌, ◌≢◌, ◌+◌, ◌<◌, ◌≤◌, ◌^◌, length, IfOk, IfErr};
 ghost use Rattle.rd_num.specs.Number.{le_bytes};
 ghost use Rattle.obj_core.specs.Object.{field};
 ghost use Rattle.obj_file.specs.Texts.{IsText, IsRaw, IsNumber, full, limit_if, Spans, Fault};
@@ -18,6 +18,7 @@ pub fn expect(bytes: &[u8], at: usize, wanted: &[u8]) -> Result<(), FormFault>
     requires { at ≤ length bytes.now }
     ensures read { IfOk result (λ _. Spans bytes.now at (at + length wanted.now) wanted.now) }
     ensures fault { IfErr result (λ e. Fault (IsText wanted.now) bytes.now at e) }
+    ensures told { IfErr result (λ e. e ≢ FormFault.NoMemory) }
 {
     for (i, byte) in wanted.iter().enumerate() {
         if at + i >= bytes.len() || bytes[at + i] != *byte {
@@ -35,6 +36,7 @@ pub fn read_word(bytes: &[u8], at: usize) -> Result<u64, FormFault>
     ensures small { IfOk result (λ n. n < 2 ^ 64) }
     ensures read { IfOk result (λ n. Spans bytes.now at (at + 8) (le_bytes 8 n)) }
     ensures fault { IfErr result (λ e. Fault (IsRaw 8) bytes.now at e) }
+    ensures told { IfErr result (λ e. e ≢ FormFault.NoMemory) }
 {
     bytes_known(bytes);
     if bytes.len() - at < 8 {
@@ -52,6 +54,7 @@ pub fn read_field(bytes: &[u8], at: usize) -> Result<u32, FormFault>
     ensures small { IfOk result (λ n. n < full) }
     ensures read { IfOk result (λ n. Spans bytes.now at (at + 4) (field n)) }
     ensures fault { IfErr result (λ e. Fault (IsNumber full) bytes.now at e) }
+    ensures told { IfErr result (λ e. e ≢ FormFault.NoMemory) }
 {
     bytes_known(bytes);
     if bytes.len() - at < 4 {
@@ -70,6 +73,7 @@ pub fn read_below(bytes: &[u8], at: usize, limit: u8) -> Result<u32, FormFault>
     ensures small { IfOk result (λ n. n < limit) }
     ensures read { IfOk result (λ n. Spans bytes.now at (at + 4) (field n)) }
     ensures fault { IfErr result (λ e. Fault (IsNumber limit) bytes.now at e) }
+    ensures told { IfErr result (λ e. e ≢ FormFault.NoMemory) }
 {
     if at >= bytes.len() || bytes[at] >= limit {
         return Err(FormFault::At { place: at as u64 });
@@ -84,6 +88,7 @@ pub fn read_used(bytes: &[u8], at: usize, used: bool) -> Result<u32, FormFault>
     ensures small { IfOk result (λ n. n < limit_if used) }
     ensures read { IfOk result (λ n. Spans bytes.now at (at + 4) (field n)) }
     ensures fault { IfErr result (λ e. Fault (IsNumber (limit_if used)) bytes.now at e) }
+    ensures told { IfErr result (λ e. e ≢ FormFault.NoMemory) }
 {
     if used {
         read_field(bytes, at)

@@ -1,6 +1,6 @@
 //! An object from the bytes of its file, part after part in the order of the file.
 
-ghost use Rattle.std.specs.Prelude.{◌≡◌, ◌+◌, ◌<◌, ◌≤◌, ◌^◌, ◌++◌, nat_le, length, IfOk, IfErr};
+ghost use Rattle.std.specs.Prelude.{◌≡◌, ◌≢◌, ◌+◌, ◌<◌, ◌≤◌, ◌^◌, ◌++◌, nat_le, length, IfOk, IfErr};
 ghost use Rattle.rd_num.specs.Number.{le_bytes};
 ghost use Rattle.obj_core.specs.Object.{Each, IsField, IsLink, IsSlot, IsFunc, IsObject, kind_number, link_bytes, links_bytes, function_bytes, functions_bytes, slot_fields, slot_bytes, slots_bytes, header_bytes, object_bytes};
 ghost use Rattle.obj_file.specs.Texts.{Times, IsLinkText, IsFunctionText, IsSlotText, BodyText, CountedText, IsObjectText, body_bytes, counted_bytes, AreParts, AreCounted, full, limit_if, Spans, Fault};
@@ -202,6 +202,7 @@ fn read_link(bytes: &[u8], at: usize) -> Result<Link, FormFault>
     ensures link { IfOk result IsLink }
     ensures read { IfOk result (λ link. Spans bytes.now at (at + 8) (link_bytes link)) }
     ensures fault { IfErr result (λ e. Fault IsLinkText bytes.now at e) }
+    ensures told { IfErr result (λ e. e ≢ FormFault.NoMemory) }
 {
     let place = read_field(bytes, at)?;
     let slot = read_field(bytes, at + 4)?;
@@ -235,6 +236,7 @@ fn read_slot(bytes: &[u8], at: usize) -> Result<Slot, FormFault>
     ensures slot { IfOk result IsSlot }
     ensures read { IfOk result (λ slot. Spans bytes.now at (at + 16) (slot_bytes slot)) }
     ensures fault { IfErr result (λ e. Fault IsSlotText bytes.now at e) }
+    ensures told { IfErr result (λ e. e ≢ FormFault.NoMemory) }
 {
     let kind = read_below(bytes, at, 5)?;
     let target = read_used(bytes, at + 4, kind <= 2)?;

@@ -3,3 +3,7 @@ pub mod Natural
 pub mod Fetching
 pub mod Lockstep
 pub mod Images
+pub mod Worked
+pub mod Starts
+pub mod Rules
+pub mod Closed

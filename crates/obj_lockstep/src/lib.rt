@@ -1,9 +1,10 @@
 //! What an image of an object shows: at each step what the object shows, wherever its code stands.
 //!
-//! `specs/Placed.antt` says when executable bytes hold an object, and `specs/Mirrors.antt` when a
-//! state of the image's machine stands for one of the object's machine. No layout occurs here: any
-//! addresses of places will do. All of it holds until the object's run strays, that is, goes by a
-//! word which is no slot's start and no address behind a slot's call.
+//! `specs/Placed.antt` says when executable bytes hold an object, `specs/Places.antt` when it is
+//! enough to look at each instruction of a well-formed object by itself, and `specs/Mirrors.antt`
+//! when a state of the image's machine stands for one of the object's machine. No layout occurs
+//! here: any addresses of places will do. All of it holds until the object's run strays, that is,
+//! goes by a word which is no slot's start and no address behind a slot's call.
 #![tactic(auto)]
 
 ghost use Rattle.std.specs.Prelude.{◌≡◌, ◌≢◌, ℕ, List, Bool};
@@ -20,7 +21,14 @@ ghost use Rattle.obj_core.specs.declared.object.Object.{Object};
 ghost use Rattle.obj_core.specs.declared.object.Place.{Place};
 ghost use Rattle.obj_core.specs.SymbolicMachine.{symbolic_behavior, symbolic_run, symbolic_step};
 ghost use Rattle.obj_lockstep.specs.Mirrors.{Mirrors};
+ghost use Rattle.obj_core.specs.WellFormed.{IsWellFormed};
 ghost use Rattle.obj_lockstep.specs.Placed.{IsImageOf, Placed};
+ghost use Rattle.obj_lockstep.specs.Places.{IsLaid, is_step_place};
+
+/// Bytes that hold each instruction and each slot of a well-formed object hold the object: its steps stay among its places.
+pub fn laid_is_placed()
+    ensures { (exec : List Segment) (place : Place → ℕ) (o : Object) (well : IsWellFormed o) → IsLaid exec place o well.cuts → Placed exec place (is_step_place o well.cuts) o }
+{}
 
 /// A step of the image's machine mirrors a step of the object's machine, unless that one strays.
 pub fn one_step_mirrors()

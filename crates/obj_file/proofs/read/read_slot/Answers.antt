@@ -1,3 +1,5 @@
+use Rattle.std.proofs.Common.{◌≢◌}
+use Rattle.obj_file.specs.declared.fault.FormFault.{FormFault}
 use Rattle.std.proofs.Common.{◌+◌, arith}
 use Rattle.std.specs.Prelude.{nat_le}
 use Rattle.obj_core.specs.Object.{field}
@@ -53,3 +55,15 @@ returns-in_err-offset-clause-fault c =
     let one = fault_after (limit_if (nat_le k 2)) (λ _. BackText k) bytes (at + 4) (at + 8) t _ (used_limit (nat_le k 2)) target.ensures.small to two in
     at_exit _ _ (Fault IsSlotText bytes at) c.from_residual-in_err-offset.ensures.1
     (fault_after 5 TargetText bytes at (at + 4) k _ five_limit kind.ensures.small kind.ensures.read one)
+
+pub returns-in_err-kind-clause-told : goal.returns-in_err-kind-clause-told
+returns-in_err-kind-clause-told c = at_exit _ _ (λ e. e ≢ FormFault.NoMemory) c.from_residual.ensures.1 c.in_err-kind.ensures.told
+
+pub returns-in_err-target-clause-told : goal.returns-in_err-target-clause-told
+returns-in_err-target-clause-told c = at_exit _ _ (λ e. e ≢ FormFault.NoMemory) c.from_residual-in_err-target.ensures.1 c.in_err-target.ensures.told
+
+pub returns-in_err-function-clause-told : goal.returns-in_err-function-clause-told
+returns-in_err-function-clause-told c = at_exit _ _ (λ e. e ≢ FormFault.NoMemory) c.from_residual-in_err-function.ensures.1 c.in_err-function.ensures.told
+
+pub returns-in_err-offset-clause-told : goal.returns-in_err-offset-clause-told
+returns-in_err-offset-clause-told c = at_exit _ _ (λ e. e ≢ FormFault.NoMemory) c.from_residual-in_err-offset.ensures.1 c.in_err-offset.ensures.told

@@ -1,0 +1,180 @@
+//! The three system calls: to end, to take a byte, and to print bytes.
+//!
+//! `rax` says which; a call that isn't known stops the machine. The answer goes to `rax`, the place
+//! after the call to `rcx` and the flags to `r11`, where a flag that isn't known counts 0.
+
+ghost use Rattle.std.specs.Prelude.{◌≡◌, ℕ, ◌+◌, ◌*◌, ◌<◌, List, [], ◌∷◌, Option, Some, IsTrue};
+ghost use Rattle.x86_core.specs.declared.reg.Reg.TheVariants.{Rsi};
+ghost use Rattle.x86_core.specs.Registers.{word};
+ghost use Rattle.machine_core.specs.Memory.{writes, is_allowed, write_at};
+ghost use Rattle.machine_core.specs.Step.{Prints, Takes, request_of, answered, flag_number, served};
+ghost use Rattle.xom_machine.specs.Standing.{told};
+ghost use Rattle.xom_machine.specs.Changes.{asked_for, PrintsSome};
+ghost use Rattle.xom_machine.specs.Calls.{Ran, Charged};
+
+use crate::machine::Machine;
+use rd_io::{Failed, PutFail, RunFault, Sink, Source};
+use x86_core::flags::{Flag, Flags};
+use x86_core::image::MachOutcome;
+use x86_core::reg::{Reg, Regs};
+use xom_memory::memory::{Memory, WriteFault};
+
+/// The answer to an address that may not be used: -14.
+const BAD_ADDRESS: u64 = u64::MAX - 13;
+
+/// How many bytes one call prints at most.
+const MOST_PRINTED: u64 = 4096;
+
+/// What a system call asks for.
+#[derive(Clone, Copy)]
+pub enum Request {
+    Exits,
+    /// To print or to take no byte.
+    Idles,
+    Prints(u64),
+    Takes,
+    Unknown,
+}
+
+/// What the registers ask of the kernel. Takes no memory.
+#[tactic(auto, unfolding(machine_core::specs::Step::request_of))]
+pub fn asked(regs: &Regs) -> Request
+    ensures value { asked_for result ≡ request_of regs.now }
+    ensures some { PrintsSome result }
+{
+    let count = regs.get(Reg::Rdx).min(MOST_PRINTED);
+    match (regs.get(Reg::Rax), regs.get(Reg::Rdi)) {
+        (60, _) => Request::Exits,
+        (1, 1) if count == 0 => Request::Idles,
+        (1, 1) => Request::Prints(count),
+        (0, 0) if count == 0 => Request::Idles,
+        (0, 0) => Request::Takes,
+        _ => Request::Unknown,
+    }
+}
+
+// A flag as a number.
+fn bit(flag: Flag) -> u64
+    ensures { result ≡ flag_number flag }
+{
+    match flag {
+        Flag::One => 1,
+        _ => 0,
+    }
+}
+
+// The flags as `r11` has them.
+fn packed(flags: &Flags) -> u64
+    ensures { result ≡ 514 + flag_number flags.now.c + 64 * flag_number flags.now.z + 128 * flag_number flags.now.s + 2048 * flag_number flags.now.o }
+{
+    514 + bit(flags.c) + 64 * bit(flags.z) + 128 * bit(flags.s) + 2048 * bit(flags.o)
+}
+
+// Writes a byte where that is allowed.
+fn put_byte(memory: &mut Memory, at: u64, byte: u8)
+    requires { IsTrue (is_allowed writes memory.old at 1) }
+    ensures { write_at memory.old at (byte ∷ []) ≡ Some memory.new }
+{
+    let _written = memory.write_from(at, &[byte]);
+}
+
+impl Machine {
+    /// Does what the registers ask of the kernel, with the place behind the system call.
+    ///
+    /// After an error the machine is as it was.
+    pub(crate) fn system_call<I: Source, O: Sink>(
+        &mut self,
+        after: u64,
+        input: &mut I,
+        sink: &mut O,
+    ) -> Result<(), RunFault>
+        ensures ran { Ran (served (request_of self.old.regs) after after) self.old self.new (told (I.left input.old) (O.written sink.old) (O.total sink.old)) (told (I.left input.new) (O.written sink.new) (O.total sink.new)) result }
+        ensures charged { Charged (I.faults input.old) (I.faults input.new) (O.faults sink.old) (O.faults sink.new) result }
+    {
+        match asked(&self.regs) {
+            Request::Exits => {
+                self.outcome = MachOutcome::Ended((self.regs.get(Reg::Rdi) % 256) as u8);
+                Ok(())
+            }
+            Request::Idles => {
+                self.answer(0, after);
+                Ok(())
+            }
+            Request::Prints(count) => self.print(count as usize, after, sink),
+            Request::Takes => self.take(after, input),
+            Request::Unknown => {
+                self.outcome = MachOutcome::BadCall;
+                Ok(())
+            }
+        }
+    }
+
+    // Prints the bytes that `rsi` points to, in one piece.
+    fn print<O: Sink>(&mut self, count: usize, after: u64, sink: &mut O) -> Result<(), RunFault>
+        requires { 0 < count }
+        ensures ran { (left : Option (List ℕ)) → Ran (served (Prints count) after after) self.old self.new (told left (O.written sink.old) (O.total sink.old)) (told left (O.written sink.new) (O.total sink.new)) result }
+        ensures charged { (n : ℕ) → Charged n n (O.faults sink.old) (O.faults sink.new) result }
+    {
+        match self.memory.bytes(self.regs.get(Reg::Rsi), count) {
+            Some(bytes) => match sink.put(bytes) {
+                Ok(()) => {
+                    self.answer(count as u64, after);
+                    Ok(())
+                }
+                Err(PutFail::Failed) => Err(RunFault::Output),
+                Err(PutFail::NoMemory) => Err(RunFault::NoMemory),
+            },
+            None => {
+                self.answer(BAD_ADDRESS, after);
+                Ok(())
+            }
+        }
+    }
+
+    // Takes a byte to where `rsi` points. The right to write there is tested first.
+    fn take<I: Source>(&mut self, after: u64, input: &mut I) -> Result<(), RunFault>
+        ensures ran { (written : Option (List ℕ)) (total : Option ℕ) → Ran (served Takes after after) self.old self.new (told (I.left input.old) written total) (told (I.left input.new) written total) result }
+        ensures charged { (n : ℕ) → Charged (I.faults input.old) (I.faults input.new) n n result }
+    {
+        let at = self.regs.get(Reg::Rsi);
+        match self.memory.prepare(at, 1) {
+            Ok(()) => self.take_to(at, after, input),
+            Err(WriteFault::Refused) => {
+                self.answer(BAD_ADDRESS, after);
+                Ok(())
+            }
+            Err(WriteFault::NoMemory) => Err(RunFault::NoMemory),
+        }
+    }
+
+    // Takes a byte to an address that may be written.
+    fn take_to<I: Source>(&mut self, at: u64, after: u64, input: &mut I) -> Result<(), RunFault>
+        requires place { at ≡ word self.old.regs Rsi }
+        requires allowed { IsTrue (is_allowed writes self.old.memory at 1) }
+        ensures ran { (written : Option (List ℕ)) (total : Option ℕ) → Ran (served Takes after after) self.old self.new (told (I.left input.old) written total) (told (I.left input.new) written total) result }
+        ensures charged { (n : ℕ) → Charged (I.faults input.old) (I.faults input.new) n n result }
+    {
+        match input.take() {
+            Ok(Some(byte)) => {
+                put_byte(&mut self.memory, at, byte);
+                self.answer(1, after);
+                Ok(())
+            }
+            Ok(None) => {
+                self.answer(0, after);
+                Ok(())
+            }
+            Err(Failed) => Err(RunFault::Input),
+        }
+    }
+
+    // On behind a system call with this answer.
+    pub(crate) fn answer(&mut self, n: u64, after: u64)
+        ensures { self.new ≡ record self.old { regs = answered self.old.regs self.old.flags n after; next = after } }
+    {
+        self.regs.set(Reg::Rax, n);
+        self.regs.set(Reg::Rcx, after);
+        self.regs.set(Reg::R11, packed(&self.flags));
+        self.next = after;
+    }
+}

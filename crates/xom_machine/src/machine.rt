@@ -1,0 +1,117 @@
+//! A machine, from its start to where it stops.
+
+ghost use Rattle.std.specs.Prelude.{◌≡◌, ℕ, List, [], IfOk, OnOk, OnErr, IfErr};
+ghost use Rattle.machine_core.specs.Machine.{machine_start, machine_step};
+ghost use Rattle.xom_machine.specs.Standing.{state_of, told};
+ghost use Rattle.xom_machine.specs.Calls.{Took, Charged, Kept, CutOff, Ran};
+
+use crate::step::has_stopped;
+use rd_io::{RunFault, Sink, Source};
+use rd_num::width::NoMemory;
+use std::alloc::Global;
+use x86_core::flags::{Flag, Flags};
+use x86_core::image::{Image, MachOutcome, STACK_END};
+use x86_core::reg::{Reg, Regs};
+use xom_memory::memory::Memory;
+
+/// A machine: its memory, its registers and flags, where the next instruction stands, and whether
+/// it goes on.
+#[derive(Drop)]
+pub struct Machine {
+    pub(crate) memory: Memory,
+    pub(crate) regs: Regs,
+    pub(crate) flags: Flags,
+    pub(crate) next: u64,
+    pub(crate) outcome: MachOutcome,
+}
+
+impl Machine {
+    /// A machine before the first instruction of an image: all registers and flags are 0 but `rsp`,
+    /// which is the stack's end.
+    pub fn start(alloc: Global, image: &Image) -> Result<Machine, NoMemory>
+        ensures { IfOk result (λ m. (input : List ℕ) → state_of m input [] 0 ≡ machine_start image.now input) }
+    {
+        let memory = Memory::load(alloc, image)?;
+        let mut regs = Regs::new();
+        regs.set(Reg::Rsp, STACK_END);
+        let flags = Flags {
+            c: Flag::Zero,
+            z: Flag::Zero,
+            s: Flag::Zero,
+            o: Flag::Zero,
+        };
+        Ok(Machine {
+            memory,
+            regs,
+            flags,
+            next: image.entry,
+            outcome: MachOutcome::Going,
+        })
+    }
+
+    /// How the machine stands. Takes no memory.
+    pub fn outcome(&self) -> MachOutcome
+        ensures { result ≡ self.now.outcome }
+    {
+        self.outcome
+    }
+
+    /// The words of the registers. Takes no memory.
+    pub fn regs(&self) -> &Regs
+        ensures { result.now ≡ self.now.regs }
+    {
+        &self.regs
+    }
+
+    /// The flags. Takes no memory.
+    pub fn flags(&self) -> &Flags
+        ensures { result.now ≡ self.now.flags }
+    {
+        &self.flags
+    }
+
+    /// The segments and the stack. Takes no memory.
+    pub fn memory(&self) -> &Memory
+        ensures { result.now ≡ self.now.memory }
+    {
+        &self.memory
+    }
+
+    /// Takes one step. A machine that has stopped stays as it is.
+    ///
+    /// `Input` comes only where the source has failed, at a step that asks for a byte; `Output` only
+    /// where the sink has failed, which then has a prefix of what the step prints. After each error
+    /// the machine stands before that system call.
+    pub fn step<I: Source, O: Sink>(&mut self, input: &mut I, sink: &mut O) -> Result<(), RunFault>
+        ensures did { OnOk result (Took 1 self.old self.new (told (I.left input.old) (O.written sink.old) (O.total sink.old)) (told (I.left input.new) (O.written sink.new) (O.total sink.new))) }
+        ensures stands { OnErr result (self.new ≡ self.old) }
+        ensures kept { IfErr result (Kept machine_step self.old (told (I.left input.old) (O.written sink.old) (O.total sink.old)) (told (I.left input.new) (O.written sink.new) (O.total sink.new))) }
+        ensures charged { Charged (I.faults input.old) (I.faults input.new) (O.faults sink.old) (O.faults sink.new) result }
+    {
+        self.advance(input, sink)
+    }
+
+    /// Takes `n` steps and answers how the machine stands then.
+    ///
+    /// Once the machine has stopped no step is looked at any more, however many are left. An error
+    /// comes as in `step`, at one of the `n` steps, before which the machine stands then.
+    pub fn run<I: Source, O: Sink>(
+        &mut self,
+        input: &mut I,
+        sink: &mut O,
+        n: u64,
+    ) -> Result<MachOutcome, RunFault>
+        ensures did { OnOk result (Took n self.old self.new (told (I.left input.old) (O.written sink.old) (O.total sink.old)) (told (I.left input.new) (O.written sink.new) (O.total sink.new))) }
+        ensures outcome { IfOk result (λ o. o ≡ self.new.outcome) }
+        ensures cut { IfErr result (CutOff n self.old self.new (told (I.left input.old) (O.written sink.old) (O.total sink.old)) (told (I.left input.new) (O.written sink.new) (O.total sink.new))) }
+        ensures charged { Charged (I.faults input.old) (I.faults input.new) (O.faults sink.old) (O.faults sink.new) result }
+    {
+        for _ in 0..n {
+            if has_stopped(self.outcome) {
+                return Ok(self.outcome);
+            }
+            self.advance(input, sink)?;
+        }
+        Ok(self.outcome)
+    }
+}

@@ -1,0 +1,5 @@
+pub mod Rights
+pub mod Behind
+pub mod Allowed
+pub mod Places
+pub mod Zeros

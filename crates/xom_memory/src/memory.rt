@@ -1,0 +1,283 @@
+//! The store and its calls, each of which is allowed or refused as a whole.
+
+ghost use Rattle.std.specs.Prelude.{◌≡◌, ◌≢◌, ◌↔◌, ◌≤◌, ◌<◌, [], ◌∷◌, ◌++◌, None, Some, Bool, false, IfOk, IfErr, IfSome, OnOk, OnErr, IsOk, IsErr, IsTrue, MatchOption, MatchResult, option_map, slice_get, take, drop, length};
+ghost use Rattle.machine_core.specs.Memory.{reads, writes, executes, one_holds, is_allowed, read_at, write_at, code_at};
+ghost use Rattle.machine_core.specs.Data.{stack_start, segment};
+ghost use Rattle.machine_core.specs.Machine.{machine_segments};
+ghost use Rattle.xom_memory.specs.Access.{bytes_at, written_at, outline_of, place_of, Wrote};
+
+use crate::segment::{Part, may_execute, may_read, may_write};
+use crate::stack::Stack;
+use rd_num::width::NoMemory;
+use std::alloc::Global;
+use std::marker::Model;
+use x86_core::image::{Image, Rights, Segment};
+
+/// An access that the rights of the segments don't allow.
+#[derive(Clone, Copy, PartialEq, Debug)]
+pub struct Refused;
+
+/// Why bytes were not written.
+#[derive(Clone, Copy, PartialEq, Debug)]
+pub enum WriteFault {
+    Refused,
+    NoMemory,
+}
+
+/// The segments of an image, and the stack behind them; contracts see the list of all segments.
+#[derive(Drop)]
+pub struct Memory {
+    parts: Vec<Part>,
+    stack: Stack,
+}
+
+impl Model for Memory {
+    ghost use Rattle.std.specs.Prelude.{List, [], ◌∷◌, ◌++◌};
+    ghost use Rattle.x86_core.specs.declared.image.Segment.{Segment as Shown};
+    ghost use Rattle.machine_core.specs.Data.{stack_start, segment};
+
+    ghost Value = { List Shown };
+
+    ghost view = { λ m. m.parts.items ++ segment stack_start m.stack 6 ∷ [] };
+}
+
+impl Memory {
+    /// The segments of an image and an empty stack.
+    pub fn load(alloc: Global, image: &Image) -> Result<Memory, NoMemory>
+        ensures { IfOk result (λ m. m ≡ machine_segments image.now) }
+    {
+        let parts = copies(alloc, image.segments.as_slice())?;
+        let stack = Stack::new(alloc)?;
+        Ok(Memory { parts, stack })
+    }
+
+    /// The first address, the length and the rights of the segment with an index, in the order of the
+    /// image's segments, the stack last. `None` comes exactly past the last.
+    pub fn segment(&self, i: usize) -> Option<(u64, u64, Rights)>
+        ensures { result ≡ option_map outline_of (slice_get self.now i) }
+    {
+        outline_at(self.parts.as_slice(), &self.stack, i)
+    }
+
+    /// The bytes of a range, where one segment that may be read holds it.
+    #[tactic(auto, using(crate::proofs::Allowed::read_length))]
+    pub fn bytes(&self, at: u64, len: usize) -> Option<&[u8]>
+        ensures count { IfSome result (λ b. length b.now ≡ len) }
+        ensures read { MatchOption result (read_at self.now at len ≡ None) (λ b. read_at self.now at len ≡ Some b.now) }
+    {
+        lent(self.parts.as_slice(), &self.stack, at, len)
+    }
+
+    /// Reads the bytes from the address `at` on.
+    ///
+    /// `Refused` comes exactly where no one segment that may be read holds the whole range; nothing
+    /// changes then. An empty range is always allowed.
+    #[tactic(auto, using(crate::proofs::Allowed::read_length, crate::proofs::Allowed::read_allowed, crate::proofs::Allowed::read_refused, crate::proofs::Allowed::read_nothing))]
+    pub fn read_into(&self, at: u64, out: &mut [u8]) -> Result<(), Refused>
+        ensures allowed { IsOk result ↔ IsTrue (is_allowed reads self.now at (length out.old)) }
+        ensures read { OnOk result (out.new ≡ bytes_at self.now at (length out.old)) }
+        ensures unchanged { OnErr result (out.new ≡ out.old) }
+    {
+        if out.is_empty() {
+            return Ok(());
+        }
+        let Some(bytes) = self.bytes(at, out.len()) else {
+            return Err(Refused);
+        };
+        out.copy_from_slice(bytes);
+        Ok(())
+    }
+
+    /// Writes bytes from the address `at` on.
+    ///
+    /// `Refused` comes exactly where no one segment that may be written holds the whole range;
+    /// nothing changes then. No bytes may be written anywhere.
+    #[tactic(auto, using(crate::proofs::Allowed::write_allowed, crate::proofs::Allowed::write_refused))]
+    pub fn write_from(&mut self, at: u64, bytes: &[u8]) -> Result<(), WriteFault>
+        ensures allowed { IsOk result ↔ IsTrue (is_allowed writes self.old at (length bytes.now)) }
+        ensures written { OnOk result (self.new ≡ written_at self.old at bytes.now) }
+        ensures unchanged { OnErr result (self.new ≡ self.old) }
+        ensures refused { IfErr result (λ e. e ≡ WriteFault.Refused) }
+        ensures some { 0 < length bytes.now → MatchResult result (λ _. write_at self.old at bytes.now ≡ Some self.new) (λ _. write_at self.old at bytes.now ≡ None) }
+    {
+        if bytes.is_empty() {
+            return Ok(());
+        }
+        if put_at(self.parts.as_mut_slice(), &mut self.stack, at, bytes) {
+            Ok(())
+        } else {
+            Err(WriteFault::Refused)
+        }
+    }
+
+    /// Answers as a write of `len` bytes from the address `at` on would, and changes nothing.
+    ///
+    /// After `Ok` a write inside that range is allowed, up to the next change of the segments.
+    pub fn prepare(&mut self, at: u64, len: u64) -> Result<(), WriteFault>
+        ensures allowed { IsOk result ↔ IsTrue (is_allowed writes self.old at len) }
+        ensures unchanged { self.new ≡ self.old }
+        ensures refused { IfErr result (λ e. e ≡ WriteFault.Refused) }
+    {
+        if len == 0 || is_writable(self.parts.as_slice(), &self.stack, at, len as usize) {
+            Ok(())
+        } else {
+            Err(WriteFault::Refused)
+        }
+    }
+
+    /// The code from the address `at` on: sixteen bytes, or as many as are left of the segment.
+    ///
+    /// Answers how many there are, 1 to 16. `Refused` comes exactly where no segment that may be
+    /// executed holds the address; nothing changes then.
+    #[tactic(auto, using(crate::proofs::Allowed::code_count, crate::proofs::Behind::code_front, crate::proofs::Behind::code_back))]
+    pub fn fetch(&self, at: u64, out: &mut [u8; 16]) -> Result<u8, Refused>
+        ensures refused { IsErr result ↔ (code_at self.now at ≡ None) }
+        ensures fetched { IfOk result (λ n. code_at self.now at ≡ Some (take n out.new)) }
+        ensures count { IfOk result (λ n. (1 ≤ n) × (n ≤ 16)) }
+        ensures rest { IfOk result (λ n. drop n out.new ≡ drop n out.old) }
+        ensures unchanged { OnErr result (out.new ≡ out.old) }
+    {
+        match executable(self.parts.as_slice(), at) {
+            Some(code) => Ok(copied(code, out)),
+            None => Err(Refused),
+        }
+    }
+}
+
+// Puts up to sixteen bytes at the front of an array.
+fn copied(code: &[u8], out: &mut [u8; 16]) -> u8
+    requires { length code.now ≤ 16 }
+    ensures count { result ≡ length code.now }
+    ensures front { take result out.new ≡ code.now }
+    ensures rest { drop result out.new ≡ drop result out.old }
+{
+    out[..code.len()].copy_from_slice(code);
+    code.len() as u8
+}
+
+// The outline of a segment or, behind the last, of the stack.
+#[tactic(auto, using(crate::proofs::Behind::get_front, crate::proofs::Behind::get_last))]
+fn outline_at(parts: &[Part], stack: &Stack, i: usize) -> Option<(u64, u64, Rights)>
+    ensures { result ≡ option_map outline_of (slice_get (parts.now ++ segment stack_start stack.now 6 ∷ []) i) }
+{
+    match parts.get(i) {
+        Some(part) => Some(part.outline()),
+        None if i == parts.len() => Some(stack.outline()),
+        None => None,
+    }
+}
+
+// The bytes of a range, where a segment or the stack may be read and holds it.
+#[tactic(auto, using(crate::proofs::Behind::read_front, crate::proofs::Behind::read_back))]
+fn lent<'a>(parts: &'a [Part], stack: &'a Stack, at: u64, len: usize) -> Option<&'a [u8]>
+    ensures { MatchOption result (read_at (parts.now ++ segment stack_start stack.now 6 ∷ []) at len ≡ None) (λ b. read_at (parts.now ++ segment stack_start stack.now 6 ∷ []) at len ≡ Some b.now) }
+{
+    match readable(parts, at, len) {
+        Some(bytes) => Some(bytes),
+        None if stack.holds(at, len) => Some(stack.range(at, len)),
+        None => None,
+    }
+}
+
+// Whether a segment or the stack may be written and holds a range.
+#[tactic(auto, using(crate::proofs::Behind::holds_behind))]
+fn is_writable(parts: &[Part], stack: &Stack, at: u64, len: usize) -> bool
+    ensures { result ≡ one_holds writes (parts.now ++ segment stack_start stack.now 6 ∷ []) at len }
+{
+    is_any_writable(parts, at, len) || stack.holds(at, len)
+}
+
+// Writes bytes where a segment or the stack may be written and holds their range.
+#[tactic(auto, using(crate::proofs::Behind::write_front, crate::proofs::Behind::write_back, crate::proofs::Behind::write_none))]
+fn put_at(parts: &mut [Part], stack: &mut Stack, at: u64, bytes: &[u8]) -> bool
+    ensures { let all = parts.old ++ segment stack_start stack.old 6 ∷ [] in Wrote result (write_at all at bytes.now) all (parts.new ++ segment stack_start stack.new 6 ∷ []) }
+{
+    if write_in(parts, at, bytes) {
+        return true;
+    }
+    let fits = stack.holds(at, bytes.len());
+    if fits {
+        stack.put(at, bytes);
+    }
+    fits
+}
+
+// Equal parts of the segments, in their order.
+fn copies(alloc: Global, segments: &[Segment]) -> Result<Vec<Part>, NoMemory>
+    ensures { IfOk result (λ v. v.items ≡ segments.now) }
+{
+    let mut parts = match Vec::with_capacity(alloc, segments.len()) {
+        Ok(parts) => parts,
+        Err(_) => return Err(NoMemory),
+    };
+    for segment in segments {
+        let part = Part::copy_of(alloc, segment)?;
+        match parts.push(part) {
+            Ok(()) => {}
+            Err(_) => return Err(NoMemory),
+        }
+    }
+    Ok(parts)
+}
+
+// The bytes of a range, where one of the segments may be read and holds it.
+fn readable<'a>(parts: &'a [Part], at: u64, len: usize) -> Option<&'a [u8]>
+    ensures { MatchOption result (read_at parts.now at len ≡ None) (λ b. read_at parts.now at len ≡ Some b.now) }
+{
+    for part in parts {
+        if may_read(part.rights()) && part.holds(at, len) {
+            return Some(part.range(at, len));
+        }
+    }
+    None
+}
+
+// Up to sixteen bytes of code, where one of the segments may be executed and holds their address.
+fn executable<'a>(parts: &'a [Part], at: u64) -> Option<&'a [u8]>
+    ensures { MatchOption result (code_at parts.now at ≡ None) (λ b. code_at parts.now at ≡ Some b.now) }
+{
+    for part in parts {
+        if may_execute(part.rights()) && part.holds(at, 1) {
+            return Some(part.code(at));
+        }
+    }
+    None
+}
+
+// Whether one of the segments may be written and holds a range.
+fn is_any_writable(parts: &[Part], at: u64, len: usize) -> bool
+    ensures { result ≡ one_holds writes parts.now at len }
+{
+    for part in parts {
+        if may_write(part.rights()) && part.holds(at, len) {
+            return true;
+        }
+    }
+    false
+}
+
+// The index of the first segment that may be written and holds a range.
+fn writable_place(parts: &[Part], at: u64, len: usize) -> Option<usize>
+    ensures { result ≡ place_of parts.now at len }
+{
+    for i in 0..parts.len() {
+        if may_write(parts[i].rights()) && parts[i].holds(at, len) {
+            return Some(i);
+        }
+    }
+    None
+}
+
+// Writes bytes where one of the segments may be written and holds their range.
+#[tactic(auto, using(crate::proofs::Places::placed_holds, crate::proofs::Places::write_placed, crate::proofs::Places::write_unplaced, crate::proofs::Places::place_within))]
+fn write_in(parts: &mut [Part], at: u64, bytes: &[u8]) -> bool
+    ensures { Wrote result (write_at parts.old at bytes.now) parts.old parts.new }
+{
+    match writable_place(parts, at, bytes.len()) {
+        Some(i) => {
+            parts[i].put(at, bytes);
+            true
+        }
+        None => false,
+    }
+}
