@@ -3,62 +3,33 @@ use Rattle.std.proofs.Common.{◌≡◌, ℕ, ◌+◌, ◌-◌, ◌%◌, ◌^◌
 use Rattle.std.specs.Prelude.{nat_eq, slice_get, ℤ, pos}
 use Rattle.std.proofs.lemmas.List.{drop-drop, drop-append-le}
 use Rattle.x86_core.specs.declared.instr.Instr.{Instr}
-use Rattle.x86_core.specs.declared.instr.Instr.TheVariants.{Jcc, Jmp, Call, Ret, CallR11, JmpR11, Syscall, Ud2, Int3}
+use Rattle.x86_core.specs.declared.instr.Decoded.TheVariants.{One}
+use Rattle.x86_core.specs.declared.instr.Instr.TheVariants.{Jcc, Jmp}
 use Rattle.x86_core.specs.declared.image.Segment.{Segment}
 use Rattle.x86_core.specs.Arithmetic.{moved}
 use Rattle.x86_core.specs.Encoding.{encoding, IsInstr, IsNumber32, number32}
+use Rattle.x86_core.specs.Decoding.{decode}
+use Rattle.x86_core.proofs.Back.{decode_back}
 use Rattle.x86_core.proofs.Laws.{some_bytes}
 use Rattle.obj_core.specs.declared.object.Object.{Object}
 use Rattle.obj_core.specs.declared.object.Func.{Func}
 use Rattle.obj_core.specs.declared.object.Link.{Link}
-use Rattle.obj_core.specs.declared.object.Slot.{Slot}
-use Rattle.obj_core.specs.declared.object.CodeAt.{CodeAt}
 use Rattle.obj_core.specs.declared.object.Place.{Place}
 use Rattle.obj_core.specs.Slots.{slot_start, positions}
-use Rattle.obj_core.specs.Cut.{IsCut, found, size_of, spelled, starts_at}
+use Rattle.obj_core.specs.Cut.{IsCut, found, size_of, spelled}
 use Rattle.obj_core.specs.SymbolicMachine.{link_before, target}
-use Rattle.obj_core.specs.WellFormed.{displacement, is_zero, is_linked, goes_well, is_end, is_start, IsWellFormed}
-use Rattle.obj_lockstep.specs.Placed.{IsAt, Leads, FallsThrough, CodeStands}
-use Rattle.obj_lay.specs.Layout.{linked, slot_in, code_base, code_bytes, slot_bytes, displacement as displacement_bytes}
-use Rattle.obj_hidden.proofs.Instrs.{IsIn, lies, Front, front, apart, starts_there, which_starts, each_in, is_allowed, branches_well, next_there, zero_is}
+use Rattle.obj_core.specs.WellFormed.{displacement, is_zero, is_linked, goes_well, IsWellFormed}
+use Rattle.obj_lockstep.specs.Placed.{IsAt, IsAtTo, HasInstr}
+use Rattle.obj_lockstep.specs.Places.{is_code_place, CodeBytes}
+use Rattle.obj_lockstep.proofs.Rules.{function_of_cut, KeepsRules, function_keeps}
+use Rattle.obj_lay.specs.Layout.{linked, slot_in, code_base, code_bytes, slot_bytes, address, displacement as displacement_bytes}
+use Rattle.obj_hidden.proofs.Instrs.{IsIn, lies, Front, front, apart, which_starts, each_in, branches_well, zero_is}
 use Rattle.obj_hidden.proofs.Numbers.{between, between_leads, between_fits, displacement_between, local_leads}
 use Rattle.obj_hidden.proofs.Linked.{link_good, unlinked_stays, jump_leads, test_leads}
 use Rattle.obj_hidden.proofs.Standing.{length-linked}
 use Rattle.obj_hidden.proofs.Executable.{executable, in_code}
-use Rattle.obj_hidden.proofs.Rules.{some_within, Ruled, ruled}
-use Rattle.obj_hidden.proofs.Places.{start, func_stands, place, slot_low}
+use Rattle.obj_hidden.proofs.Places.{start, func_stands, place, slot_low, address_is}
 use Rattle.obj_hidden.proofs.Trampolines.{slots_long}
-
--- whether an instruction of a function starts at an offset
-abbrev pub start_in : Option (List Instr) → ℕ → Bool
-start_in None off = false
-start_in (Some cut) off = starts_at (found cut) off
-
-pub is_start_is : (cuts : List (List Instr)) (c : CodeAt) (x : Option (List Instr)) → slice_get cuts c.function ≡ x → is_start cuts c ≡ start_in x c.offset
-is_start_is cuts c None e = rw e refl
-is_start_is cuts c (Some cut) e = rw e refl
-
--- the bytes of slots at which a step may stand
-abbrev pub is_slot_place : Option Slot → ℕ → Bool
-is_slot_place None at = false
-is_slot_place (Some (Slot.Entry f)) at = nat_eq at 0 || nat_eq at 5
-is_slot_place (Some (Slot.Jump f)) at = nat_eq at 0 || nat_eq at 5
-is_slot_place (Some (Slot.Call f back)) at = nat_eq at 0 || nat_eq at 5
-is_slot_place (Some (Slot.Indirect back)) at = nat_eq at 0 || (nat_eq at 1 || (nat_eq at 2 || nat_eq at 5))
-is_slot_place (Some (Slot.System back)) at = nat_eq at 0 || (nat_eq at 2 || (nat_eq at 3 || (nat_eq at 4 || nat_eq at 5)))
-
--- both places of a slot that a word may name
-pub slot_starts : (x : Option Slot) (s : Slot) → x ≡ Some s → (is_slot_place x 0 ≡ true) × (is_slot_place x 5 ≡ true)
-slot_starts None s e = absurd (cc)
-slot_starts (Some (Slot.Entry f)) s e = (refl, refl)
-slot_starts (Some (Slot.Jump f)) s e = (refl, refl)
-slot_starts (Some (Slot.Call f back)) s e = (refl, refl)
-slot_starts (Some (Slot.Indirect back)) s e = (refl, refl)
-slot_starts (Some (Slot.System back)) s e = (refl, refl)
-
-abbrev pub is_place : Object → List (List Instr) → Place → Bool
-is_place o cuts (Place.Code n off) = start_in (slice_get cuts n) off
-is_place o cuts (Place.Slot k at) = is_slot_place (slice_get o.slots k) at
 
 -- what starts at a place of a function
 pub record Begun (cuts : List (List Instr)) (n off : ℕ) : Type 0 where
@@ -67,7 +38,7 @@ pub record Begun (cuts : List (List Instr)) (n off : ℕ) : Type 0 where
   pub instr : Instr
   pub is_in : IsIn 0 cut off instr
 
-pub begun : (cuts : List (List Instr)) (n off : ℕ) (x : Option (List Instr)) → slice_get cuts n ≡ x → start_in x off ≡ true → Begun cuts n off
+pub begun : (cuts : List (List Instr)) (n off : ℕ) (x : Option (List Instr)) → slice_get cuts n ≡ x → is_code_place x off ≡ true → Begun cuts n off
 begun cuts n off None e h = absurd (cc)
 begun cuts n off (Some cut) e h = let x = which_starts 0 cut off h in record { cut = cut; there = e; instr = x.0; is_in = x.1 }
 
@@ -79,6 +50,12 @@ not_linked (l ∷ ls) end e = by_test (nat_eq (l.at + 4) end) e (not_linked ls e
     by_test true e next = absurd (cc)
     by_test false e next = next e
 
+-- bytes begin with one instruction
+same_instr : (bs : List ℕ) (i j : Instr) (xs ys : List ℕ) → IsInstr i → IsInstr j → bs ≡ encoding i ++ xs → bs ≡ encoding j ++ ys → i ≡ j
+same_instr bs i j xs ys a b e f =
+    let same : One i (size_of i) ≡ One j (size_of j) = sym (decode_back i xs a) ∙ ap decode (sym e ∙ f) ∙ decode_back j ys b in
+    cc
+
 module _ (o : Object) (w : IsWellFormed o) (seed : ℕ) where
   abbrev pub exec : List Segment
   exec = executable (slot_bytes o seed) (code_base seed) (code_bytes o seed)
@@ -86,13 +63,10 @@ module _ (o : Object) (w : IsWellFormed o) (seed : ℕ) where
   abbrev pub at_place : Place → ℕ
   at_place = place o seed
 
-  abbrev pub known : Place → Bool
-  known = is_place o w.cuts
-
   -- one function
   module _ (n : ℕ) (f : Func) (cut : List Instr) (func_there : slice_get o.functions n ≡ Some f) (cut_there : slice_get w.cuts n ≡ Some cut) (is_cut : IsCut f.bytes cut) where
-    rules : Ruled o f cut
-    rules = ruled o w n f cut func_there cut_there
+    rules : KeepsRules (length o.slots) f cut
+    rules = function_keeps o w.cuts w.kept n f cut func_there cut_there
 
     -- offsets within the function have near addresses
     pub record Near (off : ℕ) (i : Instr) : Type 0 where
@@ -108,9 +82,6 @@ module _ (o : Object) (w : IsWellFormed o) (seed : ℕ) where
         let to = (lies 0 cut off i h).to in
         let long : length (spelled cut) ≡ length f.bytes = ap length is_cut.whole in
         record { low = omega (arith, low); high = omega (arith, high, to, long); inside = omega (arith, to, long) }
-
-    here : (off : ℕ) (i : Instr) → IsIn 0 cut off i → known (Place.Code n off) ≡ true
-    here off i h = ap (λ x. start_in x off) cut_there ∙ starts_there 0 cut off i h
 
     pub plain : (off : ℕ) (i : Instr) → IsIn 0 cut off i → Front (drop off f.bytes) i
     plain off i h =
@@ -171,16 +142,10 @@ module _ (o : Object) (w : IsWellFormed o) (seed : ℕ) where
     straight : (off : ℕ) (i : Instr) → IsIn 0 cut off i → is_zero (displacement i) ≡ false → IsAt exec (at_place (Place.Code n off)) i
     straight off i h z = as_it_is off i h (no_link off i h z (link_before f.links (off + size_of i)) refl)
 
-    falls : (off : ℕ) (i : Instr) → IsIn 0 cut off i → is_end i ≡ false → FallsThrough exec at_place known o n off (size_of i)
-    falls off i h z = elim (next_there 0 cut off i rules.ends h) [
-      | inl t ↦ absurd (cc)
-      | inr x ↦ record { next = here (off + size_of i) x.0 x.1; behind = let high : start o seed n + off + size_of i ≤ 1412000000 = (near off i h).high in omega (arith, high) }
-    ]
-
     -- a branch leads where the object says
     leads : (make : ℤ → Instr) (off : ℕ) (by : ℤ) → IsIn 0 cut off (make by) → displacement (make by) ≡ Some by → ((x : ℤ) → size_of (make x) ≡ size_of (make by)) → ((x : ℤ) → IsNumber32 x → IsInstr (make x)) → (IsInstr (make by) → IsNumber32 by) →
         (IsIn 0 cut off (make (pos 0)) → (k : ℕ) (by2 : ℤ) → displacement_bytes (slot_in (positions o) k) (start o seed n + (off + size_of (make by))) ≡ number32 by2 → link_before f.links (off + size_of (make by)) ≡ Some k → Front (drop off f.bytes) (make (pos 0)) → Front (drop off (linked (positions o) (start o seed n) f.links f.bytes)) (make by2)) →
-        (x : Option ℕ) → link_before f.links (off + size_of (make by)) ≡ x → Leads exec at_place known o (Place.Code n off) make (target n (off + size_of (make by)) x by)
+        (x : Option ℕ) → link_before f.links (off + size_of (make by)) ≡ x → IsAtTo exec (at_place (Place.Code n off)) make (at_place (target n (off + size_of (make by)) x by))
     leads make off by h disp sized fits fitted fill (Some k) e =
         let z = link_is off (make by) h k e in
         let none : by ≡ pos 0 = zero_is by (ap is_zero (sym disp) ∙ z.1) in
@@ -191,7 +156,6 @@ module _ (o : Object) (w : IsWellFormed o) (seed : ℕ) where
         let low : 1073741824 ≤ start o seed n + off = close.low in
         let high : start o seed n + off + size_of (make by) ≤ 1412000000 = close.high in
         let below = slot_low o seed k w.few z.0 in
-        let slot = slot_starts (slice_get o.slots k) (some_within o.slots k z.0).0 (some_within o.slots k z.0).1 in
         let zero_there = subst (λ d. IsIn 0 cut off (make d)) none h in
         let zero_front = subst (λ d. Front (drop off f.bytes) (make d)) none (plain off (make by) h) in
         let bytes = displacement_between to from (omega (arith, high)) (omega (arith, below)) (omega (arith, high)) in
@@ -199,12 +163,9 @@ module _ (o : Object) (w : IsWellFormed o) (seed : ℕ) where
         let end : start o seed n + off + size_of (make (between (slot_start o k) (start o seed n + (off + size_of (make by))))) ≡ start o seed n + (off + size_of (make by)) = omega (arith, size) in
         let same : slot_start o k ≡ slot_start o k + 0 = omega arith in
         record {
-          there = slot.0;
-          branch = record {
-            by = between (slot_start o k) (start o seed n + (off + size_of (make by)));
-            here = runs off (make by) (make (between (slot_start o k) (start o seed n + (off + size_of (make by))))) h (fits _ (between_fits to from (omega (arith, below)) (omega (arith, high)))) (fill zero_there k (between (slot_start o k) (start o seed n + (off + size_of (make by)))) bytes e zero_front);
-            leads = ap (λ a. moved (a % 2 ^ 64) (between (slot_start o k) (start o seed n + (off + size_of (make by))))) end ∙ between_leads to from (omega (arith, below)) (omega (arith, high)) ∙ same;
-          };
+          by = between (slot_start o k) (start o seed n + (off + size_of (make by)));
+          here = runs off (make by) (make (between (slot_start o k) (start o seed n + (off + size_of (make by))))) h (fits _ (between_fits to from (omega (arith, below)) (omega (arith, high)))) (fill zero_there k (between (slot_start o k) (start o seed n + (off + size_of (make by)))) bytes e zero_front);
+          leads = ap (λ a. moved (a % 2 ^ 64) (between (slot_start o k) (start o seed n + (off + size_of (make by))))) end ∙ between_leads to from (omega (arith, below)) (omega (arith, high)) ∙ same;
         }
     leads make off by h disp sized fits fitted fill None e =
         let none = not_linked f.links (off + size_of (make by)) e in
@@ -219,31 +180,56 @@ module _ (o : Object) (w : IsWellFormed o) (seed : ℕ) where
         let is = each_in IsInstr 0 cut off (make by) is_cut.instructions h in
         let split : start o seed n + off + size_of (make by) ≡ start o seed n + (off + size_of (make by)) = omega arith in
         record {
-          there = here (moved (off + size_of (make by)) by) to.0 to.1;
-          branch = record {
-            by = by;
-            here = as_it_is off (make by) h e;
-            leads = ap (λ a. moved (a % 2 ^ 64) by) split ∙ local_leads (start o seed n) (off + size_of (make by)) by (fitted is) (omega (arith, high)) (omega (arith, there, reach));
-          };
+          by = by;
+          here = as_it_is off (make by) h e;
+          leads = ap (λ a. moved (a % 2 ^ 64) by) split ∙ local_leads (start o seed n) (off + size_of (make by)) by (fitted is) (omega (arith, high)) (omega (arith, there, reach));
         }
 
-    -- what stands at each instruction
-    pub stands : (off : ℕ) (i : Instr) → IsIn 0 cut off i → CodeStands exec at_place known o f n off i
-    stands off (Jcc c by) h = (
-      leads (Jcc c) off by h refl (λ x. refl) (λ x y. y) (λ y. y)
-          (λ there k by2 way e z. test_leads (positions o) (start o seed n) cut (length o.slots) off c there k by2 way f.links f.bytes rules.links e z)
-          (link_before f.links (off + 6)) refl,
-      falls off (Jcc c by) h refl,
-    )
-    stands off (Jmp by) h =
+    -- the bytes at each instruction
+    bytes_there : (off : ℕ) (i : Instr) → IsIn 0 cut off i → CodeBytes exec at_place o f n off i
+    bytes_there off (Jcc c by) h =
+        leads (Jcc c) off by h refl (λ x. refl) (λ x y. y) (λ y. y)
+        (λ there k by2 way e z. test_leads (positions o) (start o seed n) cut (length o.slots) off c there k by2 way f.links f.bytes rules.links e z)
+        (link_before f.links (off + 6)) refl
+    bytes_there off (Jmp by) h =
         leads Jmp off by h refl (λ x. refl) (λ x y. y) (λ y. y)
         (λ there k by2 way e z. jump_leads (positions o) (start o seed n) cut (length o.slots) off there k by2 way f.links f.bytes rules.links e z)
         (link_before f.links (off + 5)) refl
-    stands off (Call by) h = let t = is_allowed 0 cut off (Call by) rules.allowed h in absurd (cc)
-    stands off CallR11 h = let t = is_allowed 0 cut off CallR11 rules.allowed h in absurd (cc)
-    stands off Syscall h = let t = is_allowed 0 cut off Syscall rules.allowed h in absurd (cc)
-    stands off Ret h = straight off Ret h refl
-    stands off JmpR11 h = straight off JmpR11 h refl
-    stands off Ud2 h = straight off Ud2 h refl
-    stands off Int3 h = straight off Int3 h refl
-    stands off i h = (straight off i h refl, falls off i h refl)
+    bytes_there off i h = straight off i h refl
+
+    -- and at what the object has there, which is the same
+    pub bytes_here : (off : ℕ) (i : Instr) → IsIn 0 cut off i → (s : HasInstr o n off) → CodeBytes exec at_place o s.func n off s.instr
+    bytes_here off i h s =
+        let x = plain off i h in
+        let func : f ≡ s.func = cc in
+        let same : i ≡ s.instr = same_instr (drop off f.bytes) i s.instr x.more s.rest (each_in IsInstr 0 cut off i is_cut.instructions h) s.is_instr x.begins (ap (λ (g : Func). drop off g.bytes) func ∙ s.bytes) in
+        subst (λ (g : Func). CodeBytes exec at_place o g n off s.instr) func (subst (CodeBytes exec at_place o f n off) same (bytes_there off i h))
+
+  -- the places of functions: near, and at the address that the layout gives them
+  pub record NearCode (n off : ℕ) : Type 0 where
+    pub low : 1073741824 ≤ start o seed n + off
+    pub high : start o seed n + off ≤ 1412000000
+    pub given : address o seed (record { function = n; offset = off }) ≡ start o seed n + off
+
+  pub near_code : (n off : ℕ) → is_code_place (slice_get w.cuts n) off ≡ true → NearCode n off
+  near_code n off h =
+      let b = begun w.cuts n off (slice_get w.cuts n) refl h in
+      let f = function_of_cut o.functions w.cuts w.cut n b.cut b.there in
+      let x = near n f.func b.cut f.found b.there f.is_cut off b.instr b.is_in in
+      let some = some_bytes b.instr in
+      let high : start o seed n + off + size_of b.instr ≤ 1412000000 = x.high in
+      let inside : off + size_of b.instr ≤ length f.func.bytes = x.inside in
+      record {
+        low = x.low;
+        high = omega (arith, high);
+        given = address_is o seed (record { function = n; offset = off }) f.func f.found (omega (arith, inside, some));
+      }
+
+  pub code_laid : (n off : ℕ) → is_code_place (slice_get w.cuts n) off ≡ true → (s : HasInstr o n off) → CodeBytes exec at_place o s.func n off s.instr
+  code_laid n off h s =
+      let b = begun w.cuts n off (slice_get w.cuts n) refl h in
+      let f = function_of_cut o.functions w.cuts w.cut n b.cut b.there in
+      bytes_here n f.func b.cut f.found b.there f.is_cut off b.instr b.is_in s
+
+  pub neighbours : (n off size : ℕ) → is_code_place (slice_get w.cuts n) (off + size) ≡ true → at_place (Place.Code n (off + size)) ≡ (at_place (Place.Code n off) + size) % 2 ^ 64
+  neighbours n off size h = let high : start o seed n + (off + size) ≤ 1412000000 = (near_code n (off + size) h).high in omega (arith, high)

@@ -1,7 +1,7 @@
 -- The instructions of a cut, each at its offset.
-use Rattle.std.proofs.Common.{◌≡◌, ℕ, ◌+◌, ◌-◌, ◌≤◌, ◌⊎◌, inl, inr, Bool, true, false, ◌||◌, List, [], ◌∷◌, ◌++◌, length, drop, Some, if◌then◌else◌, refl, sym, ◌∙◌, ap, subst, arith, length-append}
+use Rattle.std.proofs.Common.{◌≡◌, ℕ, ◌+◌, ◌-◌, ◌≤◌, ◌⊎◌, inl, inr, true, ◌||◌, List, [], ◌∷◌, ◌++◌, length, drop, Some, refl, sym, ◌∙◌, ap, subst, arith, length-append}
 use Rattle.std.specs.Prelude.{ℤ, pos, negsuc}
-use Rattle.std.proofs.lemmas.Bool.{eqb-true, eq-eqb, or_cases, or_left, or_right, and_parts}
+use Rattle.std.proofs.lemmas.Bool.{eqb-true, or_cases, and_parts}
 use Rattle.std.proofs.lemmas.List.{drop-drop, drop_at}
 use Rattle.x86_core.specs.declared.instr.Instr.{Instr}
 use Rattle.x86_core.specs.declared.instr.Cond.{Cond}
@@ -10,7 +10,8 @@ use Rattle.x86_core.specs.Encoding.{encoding}
 use Rattle.obj_core.specs.declared.object.Link.{Link}
 use Rattle.obj_core.specs.Object.{Each}
 use Rattle.obj_core.specs.Cut.{Found, found_from, size_of, spelled, starts_at}
-use Rattle.obj_core.specs.WellFormed.{is_slots_own, forbidden_in, displacement, is_zero, fills_zero, is_linked, goes_well, bad_branches, is_end, open_end}
+use Rattle.obj_core.specs.WellFormed.{displacement, is_zero, fills_zero, is_linked, goes_well, bad_branches}
+use Rattle.obj_lockstep.proofs.Starts.{other_empty}
 
 -- an instruction of a row that begins at an offset stands at another one
 abbrev pub IsIn : ℕ → List Instr → ℕ → Instr → Type 0
@@ -74,12 +75,7 @@ apart at (x ∷ xs) off i off2 j (inr h) (inl k) =
     inr (inr (omega (arith, k.0, size, from)))
 apart at (x ∷ xs) off i off2 j (inr h) (inr k) = apart (at + size_of x) xs off i off2 j h k
 
--- a start of an instruction, and the instruction there
-pub starts_there : (at : ℕ) (is : List Instr) (off : ℕ) (i : Instr) → IsIn at is off i → starts_at (found_from at is) off ≡ true
-starts_there at [] off i h = absurd h
-starts_there at (j ∷ js) off i (inl h) = or_left _ _ (eq-eqb at off (sym h.0))
-starts_there at (j ∷ js) off i (inr h) = or_right _ _ (starts_there (at + size_of j) js off i h)
-
+-- where a start is, an instruction is
 pub which_starts : (at : ℕ) (is : List Instr) (off : ℕ) → starts_at (found_from at is) off ≡ true → (i : Instr) × IsIn at is off i
 which_starts at [] off h = absurd (cc)
 which_starts at (j ∷ js) off h = elim (or_cases _ _ h) [
@@ -92,50 +88,18 @@ each_in P at [] off i e h = absurd h
 each_in P at (j ∷ js) off i e (inl h) = subst P (sym h.1) e.0
 each_in P at (j ∷ js) off i e (inr h) = each_in P (at + size_of j) js off i e.1 h
 
--- nothing is listed by a test
-pub none_listed : (t : Bool) (x : ℕ) (xs : List ℕ) → (if t then x ∷ xs else xs) ≡ [] → (t ≡ false) × (xs ≡ [])
-none_listed true x xs e = absurd (cc)
-none_listed false x xs e = (refl, e)
-
-pub all_pass : (t : Bool) (x : ℕ) (xs : List ℕ) → (if t then xs else x ∷ xs) ≡ [] → (t ≡ true) × (xs ≡ [])
-all_pass true x xs e = (refl, e)
-all_pass false x xs e = absurd (cc)
-
--- what a rule says of each instruction
-pub is_allowed : (at : ℕ) (is : List Instr) (off : ℕ) (i : Instr) → forbidden_in (found_from at is) ≡ [] → IsIn at is off i → is_slots_own i ≡ false
-is_allowed at [] off i e h = absurd h
-is_allowed at (j ∷ js) off i e (inl h) = ap is_slots_own h.1 ∙ (none_listed (is_slots_own j) at (forbidden_in (found_from (at + size_of j) js)) e).0
-is_allowed at (j ∷ js) off i e (inr h) = is_allowed (at + size_of j) js off i (none_listed (is_slots_own j) at (forbidden_in (found_from (at + size_of j) js)) e).1 h
-
+-- a branch has a link, or goes to a start
 abbrev pub BranchesWell : List Link → List Found → ℕ → Instr → Type 0
 BranchesWell links all off i = (is_linked links (off + size_of i) || goes_well all (off + size_of i) (displacement i)) ≡ true
 
 pub branches_well : (links : List Link) (all : List Found) (at : ℕ) (is : List Instr) (off : ℕ) (i : Instr) → bad_branches links all (found_from at is) ≡ [] → IsIn at is off i → BranchesWell links all off i
 branches_well links all at [] off i e h = absurd h
 branches_well links all at (j ∷ js) off i e (inl h) =
-    let x = all_pass (is_linked links (at + size_of j) || goes_well all (at + size_of j) (displacement j)) at (bad_branches links all (found_from (at + size_of j) js)) e in
+    let x = other_empty (is_linked links (at + size_of j) || goes_well all (at + size_of j) (displacement j)) at _ _ e in
     subst (BranchesWell links all off) (sym h.1) (subst (λ n. BranchesWell links all n j) (sym h.0) x.0)
 branches_well links all at (j ∷ js) off i e (inr h) =
-    let x = all_pass (is_linked links (at + size_of j) || goes_well all (at + size_of j) (displacement j)) at (bad_branches links all (found_from (at + size_of j) js)) e in
+    let x = other_empty (is_linked links (at + size_of j) || goes_well all (at + size_of j) (displacement j)) at _ _ e in
     branches_well links all (at + size_of j) js off i x.1 h
-
--- an end, or one behind which the next one stands
-last_ends : (t : Bool) (x : ℕ) → (if t then [] else x ∷ []) ≡ [] → t ≡ true
-last_ends true x e = refl
-last_ends false x e = absurd (cc)
-
-pub next_there : (at : ℕ) (is : List Instr) (off : ℕ) (i : Instr) → open_end (found_from at is) ≡ [] → IsIn at is off i → (is_end i ≡ true) ⊎ ((j : Instr) × IsIn at is (off + size_of i) j)
-next_there at [] off i e h = absurd h
-next_there at (j ∷ []) off i e (inl h) = inl (ap is_end h.1 ∙ last_ends (is_end j) at e)
-next_there at (j ∷ []) off i e (inr h) = absurd h
-next_there at (j ∷ k ∷ ks) off i e (inl h) =
-    let size : size_of i ≡ size_of j = ap size_of h.1 in
-    let behind : off + size_of i ≡ at + size_of j = omega (arith, h.0, size) in
-    inr (k, inr (inl (behind, refl)))
-next_there at (j ∷ k ∷ ks) off i e (inr h) = elim (next_there (at + size_of j) (k ∷ ks) off i e h) [
-  | inl t ↦ inl t
-  | inr x ↦ inr (x.0, inr x.1)
-]
 
 -- a branch with displacement 0 that ends four bytes behind an offset
 pub record FillsZero (at : ℕ) (is : List Instr) (a : ℕ) : Type 0 where

@@ -4,7 +4,6 @@ pub mod Linked
 pub mod Order
 pub mod Standing
 pub mod Executable
-pub mod Rules
 pub mod Places
 pub mod Trampolines
 pub mod Functions

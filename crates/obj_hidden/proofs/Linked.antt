@@ -11,8 +11,9 @@ use Rattle.obj_core.specs.declared.object.Link.{Link}
 use Rattle.obj_core.specs.Cut.{Found, found, size_of}
 use Rattle.obj_core.specs.SymbolicMachine.{link_before}
 use Rattle.obj_core.specs.WellFormed.{fills_zero, is_good_link, bad_links}
+use Rattle.obj_lockstep.proofs.Starts.{other_empty}
 use Rattle.obj_lay.specs.Layout.{displacement, overlaid, slot_in, linked}
-use Rattle.obj_hidden.proofs.Instrs.{IsIn, Front, apart, all_pass, FillsZero, which_fills, IsZeroBranch, zero_branch}
+use Rattle.obj_hidden.proofs.Instrs.{IsIn, Front, apart, FillsZero, which_fills, IsZeroBranch, zero_branch}
 
 -- what is put before an offset is not seen from there
 drop_past : (bs d : List ℕ) (at off : ℕ) → at + length d ≤ off → drop off (overlaid bs at d) ≡ drop off bs
@@ -71,7 +72,7 @@ good_parts None xs slots l e = and_parts _ _ e
 good_parts (Some b) xs slots l e = and_parts _ _ (and_parts _ _ e).1
 
 good_first : (before : Option ℕ) (xs : List Found) (slots : ℕ) (l : Link) (ls : List Link) → bad_links before xs slots (l ∷ ls) ≡ [] → (is_good_link before xs slots l ≡ true) × (bad_links (Some l.at) xs slots ls ≡ [])
-good_first before xs slots l ls e = all_pass (is_good_link before xs slots l) l.at (bad_links (Some l.at) xs slots ls) e
+good_first before xs slots l ls e = other_empty (is_good_link before xs slots l) l.at _ _ e
 
 -- no later link has the place of an earlier one
 pub no_later : (xs : List Found) (slots b b2 : ℕ) (ls : List Link) → b ≤ b2 → bad_links (Some b2) xs slots ls ≡ [] → link_before ls (b + 4) ≡ None

@@ -21,9 +21,6 @@ between_fits to from a b = grind arith
 byte_same : (n m : ℕ) → (n + 256 * m) % 256 ≡ n % 256
 byte_same n m = omega arith
 
-rest_same : (n m : ℕ) → (n + 256 * m) / 256 ≡ n / 256 + m
-rest_same n m = omega arith
-
 four_above : (n m : ℕ) → le_bytes 4 (n + 4294967296 * m) ≡ le_bytes 4 n
 four_above n m =
     let a : n + 4294967296 * m ≡ n + 256 * (16777216 * m) = omega arith in
@@ -47,7 +44,6 @@ by_order to from true e a b c =
     ap (le_bytes 4) same
 by_order to from false e a b c =
     let lt = leb-false from to e in
-    let n = 2 ^ 32 - suc (from - to - 1) in
     let same : (to + 2 ^ 64 - from) % 2 ^ 64 ≡ (2 ^ 32 - suc (from - to - 1)) + 4294967296 * 4294967295 = omega arith in
     ap (le_bytes 4) same ∙ four_above (2 ^ 32 - suc (from - to - 1)) 4294967295
 

@@ -15,8 +15,9 @@ use Rattle.obj_core.specs.declared.object.Place.{Place}
 use Rattle.obj_core.specs.Slots.{slot_start, slot_purpose, positions}
 use Rattle.obj_core.specs.WellFormed.{AreFew}
 use Rattle.obj_lay.specs.Layout.{order_purpose, gap_purpose, Piece, whole, pieces, piece, order, inverse, place_of, code_base, placed, starts_from, starts, code_from, code_bytes, linked, address}
+use Rattle.obj_lay.proofs.Pieces.{pieces_as_many}
 use Rattle.obj_hidden.proofs.Order.{StandsAt, shuffled_stands, place_again, index_below, inverse_index, inverse_get}
-use Rattle.obj_hidden.proofs.Standing.{piece_stands, piece_below, piece_some, length-pieces, size, sizes_of, sizes_mapped, address_known}
+use Rattle.obj_hidden.proofs.Standing.{piece_stands, piece_below, piece_is, size, sizes_of, sizes_mapped, address_known}
 
 module _ (o : Object) (seed : ℕ) where
   -- where a function starts
@@ -25,15 +26,15 @@ module _ (o : Object) (seed : ℕ) where
 
   order_long : length (order o seed) ≡ length o.functions
   unfolding order
-  order_long = shuffled_long (keystream_word seed order_purpose 0) (length (pieces o.functions)) ∙ length-pieces o.functions
+  order_long = shuffled_long (keystream_word seed order_purpose 0) (length (pieces o.functions)) ∙ pieces_as_many o.functions
 
   order_stands : (n : ℕ) → n < length o.functions → StandsAt (order o seed) n
   unfolding order
-  order_stands n lt = shuffled_stands (keystream_word seed order_purpose 0) (length (pieces o.functions)) n (let long = length-pieces o.functions in omega (arith, long, lt))
+  order_stands n lt = shuffled_stands (keystream_word seed order_purpose 0) (length (pieces o.functions)) n (let long = pieces_as_many o.functions in omega (arith, long, lt))
 
   order_permutes : IsPermutation (range_with_len 0 (length o.functions)) (order o seed)
   unfolding order
-  order_permutes = subst (λ n. IsPermutation (range_with_len 0 n) (shuffled (keystream_word seed order_purpose 0) (length (pieces o.functions)))) (length-pieces o.functions) (shuffled_permutes (keystream_word seed order_purpose 0) (length (pieces o.functions)))
+  order_permutes = subst (λ n. IsPermutation (range_with_len 0 n) (shuffled (keystream_word seed order_purpose 0) (length (pieces o.functions)))) (pieces_as_many o.functions) (shuffled_permutes (keystream_word seed order_purpose 0) (length (pieces o.functions)))
 
   -- the pieces in their order
   abbrev row : List Piece
@@ -58,7 +59,7 @@ module _ (o : Object) (seed : ℕ) where
       let x = order_stands n (slice_get_within o.functions n f e) in
       slice_get-map (piece o.functions) (order o seed) (place_of (order o seed) n) ∙
       ap (option_map (piece o.functions)) (slice_get-get_or (order o seed) (place_of (order o seed) n) 0 x.within ∙ ap Some x.there) ∙
-      ap Some (piece_some o.functions n f e)
+      ap Some (piece_is o.functions n f e)
 
   -- a function in the code
   pub record FuncStands (n : ℕ) (f : Func) : Type 0 where

@@ -1,26 +1,24 @@
 -- Where pieces stand in the bytes of all code, and how far these reach.
-use Rattle.std.proofs.Common.{◌≡◌, ℕ, zero, suc, ◌+◌, ◌-◌, ◌*◌, ◌<◌, ◌≤◌, true, false, List, [], ◌∷◌, ◌++◌, length, drop, Some, if◌then◌else◌, refl, sym, ◌∙◌, ap, arith}
-use Rattle.std.specs.Prelude.{slice_get, slice_index, slice_set, map, sum}
+use Rattle.std.proofs.Common.{◌≡◌, ℕ, zero, suc, ◌+◌, ◌-◌, ◌*◌, ◌<◌, ◌≤◌, List, [], ◌∷◌, ◌++◌, length, drop, Some, if◌then◌else◌, refl, sym, ◌∙◌, ap, arith}
+use Rattle.std.specs.Prelude.{slice_get, slice_index, map, sum}
 use Rattle.std.specs.List.{range_with_len, sum_by}
-use Rattle.std.proofs.lemmas.Bool.{eq-eqb, ne_eqb, le-leb, lt-ltb, and_from, and_left}
-use Rattle.std.proofs.lemmas.List.{drop_at, length-replicate, length-set}
+use Rattle.std.proofs.lemmas.Bool.{lt-ltb}
+use Rattle.std.proofs.lemmas.List.{drop_at, length-replicate}
 use Rattle.std.proofs.lemmas.List.Sums.{sum_by-cons}
 use Rattle.obj_core.specs.declared.object.Func.{Func}
 use Rattle.obj_core.specs.declared.object.Link.{Link}
 use Rattle.obj_core.specs.declared.object.CodeAt.{CodeAt}
-use Rattle.obj_lay.specs.Layout.{Piece, whole, pieces_from, pieces, or_no_piece, piece, filler, displacement, overlaid, slot_in, linked, start_behind, starts_from, code_from, holds, address_from, address_in}
+use Rattle.obj_lay.specs.Layout.{Piece, whole, piece, filler, displacement, overlaid, slot_in, linked, start_behind, starts_from, code_from, address_in, address_by}
+use Rattle.obj_lay.proofs.Overlaid.{overlaid_long}
+use Rattle.obj_lay.proofs.Pieces.{whole_or, piece_whole, address_whole}
 use Rattle.obj_hidden.proofs.Instrs.{drop_behind}
-
-length-overlaid : (xs : List ℕ) (k : ℕ) (bs : List ℕ) → length (overlaid xs k bs) ≡ length xs
-length-overlaid xs k [] = refl
-length-overlaid xs k (b ∷ bs) = length-overlaid (slice_set xs k b) (k + 1) bs ∙ length-set xs k b
 
 -- links leave the length
 pub length-linked : (positions : List ℕ) (start : ℕ) (ls : List Link) (bs : List ℕ) → length (linked positions start ls bs) ≡ length bs
 length-linked positions start [] bs = refl
 length-linked positions start (l ∷ ls) bs =
     let d = displacement (slot_in positions l.slot) (start + l.at + 4) in
-    length-linked positions start ls (overlaid bs l.at d) ∙ length-overlaid bs l.at d
+    length-linked positions start ls (overlaid bs l.at d) ∙ overlaid_long bs l.at d
 
 -- a piece in the code of pieces
 pub record StandsIn (positions : List ℕ) (end : ℕ) (starts : List ℕ) (ps : List Piece) (q : ℕ) (p : Piece) : Type 0 where
@@ -84,21 +82,8 @@ piece_below words i end (r ∷ rs) (suc q) p e =
     omega (arith, x, whole, above)
 
 -- the piece of a function
-piece_from : (n k m : ℕ) (fs : List Func) (f : Func) → m ≡ n + k → slice_get fs k ≡ Some f → slice_get (pieces_from n fs) k ≡ Some (whole m f)
-piece_from n k m [] f e h = absurd (cc)
-piece_from n zero m (g ∷ fs) f e h = let same : n ≡ m = omega arith in let this : g ≡ f = cc in ap (λ i. Some (whole i g)) same ∙ ap (λ x. Some (whole m x)) this
-piece_from n (suc k) m (g ∷ fs) f e h = piece_from (n + 1) k m fs f (omega arith) h
-
-pub piece_some : (fs : List Func) (k : ℕ) (f : Func) → slice_get fs k ≡ Some f → piece fs k ≡ whole k f
-unfolding piece
-piece_some fs k f h = ap or_no_piece (piece_from 0 k k fs f (omega arith) h)
-
-pieces_long : (n : ℕ) (fs : List Func) → length (pieces_from n fs) ≡ length fs
-pieces_long n [] = refl
-pieces_long n (f ∷ fs) = ap suc (pieces_long (n + 1) fs)
-
-pub length-pieces : (fs : List Func) → length (pieces fs) ≡ length fs
-length-pieces fs = pieces_long 0 fs
+pub piece_is : (fs : List Func) (k : ℕ) (f : Func) → slice_get fs k ≡ Some f → piece fs k ≡ whole k f
+piece_is fs k f e = piece_whole fs k ∙ ap (whole_or k) e
 
 -- the sizes of all functions, by their numbers
 sizes_from : (g : ℕ → ℕ) (a : ℕ) (fs : List Func) → ((k : ℕ) (f : Func) → slice_get fs k ≡ Some f → g (a + k) ≡ length f.bytes) → sum_by g (range_with_len a (length fs)) ≡ sum (map (λ (f : Func). length f.bytes) fs)
@@ -112,7 +97,7 @@ sizes_from g a (f ∷ fs) h =
     omega (arith, first, others, left, right)
 
 pub sizes_of : (fs : List Func) → sum_by (λ k. size (piece fs k)) (range_with_len 0 (length fs)) ≡ sum (map (λ (f : Func). length f.bytes) fs)
-sizes_of fs = sizes_from (λ k. size (piece fs k)) 0 fs (λ k f e. let same : 0 + k ≡ k = omega arith in ap (λ n. size (piece fs n)) same ∙ ap size (piece_some fs k f e))
+sizes_of fs = sizes_from (λ k. size (piece fs k)) 0 fs (λ k f e. let same : 0 + k ≡ k = omega arith in ap (λ n. size (piece fs n)) same ∙ ap size (piece_is fs k f e))
 
 pub sizes_mapped : (fs : List Func) (ks : List ℕ) → sum_by size (map (piece fs) ks) ≡ sum_by (λ k. size (piece fs k)) ks
 sizes_mapped fs [] = refl
@@ -123,21 +108,7 @@ sizes_mapped fs (k ∷ ks) =
     omega (arith, left, right, others)
 
 -- the address of a byte of a function
-address_there : (places starts : List ℕ) (c : CodeAt) (k m : ℕ) (fs : List Func) (f : Func) → slice_get fs m ≡ Some f → c.function ≡ k + m → c.offset < length f.bytes → address_from places starts k (pieces_from k fs) c ≡ slice_index starts (slice_index places c.function) + c.offset
-address_there places starts c k m [] f e n lt = absurd (cc)
-address_there places starts c k zero (g ∷ fs) f e n lt =
-    let this : g ≡ f = cc in
-    let number : k ≡ c.function = omega (arith, n) in
-    let long : length g.bytes ≡ length f.bytes = ap (λ (x : Func). length x.bytes) this in
-    let test : holds (whole k g) c ≡ true = and_from _ _ (eq-eqb k c.function number) (and_from _ _ (le-leb 0 c.offset (omega arith)) (lt-ltb c.offset (0 + length g.bytes) (omega (arith, lt, long)))) in
-    let all : c.offset - 0 ≡ c.offset = omega arith in
-    ap (λ t. if t then slice_index starts (slice_index places k) + (c.offset - 0) else address_from places starts (k + 1) (pieces_from (k + 1) fs) c) test ∙
-    ap (λ d. slice_index starts (slice_index places k) + d) all ∙
-    ap (λ i. slice_index starts (slice_index places i) + c.offset) number
-address_there places starts c k (suc m) (g ∷ fs) f e n lt =
-    let test : holds (whole k g) c ≡ false = and_left _ _ (ne_eqb k c.function (λ same. omega (arith, same, n))) in
-    ap (λ t. if t then slice_index starts (slice_index places k) + (c.offset - 0) else address_from places starts (k + 1) (pieces_from (k + 1) fs) c) test ∙
-    address_there places starts c (k + 1) m fs f e (omega (arith, n)) lt
-
 pub address_known : (places starts : List ℕ) (c : CodeAt) (fs : List Func) (f : Func) → slice_get fs c.function ≡ Some f → c.offset < length f.bytes → address_in fs places starts c ≡ slice_index starts (slice_index places c.function) + c.offset
-address_known places starts c fs f e lt = address_there places starts c 0 c.function fs f e (omega arith) lt
+address_known places starts c fs f e lt =
+    address_whole fs places starts c ∙ ap (address_by places starts c) e ∙
+    ap (λ t. if t then slice_index starts (slice_index places c.function) + c.offset else 0) (lt-ltb c.offset (length f.bytes) lt)
