@@ -1,5 +1,7 @@
 -- Each layout of a well-formed object is an image of it.
 use Rattle.std.proofs.Common.{◌≡◌, ◌≢◌, ℕ, List, refl, sym, ◌∙◌, subst, arith}
+use Rattle.std.proofs.Math.Logic.{∥∥₁_elim}
+use Rattle.std.proofs.Props.{props}
 use Rattle.behavior.specs.Ending.{Strayed}
 use Rattle.behavior.specs.Moment.{Agrees, AreBytes, Behavior}
 use Rattle.behavior.specs.Preserves.{Preserves}
@@ -63,3 +65,7 @@ layout_agrees o w seed input n straight = image_agrees (layout o seed) (at_place
 
 pub layout_preserves : (o : Object) → IsWellFormed o → (seed : ℕ) (A : Behavior) → ((input : List ℕ) → AreBytes input → (k : ℕ) → (A input k).ending ≢ Strayed) → Preserves A (symbolic_behavior o) → Preserves A (machine_behavior (layout o seed))
 layout_preserves o w seed A straight p = image_preserves (layout o seed) (at_place o w seed) (is_step_place o w.cuts) o (is_image o w seed) A straight p
+
+-- observations are equal in one way at most, so a checked object need not say where it was cut
+pub checked_hidden : (o : Object) → ∥ IsWellFormed o ∥₁ → (seed : ℕ) (input : List ℕ) (acts : List Act) → (symbolic_run o input acts).ending ≢ Strayed → observe (machine_run (layout o seed) input acts) ≡ observe (symbolic_run o input acts)
+checked_hidden o known seed input acts straight = ∥∥₁_elim known (hlevel props) (λ w. hidden_layout o w seed input acts straight)

@@ -9,3 +9,4 @@ pub mod Trampolines
 pub mod Functions
 pub mod SlotsStand
 pub mod Images
+pub mod Worked

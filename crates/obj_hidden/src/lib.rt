@@ -20,6 +20,8 @@ ghost use Rattle.obj_core.specs.SymbolicMachine.{symbolic_behavior, symbolic_run
 ghost use Rattle.obj_core.specs.WellFormed.{IsWellFormed};
 ghost use Rattle.obj_lay.specs.Layout.{layout};
 
+use obj_core::checked::Checked;
+
 /// The run of a layout shows what the object's run shows, for each seed, each input, and whatever
 /// somebody who looks on writes between the steps.
 pub fn hidden_layout()
@@ -45,4 +47,10 @@ pub fn layout_agrees()
 /// A layout means what its object means, for a program that never strays.
 pub fn layout_preserves()
     ensures { (o : Object) → IsWellFormed o → (seed : ℕ) (A : Behavior) → ((input : List ℕ) → AreBytes input → (k : ℕ) → (A input k).ending ≢ Strayed) → Preserves A (symbolic_behavior o) → Preserves A (machine_behavior (layout o seed)) }
+{}
+
+/// All layouts of a checked object show what the object shows, and so all the same.
+pub fn checked_layouts_hide(o: &Checked)
+    ensures object { (seed : ℕ) (input : List ℕ) (acts : List Act) → (symbolic_run o.now.object input acts).ending ≢ Strayed → observe (machine_run (layout o.now.object seed) input acts) ≡ observe (symbolic_run o.now.object input acts) }
+    ensures each_other { (seed : ℕ) (other : ℕ) (input : List ℕ) (acts : List Act) → (symbolic_run o.now.object input acts).ending ≢ Strayed → observe (machine_run (layout o.now.object seed) input acts) ≡ observe (machine_run (layout o.now.object other) input acts) }
 {}
