@@ -1,0 +1,12 @@
+pub mod Instrs
+pub mod Numbers
+pub mod Linked
+pub mod Order
+pub mod Standing
+pub mod Executable
+pub mod Places
+pub mod Trampolines
+pub mod Functions
+pub mod SlotsStand
+pub mod Images
+pub mod Worked
