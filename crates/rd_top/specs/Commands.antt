@@ -12,7 +12,7 @@ use Rattle.rd_top.specs.declared.compile.Made.{Made}
 use Rattle.rd_top.specs.declared.answer.Answer.{Answer}
 use Rattle.rd_top.specs.declared.answer.Answer.TheVariants.{Done, Words, File, Later, Form, Shape, Image, Long, Out, Input, Memory, Ran}
 use Rattle.rd_top.specs.Told.{FilesTold, InputTold, OutTold, IsContent, IsTooLong, Lost, Wrote, WrotePart}
-use Rattle.rd_top.specs.Laying.{LayMeans}
+use Rattle.rd_top.specs.Laying.{Hides, LayMeans}
 use Rattle.rd_top.specs.Running.{RunMeans}
 use Rattle.rd_top.specs.Words.{Reading, Compile, Build, Lay, Run}
 
@@ -31,6 +31,7 @@ pub record IsImageOf (text : List ℕ) (slot_seed reg_seed layout_seed : ℕ) (b
   pub object : Object
   pub compiled : CompiledText text slot_seed reg_seed object
   pub spelled : bytes ≡ elf_bytes (layout object layout_seed)
+  pub hides : Hides object layout_seed
 
 abbrev pub IsMade : List ℕ → ℕ → ℕ → Made → List ℕ → Type 0
 IsMade text slot_seed reg_seed Made.Object bytes = IsObjectOf text slot_seed reg_seed bytes

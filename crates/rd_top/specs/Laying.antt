@@ -1,5 +1,10 @@
 -- What `lay` does to the outside, answer by answer.
-use Rattle.std.specs.Prelude.{◌≡◌, ℕ, ◌⊎◌, List, Option}
+use Rattle.std.specs.Prelude.{◌≡◌, ◌≢◌, ℕ, ◌⊎◌, List, Option}
+use Rattle.behavior.specs.Ending.{Strayed}
+use Rattle.machine_core.specs.Machine.{machine_run}
+use Rattle.machine_core.specs.Observation.{observe}
+use Rattle.machine_core.specs.Run.{Act}
+use Rattle.obj_core.specs.SymbolicMachine.{symbolic_run}
 use Rattle.rd_io.specs.Causes.{Rose}
 use Rattle.obj_core.specs.declared.object.Object.{Object}
 use Rattle.obj_core.specs.Object.{IsObject, object_bytes}
@@ -17,6 +22,11 @@ use Rattle.rd_top.specs.Told.{FilesTold, OutTold, IsContent, IsTooLong, Lost, Wr
 abbrev pub object_limit : ℕ
 object_limit = 268435456
 
+-- every run of a layout of an object shows what the object's run shows, registers, flags and readable memory
+-- included, whatever is written between the steps, until the object's run strays
+abbrev pub Hides : Object → ℕ → Type 0
+Hides o layout_seed = (input : List ℕ) (acts : List Act) → (symbolic_run o input acts).ending ≢ Strayed → observe (machine_run (layout o layout_seed) input acts) ≡ observe (symbolic_run o input acts)
+
 -- bytes are those of this object
 pub record Spells (bytes : List ℕ) (o : Object) : Type 0 where
   pub object : IsObject o
@@ -28,6 +38,7 @@ pub record IsLaid (bytes : List ℕ) (layout_seed : ℕ) (image : List ℕ) : Ty
   pub spells : Spells bytes object
   pub well_formed : IsWellFormed object
   pub laid : image ≡ elf_bytes (layout object layout_seed)
+  pub hides : Hides object layout_seed
 
 -- bytes spell an object that isn't well formed, and this is what is wrong with it
 pub record IsMisshapen (bytes : List ℕ) (rule : ℕ) (spot : ShapeSpot) (offset : ℕ) : Type 0 where

@@ -3,6 +3,7 @@
 ghost use Rattle.std.specs.Prelude.{◌≡◌, Err, IfOk};
 ghost use Rattle.ir_narrow.specs.NarrowText.{Program, IsNarrowText};
 ghost use Rattle.rd_top.specs.Commands.{CompileMeans, IsMade};
+ghost use Rattle.rd_top.specs.Laying.{Hides};
 ghost use Rattle.obj_core.specs.Object.{object_bytes as object_bytes_of};
 ghost use Rattle.obj_core.specs.WellFormed.{IsWellFormed};
 ghost use Rattle.obj_lay.specs.Layout.{layout};
@@ -13,7 +14,7 @@ use ir_narrow::narrow::NarrowFault;
 use obj_core::checked::Checked;
 use obj_core::object::Object;
 use obj_file::write::write;
-use obj_lay::law::layout_is_sound;
+use obj_hidden::checked_layouts_hide;
 use obj_lay::lay;
 use rd_compile::compile;
 use rd_io::{FileFail, Files, PutFail, Sink};
@@ -44,10 +45,11 @@ fn object_bytes(alloc: Global, object: &Object) -> Result<List<u8>, NoMemory>
 /// The bytes of the image of an object.
 fn image_bytes(alloc: Global, object: Object, layout_seed: u64) -> Result<List<u8>, NoMemory>
     requires { IsWellFormed object }
-    ensures { IfOk result (λ l. l ≡ elf_bytes (layout object layout_seed)) }
+    ensures file { IfOk result (λ l. l ≡ elf_bytes (layout object layout_seed)) }
+    ensures hides { IfOk result (λ l. Hides object layout_seed) }
 {
-    layout_is_sound();
     let checked = Checked::new(object);
+    checked_layouts_hide(&checked);
     let image = lay(alloc, &checked, layout_seed)?;
     elf_file::write::write(alloc, &image)
 }
