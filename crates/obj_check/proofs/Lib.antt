@@ -5,3 +5,4 @@ pub mod Tables
 pub mod Functions
 pub mod Colors
 pub mod Judged
+pub mod Unique

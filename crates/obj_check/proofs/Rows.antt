@@ -91,7 +91,7 @@ row_stuck bytes at ps r h none = record {
   none = none;
 }
 
-nothing_begins : (i : Instr) (more : List ℕ) → [] ≡ encoding i ++ more → ⊥
+pub nothing_begins : (i : Instr) (more : List ℕ) → [] ≡ encoding i ++ more → ⊥
 nothing_begins i more e = omega (arith, some_bytes i, ap length e, length-append (encoding i) more)
 
 pub empty_stuck : (bytes : List ℕ) → length bytes ≡ 0 → IsStuck bytes 0

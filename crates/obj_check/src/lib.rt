@@ -18,6 +18,7 @@ mod code;
 mod cut;
 pub mod fault;
 mod few;
+pub mod law;
 mod marks;
 mod saved;
 mod slots;
