@@ -50,19 +50,22 @@ position_below o k lt =
     let words = keystream_word o.slot_seed slot_purpose 0 in
     shuffled_below words (length o.slots) k 0 (omega (arith, lt, shuffled_long words (length o.slots)))
 
-slot_fits : (o : Object) (k : ℕ) → length o.slots ≤ 1048576 → k < length o.slots → slot_start o k + 5 < 2 ^ 64
+-- a slot ends below 2^64
+pub slot_fits : (o : Object) (k : ℕ) → length o.slots ≤ 1048576 → k < length o.slots → slot_start o k + 5 < 2 ^ 64
 slot_fits o k few lt = omega (arith, few, position_below o k lt)
 
 -- the bytes of a function from an instruction on
-bytes_from : (bytes : List ℕ) (cut : List Instr) (off : ℕ) → IsCut bytes cut → (h : IsIn cut 0 off) → drop off bytes ≡ encoding h.instr ++ spelled h.after
+pub bytes_from : (bytes : List ℕ) (cut : List Instr) (off : ℕ) → IsCut bytes cut → (h : IsIn cut 0 off) → drop off bytes ≡ encoding h.instr ++ spelled h.after
 bytes_from bytes cut off c h =
     let split : bytes ≡ spelled h.before ++ (encoding h.instr ++ spelled h.after) = sym c.whole ∙ ap spelled h.split ∙ spelled-append h.before (h.instr ∷ h.after) in
     ap (drop off) split ∙ drop_at (spelled h.before) (encoding h.instr ++ spelled h.after) off (omega (arith, h.offset))
 
-instr_from : (bytes : List ℕ) (cut : List Instr) (off : ℕ) → IsCut bytes cut → (h : IsIn cut 0 off) → IsInstr h.instr
+-- the instruction of a cut is in range
+pub instr_from : (bytes : List ℕ) (cut : List Instr) (off : ℕ) → IsCut bytes cut → (h : IsIn cut 0 off) → IsInstr h.instr
 instr_from bytes cut off c h = (each_right IsInstr h.before (h.instr ∷ h.after) (subst (Each IsInstr) h.split c.instructions)).0
 
 module _ (o : Object) (well : IsWellFormed o) where
+  -- a step may stand there
   abbrev IsPlace : Place → Type 0
   IsPlace p = is_step_place o well.cuts p ≡ true
 
@@ -76,6 +79,7 @@ module _ (o : Object) (well : IsWellFormed o) where
   back_is : (back : CodeAt) → is_start well.cuts back ≡ true → IsPlace (at_code back)
   back_is back h = sym (is_start_code well.cuts back) ∙ h
 
+  -- a function begins with a place
   start_is : (f : ℕ) → nat_lt f (length well.cuts) ≡ true → IsPlace (Place.Code f 0)
   start_is f h = function_starts o.functions well.cuts well.cut f (ltb-true f (length well.cuts) h)
 
@@ -83,6 +87,7 @@ module _ (o : Object) (well : IsWellFormed o) where
     abbrev Stands : Func → ℕ → ℕ → Instr → Type 0
     Stands = CodeStands exec place (is_step_place o well.cuts) o
 
+    -- neighbours that are places
     falls : (n off size : ℕ) → IsPlace (Place.Code n off) → IsPlace (Place.Code n (off + size)) → FallsThrough exec place (is_step_place o well.cuts) o n off size
     falls n off size here next = record { next = next; behind = laid.neighbours n off size here next }
 
@@ -104,6 +109,7 @@ module _ (o : Object) (well : IsWellFormed o) where
     abbrev CodeHere : ℕ → ℕ → Type 0
     CodeHere n off = (s : HasInstr o n off) × Stands s.func n off s.instr
 
+    -- an instruction at each place of a function
     code_here : (n off : ℕ) (x : Option (List Instr)) → slice_get well.cuts n ≡ x → is_code_place x off ≡ true → CodeHere n off
     code_here n off None d h = absurd (cc)
     code_here n off (Some cut) d h =

@@ -42,6 +42,7 @@ module _ (exec : List Segment) (place : Place → ℕ) (is_place : Place → Boo
   abbrev Alike : Fetched Place → Fetched ℕ → Type 0
   Alike = FetchesSame place is_place
 
+  -- an instruction of a function
   code_alike : (f : Func) (n off : ℕ) (i : Instr) → CodeStands exec place is_place o f n off i → Alike (by_decoded f n off (One i (size_of i))) (machine_fetch exec (place (Place.Code n off)))
   code_alike f n off (Jcc c by) h =
       let at = place (Place.Code n off) in
@@ -70,6 +71,7 @@ module _ (exec : List Segment) (place : Place → ℕ) (is_place : Place → Boo
     behind : (at size : ℕ) → at + size ≤ 5 → place (Place.Slot k at) ≡ slot_start o k + at → (place (Place.Slot k at) + size) % 2 ^ 64 ≡ slot_start o k + (at + size)
     behind at size le e = omega (arith, e, fits, le)
 
+    -- the instructions of slots
     jumps : (at : ℕ) (to : Place) → Leads exec place is_place o (Place.Slot k at) Jmp to → Alike (Goes to) (machine_fetch exec (place (Place.Slot k at)))
     jumps at to h = record { same = read_at_address exec _ (Jmp h.branch.by) h.branch.here ∙ ap Goes h.branch.leads; within = h.there }
 
@@ -101,11 +103,13 @@ module _ (exec : List Segment) (place : Place → ℕ) (is_place : Place → Boo
     indirect_idles : (at : ℕ) (back : CodeAt) → at < 2 → in_slot (Some (Slot.Indirect back)) o k at ≡ Plain Nop (Place.Slot k (at + 1))
     indirect_idles at back lt = ap (λ t. if t then Plain Nop (Place.Slot k (at + 1)) else (if nat_eq at 2 then CallsWord (slot_start o k + 5) else Goes (at_code back))) (lt-ltb at 2 lt)
 
+    -- the bytes behind the kernel call
     system_idles : (at : ℕ) (back : CodeAt) → 2 ≤ at → at < 5 → in_slot (Some (Slot.System back)) o k at ≡ Plain Nop (Place.Slot k (at + 1))
     system_idles at back le lt =
         ap (λ t. if t then Systems (Place.Slot k 2) (slot_start o k + 2) else (if nat_lt at 5 then Plain Nop (Place.Slot k (at + 1)) else Goes (at_code back))) (ne_eqb at 0 (λ z. omega (arith, z, le))) ∙
         ap (λ t. if t then Plain Nop (Place.Slot k (at + 1)) else Goes (at_code back)) (lt-ltb at 5 lt)
 
+    -- each byte of each kind of slot
     slot_alike : (at : ℕ) → place (Place.Slot k at) ≡ slot_start o k + at → (s : Slot) → SlotStands exec place is_place o k at s → At s at
     slot_alike at e (Slot.Entry f) (inl h) = subst (At (Slot.Entry f)) (sym h.0) (jumps 0 (Place.Code f 0) h.1)
     slot_alike at e (Slot.Entry f) (inr h) = subst (At (Slot.Entry f)) (sym h.0) (stops 5 h.1)

@@ -7,3 +7,8 @@ pub mod Worked
 pub mod Starts
 pub mod Rules
 pub mod Closed
+pub mod Filling
+pub mod Filled
+pub mod Sizes
+pub mod Displacements
+pub mod Functions

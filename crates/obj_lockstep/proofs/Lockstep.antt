@@ -38,6 +38,7 @@ module _ (place : Place → ℕ) (is_place : Place → Bool) where
   tested w n p rest e k h true same = (e ∙ sym (eqb-true w n same), k)
   tested w n p rest e k h false same = h
 
+  -- a word leads to a place that stands at it
   landing_stands : (ps : List ℕ) (k w : ℕ) → ((i : ℕ) → i < length ps → IsKnown (k + i) (slice_index ps i)) → StandsAt place is_place w (landing_from ps k w)
   landing_stands [] k w known = tt
   landing_stands (p ∷ ps) k w known =
@@ -52,6 +53,7 @@ module _ (exec : List Segment) (place : Place → ℕ) (is_place : Place → Boo
   abbrev R : State Place → State ℕ → Type 0
   R = Mirrors exec place is_place
 
+  -- each slot is known
   slot_known : (i : ℕ) → i < length (positions o) → IsKnown place is_place (0 + i) (slice_index (positions o) i)
   slot_known i lt =
       let h = placed.landing i (omega (arith, lt, positions_long o)) in
@@ -64,6 +66,7 @@ module _ (exec : List Segment) (place : Place → ℕ) (is_place : Place → Boo
   lands : (w : ℕ) → StandsAt place is_place w (symbolic_land o w)
   lands w = landing_stands place is_place (positions o) 0 w slot_known
 
+  -- a step of a run that goes on, and of one that has stopped
   by_ending : (e : Ending) (a : State Place) (segments : List Segment) → data_of segments ≡ a.segments → code_of segments ≡ exec → is_place a.place ≡ true →
       let a2 = if_going e (act (symbolic_land o) (symbolic_fetch o a.place) a) a in
       let b = at_address place segments a in
@@ -93,11 +96,13 @@ module _ (exec : List Segment) (place : Place → ℕ) (is_place : Place → Boo
   wrote_ending None a = refl
   wrote_ending (Some segments) a = refl
 
+  -- an act on a run that has strayed
   strayed_act : (x : Act) (a : State Place) → a.ending ≡ Strayed → (acted (symbolic_step o) x a).ending ≡ Strayed
   strayed_act Step a h = ap (λ e. (if_going e (act (symbolic_land o) (symbolic_fetch o a.place) a) a).ending) h ∙ h
   strayed_act (Write at []) a h = h
   strayed_act (Write at (n ∷ ns)) a h = wrote_ending (write_at a.segments at (n ∷ ns)) a ∙ h
 
+  -- any list of acts on it
   strayed_over : (acts : List Act) (a : State Place) → a.ending ≡ Strayed → (run_over (symbolic_step o) acts a).ending ≡ Strayed
   strayed_over [] a h = h
   strayed_over (x ∷ acts) a h = strayed_over acts (acted (symbolic_step o) x a) (strayed_act x a h)

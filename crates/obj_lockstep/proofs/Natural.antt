@@ -52,9 +52,11 @@ StandsAt place is_place w None = Unit {0}
 StandsAt place is_place w (Some p) = (place p ≡ w) × (is_place p ≡ true)
 
 module _ (exec : List Segment) (hidden : AreHidden exec) (place : Place → ℕ) (is_place : Place → Bool) (a : State Place) (segments : List Segment) (readable : data_of segments ≡ a.segments) (runs : code_of segments ≡ exec) (here : is_place a.place ≡ true) where
+  -- the state of the machine
   abbrev b : State ℕ
   b = at_address place segments a
 
+  -- a state of the machine that stands for one of the object
   abbrev R : State Place → State ℕ → Type 0
   R = Mirrors exec place is_place
 
@@ -75,6 +77,7 @@ module _ (exec : List Segment) (hidden : AreHidden exec) (place : Place → ℕ)
       let stays : CodeStays exec (write_at segments at bs) = subst (λ c. CodeStays c (write_at segments at bs)) runs (code_stays segments at bs (subst AreHidden (sym runs) hidden)) in
       subst (λ o. M o (write_at segments at bs)) (sym e) (both (write_at segments at bs) stays)
 
+  -- after each answer of memory
   read_mirrors : (c : Change) (into : Reg) (after : Place) → is_place after ≡ true → (o : Option (List ℕ)) → R (after_read o c into after a) (after_read o c into (place after) b)
   read_mirrors c into after k None = unwritten (after_read None c into after a) refl here
   read_mirrors c into after k (Some bytes) = unwritten (after_read (Some bytes) c into after a) refl k
@@ -83,29 +86,35 @@ module _ (exec : List Segment) (hidden : AreHidden exec) (place : Place → ℕ)
   write_mirrors c after k None h = unwritten (after_write None c after a) refl here
   write_mirrors c after k (Some ss) h = record { segments = ss; same = refl; readable = refl; runs = h; here = k }
 
+  -- an instruction with its access
   access_mirrors : (x : Access) (c : Change) (after : Place) → is_place after ≡ true → R (by_access x c after a) (by_access x c (place after) b)
   access_mirrors Nothing c after k = unwritten (by_access Nothing c after a) refl k
   access_mirrors (Read at size into) c after k = over_read at (size_bytes size) (λ x y. R (after_read x c into after a) (after_read y c into (place after) b)) (read_mirrors c into after k)
   access_mirrors (Write at size n) c after k = over_write at (le_bytes (size_bytes size) n) (λ x y. R (after_write x c after a) (after_write y c (place after) b)) (write_mirrors c after k)
 
+  -- an instruction that goes on, or has no answer
   change_mirrors : (n : Next) (c : Change) (after : Place) → is_place after ≡ true → R (by_change n c after a) (by_change n c (place after) b)
   change_mirrors next.Divide c after k = unwritten (by_change next.Divide c after a) refl here
   change_mirrors next.NoFlag c after k = unwritten (by_change next.NoFlag c after a) refl here
   change_mirrors n c after k = access_mirrors c.access c after k
 
+  -- a branch under a condition
   test_mirrors : (o : Option Bool) (to after : Place) → is_place to ≡ true → is_place after ≡ true → R (tested o to after a) (tested o (place to) (place after) b)
   test_mirrors None to after k l = unwritten (tested None to after a) refl here
   test_mirrors (Some true) to after k l = unwritten (tested (Some true) to after a) refl k
   test_mirrors (Some false) to after k l = unwritten (tested (Some false) to after a) refl l
 
+  -- to the place of a word
   land_mirrors : (w : ℕ) (regs : List ℕ) (o : Option Place) → StandsAt place is_place w o → (landed o regs a).ending ≢ Strayed → R (landed o regs a) (landed (Some w) regs b)
   land_mirrors w regs None h straight = absurd (straight refl)
   land_mirrors w regs (Some p) h straight = subst (λ n. R (landed (Some p) regs a) (landed (Some n) regs b)) h.0 (unwritten (landed (Some p) regs a) refl h.1)
 
+  -- a call
   call_mirrors : (to : Place) → is_place to ≡ true → (o : Option (List Segment)) → CodeStays exec o → R (called to (data_after o) a) (called (place to) o b)
   call_mirrors to k None h = unwritten (called to None a) refl here
   call_mirrors to k (Some ss) h = record { segments = ss; same = refl; readable = refl; runs = h; here = k }
 
+  -- a call of a word
   word_mirrors : (w : ℕ) (p : Option Place) → StandsAt place is_place w p → (o : Option (List Segment)) → CodeStays exec o → (called_word p (data_after o) a).ending ≢ Strayed → R (called_word p (data_after o) a) (called_word (Some w) o b)
   word_mirrors w p h None c straight = unwritten (called_word p None a) refl here
   word_mirrors w None h (Some ss) c straight = absurd (straight refl)
@@ -113,6 +122,7 @@ module _ (exec : List Segment) (hidden : AreHidden exec) (place : Place → ℕ)
       subst (λ n. R (called_word (Some p) (Some (data_of ss)) a) (called_word (Some n) (Some ss) b)) h.0
       (record { segments = ss; same = refl; readable = refl; runs = c; here = h.1 })
 
+  -- the system calls
   print_mirrors : (count : ℕ) (after : Place) (back : ℕ) → is_place after ≡ true → (o : Option (List ℕ)) → R (after_print o count after back a) (after_print o count (place after) back b)
   print_mirrors count after back k None = unwritten (after_print None count after back a) refl k
   print_mirrors count after back k (Some bytes) = unwritten (after_print (Some bytes) count after back a) refl k
@@ -130,6 +140,7 @@ module _ (exec : List Segment) (hidden : AreHidden exec) (place : Place → ℕ)
   serve_mirrors Unknowns after back k = unwritten (served Unknowns after back a) refl here
 
   module _ (land : ℕ → Option Place) (lands : (w : ℕ) → StandsAt place is_place w (land w)) where
+    -- a return
     return_mirrors : (o : Option (List ℕ)) → (returned land o a).ending ≢ Strayed → R (returned land o a) (returned Some o b)
     return_mirrors None straight = unwritten (returned land None a) refl here
     return_mirrors (Some bytes) straight = land_mirrors (le_number bytes) (with_word a.regs Rsp (moved (word a.regs Rsp) (pos 8))) (land (le_number bytes)) (lands (le_number bytes)) straight

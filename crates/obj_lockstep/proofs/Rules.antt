@@ -18,10 +18,12 @@ neither : (v w : Option Violation) → or_else v w ≡ None → (v ≡ None) × 
 neither None w h = (refl, h)
 neither (Some v) w h = absurd (cc)
 
+-- a rule that holds has no offsets where it fails
 no_offset : (rule n : ℕ) (xs : List ℕ) → at_least_offset rule n xs ≡ None → xs ≡ []
 no_offset rule n [] h = refl
 no_offset rule n (x ∷ xs) h = absurd (cc)
 
+-- two lists that are empty together
 no_more : (xs ys : List ℕ) → xs ++ ys ≡ [] → (xs ≡ []) × (ys ≡ [])
 no_more [] ys h = (refl, h)
 no_more (x ∷ xs) ys h = absurd (cc)
@@ -37,6 +39,7 @@ holds_at rule fails n (g ∷ fs) (c ∷ cuts) h zero f cut e d =
     subst (λ x. fails f x ≡ []) second (subst (λ x. fails x c ≡ []) first here)
 holds_at rule fails n (g ∷ fs) (c ∷ cuts) h (suc k) f cut e d = holds_at rule fails (n + 1) fs cuts (neither (at_least_offset rule n (fails g c)) _ h).1 k f cut e d
 
+-- a slot that passes
 passes_by : (rule k : ℕ) (s : Slot) (rest : Option Violation) (t : Bool) → (if t then rest else Some (record { rule = rule; spot = OfSlot k; offset = 0 })) ≡ None → (t ≡ true) × (rest ≡ None)
 passes_by rule k s rest true h = (refl, h)
 passes_by rule k s rest false h = absurd (cc)
@@ -55,6 +58,7 @@ pub record HasCut (fs : List Func) (n : ℕ) (cut : List Instr) : Type 0 where
   pub found : slice_get fs n ≡ Some func
   pub is_cut : IsCut func.bytes cut
 
+-- a cut has a function
 pub function_of_cut : (fs : List Func) (cuts : List (List Instr)) → AreCuts fs cuts → (n : ℕ) (cut : List Instr) → slice_get cuts n ≡ Some cut → HasCut fs n cut
 function_of_cut [] [] h n cut e = absurd (cc)
 function_of_cut [] (c ∷ cuts) h n cut e = absurd h
@@ -81,10 +85,12 @@ abbrev pub LinkSays : ℕ → List Link → ℕ → Option ℕ → Type 0
 LinkSays slots ls e None = is_linked ls e ≡ false
 LinkSays slots ls e (Some k) = k < slots
 
+-- a good link is to a slot that exists
 link_slot : (before : Option ℕ) (xs : List Found) (slots : ℕ) (l : Link) → is_good_link before xs slots l ≡ true → l.slot < slots
 link_slot None xs slots l h = ltb-true l.slot slots (and_parts (fills_zero xs l.at) _ h).1
 link_slot (Some b) xs slots l h = ltb-true l.slot slots (and_parts (fills_zero xs l.at) _ (and_parts (nat_lt b l.at) _ h).1).1
 
+-- the first link, or the others
 link_by : (slots : ℕ) (l : Link) (ls : List Link) (e : ℕ) → l.slot < slots → LinkSays slots ls e (link_before ls e) → (t : Bool) → nat_eq (l.at + 4) e ≡ t → LinkSays slots (l ∷ ls) e (if t then Some l.slot else link_before ls e)
 link_by slots l ls e lt more true same = lt
 link_by slots l ls e lt more false same = by_found (link_before ls e) more
@@ -93,6 +99,7 @@ link_by slots l ls e lt more false same = by_found (link_before ls e) more
     by_found None h = ap (λ t. t || is_linked ls e) same ∙ h
     by_found (Some k) h = h
 
+-- good links say of each offset nothing, or a slot that exists
 pub link_says : (before : Option ℕ) (xs : List Found) (slots : ℕ) (ls : List Link) → bad_links before xs slots ls ≡ [] → (e : ℕ) → LinkSays slots ls e (link_before ls e)
 link_says before xs slots [] h e = refl
 link_says before xs slots (l ∷ ls) h e =

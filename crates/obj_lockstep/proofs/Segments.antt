@@ -5,10 +5,12 @@ use Rattle.machine_core.specs.Memory.{executes, reads, writes, holds, read_at, w
 use Rattle.machine_core.specs.Observation.{readable}
 use Rattle.obj_lockstep.specs.Placed.{AreHidden}
 
+-- a read sees data alone
 pub read_same : (ss : List Segment) (at n : ℕ) → read_at ss at n ≡ read_at (data_of ss) at n
 read_same [] at n = refl
 read_same (s ∷ ss) at n = grind (arith, read_same ss at n)
 
+-- a fetch sees code alone
 pub code_same : (ss : List Segment) (at : ℕ) → code_at ss at ≡ code_at (code_of ss) at
 code_same [] at = refl
 code_same (s ∷ ss) at = grind (arith, code_same ss at)
@@ -28,6 +30,7 @@ abbrev pub CodeStays : List Segment → Option (List Segment) → Type 0
 CodeStays exec None = Unit {0}
 CodeStays exec (Some ss) = code_of ss ≡ exec
 
+-- data behind a segment
 data_behind : (s : Segment) (o : Option (List Segment)) → data_after (behind s o) ≡ (if reads s.rights || writes s.rights then behind s (data_after o) else data_after o)
 data_behind s None = grind arith
 data_behind s (Some ss) = grind arith
@@ -37,13 +40,16 @@ pub write_same : (ss : List Segment) (at : ℕ) (bs : List ℕ) → write_at (da
 write_same [] at bs = refl
 write_same (s ∷ ss) at bs = grind (arith, data_behind s (write_at ss at bs), write_same ss at bs)
 
+-- a segment in front of the code, or left out
 in_code : (s : Segment) (ss : List Segment) (t : Bool) → executes s.rights ≡ t → code_of (s ∷ ss) ≡ (if t then s ∷ code_of ss else code_of ss)
 in_code s ss t e = ap (λ u. if u then s ∷ code_of ss else code_of ss) e
 
+-- behind a segment of code
 stays_behind_code : (s : Segment) → executes s.rights ≡ true → (exec : List Segment) (o : Option (List Segment)) → CodeStays exec o → CodeStays (s ∷ exec) (behind s o)
 stays_behind_code s e exec None h = tt
 stays_behind_code s e exec (Some ss) h = in_code s ss true e ∙ ap (λ r. s ∷ r) h
 
+-- behind another segment
 stays_behind_data : (s : Segment) → executes s.rights ≡ false → (exec : List Segment) (o : Option (List Segment)) → CodeStays exec o → CodeStays exec (behind s o)
 stays_behind_data s e exec None h = tt
 stays_behind_data s e exec (Some ss) h = in_code s ss false e ∙ h
@@ -63,6 +69,7 @@ module _ (s : Segment) (ss : List Segment) (at : ℕ) (bs : List ℕ) (others : 
   taken e hidden true = in_code (with_bytes s at bs) ss false e
   taken e hidden false = stays_behind_data s e (code_of ss) (write_at ss at bs) (others hidden)
 
+  -- either kind of segment
   by_right : (t : Bool) → executes s.rights ≡ t → Claim (code_of (s ∷ ss))
   by_right true e = subst Claim (sym (in_code s ss true e)) (past_code e)
   by_right false e = subst Claim (sym (in_code s ss false e)) (λ hidden. taken e hidden (writes s.rights && holds s at (length bs)))

@@ -11,6 +11,7 @@ use Rattle.obj_core.specs.WellFormed.{is_start, is_slots_own, forbidden_in, disp
 use Rattle.obj_core.proofs.Cuts.{length-spelled-append}
 use Rattle.obj_lockstep.specs.Places.{is_code_place}
 
+-- where a slot may lead back to is a start
 pub is_start_code : (cuts : List (List Instr)) (c : CodeAt) → is_start cuts c ≡ is_code_place (slice_get cuts c.function) c.offset
 is_start_code cuts c = refl
 
@@ -22,6 +23,7 @@ pub record IsIn (cut : List Instr) (at off : ℕ) : Type 0 where
   pub split : cut ≡ before ++ instr ∷ after
   pub offset : off ≡ at + length (spelled before)
 
+-- an instruction of the others is one of the row
 further : (i : Instr) (is : List Instr) (at off : ℕ) → IsIn is (at + size_of i) off → IsIn (i ∷ is) at off
 further i is at off h = record {
   before = i ∷ h.before;
@@ -31,6 +33,7 @@ further i is at off h = record {
   offset = omega (arith, h.offset, length-append (encoding i) (spelled h.before));
 }
 
+-- the first instruction, or one of the others
 by_first : (i : Instr) (is : List Instr) (at off : ℕ) (more : starts_at (found_from (at + size_of i) is) off ≡ true → IsIn is (at + size_of i) off) (t : Bool) → nat_eq at off ≡ t → (t || starts_at (found_from (at + size_of i) is) off) ≡ true → IsIn (i ∷ is) at off
 by_first i is at off more true e h = let same = eqb-true at off e in record { before = []; instr = i; after = is; split = refl; offset = omega (arith, same) }
 by_first i is at off more false e h = further i is at off (more h)
@@ -54,6 +57,7 @@ one_empty : (t : Bool) (n : ℕ) (xs ys : List ℕ) → (if t then n ∷ xs else
 one_empty true n xs ys h = absurd (cc)
 one_empty false n xs ys h = (refl, h)
 
+-- the same with the answers exchanged
 pub other_empty : (t : Bool) (n : ℕ) (xs ys : List ℕ) → (if t then ys else n ∷ xs) ≡ [] → (t ≡ true) × (ys ≡ [])
 other_empty true n xs ys h = (refl, h)
 other_empty false n xs ys h = absurd (cc)
@@ -79,6 +83,7 @@ pub record HasNext (after : List Instr) : Type 0 where
   pub others : List Instr
   pub split : after ≡ first ∷ others
 
+-- an instruction that is no end is not the last one
 pub goes_on : (before : List Instr) (i : Instr) (after : List Instr) (at : ℕ) → open_end (found_from at (before ++ i ∷ after)) ≡ [] → is_end i ≡ false → HasNext after
 goes_on before i (j ∷ more) at h going = record { first = j; others = more; split = refl }
 goes_on [] i [] at h going = let yes = (other_empty (is_end i) at [] [] h).0 in absurd (cc)

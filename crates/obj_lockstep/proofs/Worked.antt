@@ -1,6 +1,6 @@
 -- A small object in an image: the premises of the laws can be met, and both machines come to the same end.
-use Rattle.std.proofs.Common.{◌≡◌, ℕ, ◌<◌, ◌+◌, ◌^◌, ◌&&◌, ◌||◌, Bool, true, List, [], ◌∷◌, ◌++◌, refl, subst, sym, ◌∙◌, inl, inr, ◌⊎◌, arith}
-use Rattle.std.specs.Prelude.{nat_eq, replicate, pos}
+use Rattle.std.proofs.Common.{◌≡◌, ℕ, ◌<◌, ◌+◌, ◌^◌, ◌&&◌, ◌||◌, Bool, true, List, [], ◌∷◌, ◌++◌, refl, subst, sym, ◌∙◌, inl, inr, ◌⊎◌, arith, zero, suc, Some, take, drop}
+use Rattle.std.specs.Prelude.{nat_eq, replicate, pos, slice_get}
 use Rattle.std.proofs.lemmas.Bool.{eqb-true, and_parts, or_cases}
 use Rattle.behavior.specs.Ending.{Invalid}
 use Rattle.rd_draw.specs.Draw.{shuffled}
@@ -10,7 +10,7 @@ use Rattle.x86_core.specs.declared.image.Segment.{Segment}
 use Rattle.x86_core.specs.Decoding.{decode}
 use Rattle.x86_core.specs.Effect.{effect_of}
 use Rattle.machine_core.specs.Data.{segment}
-use Rattle.machine_core.specs.Memory.{code_of}
+use Rattle.machine_core.specs.Memory.{code_of, code_at}
 use Rattle.machine_core.specs.Machine.{machine_run, machine_segments}
 use Rattle.machine_core.specs.Observation.{observe}
 use Rattle.machine_core.specs.Run.{Act, Step}
@@ -23,6 +23,8 @@ use Rattle.obj_core.specs.declared.object.Place.{Place}
 use Rattle.obj_core.specs.Slots.{slot_start, positions}
 use Rattle.obj_core.specs.SymbolicMachine.{symbolic_run}
 use Rattle.obj_lockstep.specs.Placed.{AreHidden, IsAt, IsAtTo, HasInstr, CodeStands, HasSlot, HasLanding, Placed, IsImageOf}
+use Rattle.obj_lockstep.specs.Places.{SlotBytes}
+use Rattle.obj_lockstep.specs.Filled.{to_slot, patched_all, IsFilledIn}
 use Rattle.obj_lockstep.proofs.Images.{images_alike}
 
 -- ud2, and the slot through which it is entered
@@ -39,10 +41,12 @@ image = record { entry = 268435456; segments = segment 268435456 ((233 ∷ 251 �
 abbrev other : Image
 other = record { entry = 268435456; segments = segment 268435456 ((233 ∷ 254 ∷ 15 ∷ 0 ∷ 48 ∷ []) ++ replicate 11 204) 1 ∷ segment 1073745920 (204 ∷ 204 ∷ 204 ∷ 15 ∷ 11 ∷ []) 1 ∷ [] }
 
+-- the addresses of places, where the code begins at this one
 abbrev place : ℕ → Place → ℕ
 place code (Place.Code n off) = code + off
 place code (Place.Slot k at) = 268435456 + at
 
+-- the places at which a step may stand
 abbrev is_place : Place → Bool
 is_place (Place.Code n off) = nat_eq n 0 && nat_eq off 0
 is_place (Place.Slot k at) = nat_eq k 0 && (nat_eq at 0 || nat_eq at 5)
@@ -119,6 +123,7 @@ other_holds = record {
 abbrev two_steps : List Act
 two_steps = Step ∷ Step ∷ []
 
+-- both machines come to the instruction
 object_ends : (symbolic_run object [] two_steps).ending ≡ Invalid
 unfolding decode effect_of request_of
 object_ends = refl
@@ -127,5 +132,55 @@ image_ends : (machine_run image [] two_steps).ending ≡ Invalid
 unfolding decode effect_of request_of
 image_ends = refl
 
+-- and show the same, wherever the code is
 alike : observe (machine_run image [] two_steps) ≡ observe (machine_run other [] two_steps)
 alike = images_alike object image other (place 1073741824) (place 1073745923) is_place is_place image_holds other_holds [] two_steps (λ e. let same = sym object_ends ∙ e in absurd (cc))
+
+-- a jump to its own slot: E9 with a link
+abbrev turning : Func
+turning = record { kind = FuncKind.Plain; bytes = 233 ∷ 0 ∷ 0 ∷ 0 ∷ 0 ∷ []; links = record { at = 1; slot = 0 } ∷ [] }
+
+abbrev round : Object
+round = record { slot_seed = 1; reg_seed = 2; functions = turning ∷ []; slots = Slot.Entry 0 ∷ []; ro = []; rw = [] }
+
+-- with its displacement filled in, and a breakpoint behind it
+abbrev round_code : List Segment
+round_code = segment 268435456 ((233 ∷ 251 ∷ 255 ∷ 255 ∷ 47 ∷ []) ++ replicate 11 204) 1 ∷ segment 1073741824 (233 ∷ 251 ∷ 255 ∷ 255 ∷ 207 ∷ 204 ∷ []) 1 ∷ []
+
+-- what holds of five numbers holds below 5
+below_5 : (P : ℕ → Type 0) → P 0 → P 1 → P 2 → P 3 → P 4 → (n : ℕ) → n < 5 → P n
+below_5 P a b c d e zero lt = a
+below_5 P a b c d e (suc zero) lt = b
+below_5 P a b c d e (suc (suc zero)) lt = c
+below_5 P a b c d e (suc (suc (suc zero))) lt = d
+below_5 P a b c d e (suc (suc (suc (suc zero)))) lt = e
+below_5 P a b c d e (suc (suc (suc (suc (suc n))))) lt = absurd (omega (arith, lt))
+
+-- its slot is at the first position
+round_slot : slot_start round 0 ≡ 268435456
+unfolding positions shuffled
+round_slot = refl
+
+-- the function stands with its link filled in
+turning_filled : IsFilledIn round_code (place 1073741824) round 0 turning
+unfolding positions shuffled
+turning_filled = record {
+  start = 1073741824;
+  low = omega arith;
+  address = λ off lt. refl;
+  range = (omega arith, tt);
+  rest = 204 ∷ [];
+  bytes = below_5 (λ off. code_at round_code (1073741824 + off) ≡ Some (take 16 (drop off (patched_all (to_slot round 1073741824) turning.links turning.bytes ++ 204 ∷ [])))) refl refl refl refl refl;
+}
+
+round_functions : (n : ℕ) (f : Func) → slice_get round.functions n ≡ Some f → IsFilledIn round_code (place 1073741824) round n f
+round_functions zero f e = let same : turning ≡ f = cc in subst (IsFilledIn round_code (place 1073741824) round 0) same turning_filled
+round_functions (suc n) f e = absurd (cc)
+
+-- and so does the slot
+round_slots : (k : ℕ) (s : Slot) → slice_get round.slots k ≡ Some s → SlotBytes round_code (place 1073741824) round k s
+round_slots zero s e =
+    let same : Slot.Entry 0 ≡ s = cc in
+    subst (SlotBytes round_code (place 1073741824) round 0) same
+    (record { by = pos 805306363; here = record { is_instr = omega arith; rest = replicate 11 204; bytes = refl }; leads = refl }, record { is_instr = tt; rest = replicate 10 204; bytes = refl })
+round_slots (suc k) s e = absurd (cc)

@@ -1,3 +1,4 @@
 pub mod Placed
 pub mod Mirrors
 pub mod Places
+pub mod Filled

@@ -45,6 +45,7 @@ pub record HasInstr (o : Object) (n off : ℕ) : Type 0 where
   pub bytes : drop off func.bytes ≡ encoding instr ++ rest
 
 module _ (exec : List Segment) (place : Place → ℕ) (is_place : Place → Bool) (o : Object) where
+  -- a step may stand there
   abbrev pub IsPlace : Place → Type 0
   IsPlace p = is_place p ≡ true
 

@@ -1,9 +1,10 @@
 //! What an image of an object shows: at each step what the object shows, wherever its code stands.
 //!
-//! `specs/Placed.antt` says when executable bytes hold an object, `specs/Places.antt` when it is
-//! enough to look at each instruction of a well-formed object by itself, and `specs/Mirrors.antt`
-//! when a state of the image's machine stands for one of the object's machine. No layout occurs
-//! here: any addresses of places will do. All of it holds until the object's run strays, that is,
+//! `specs/Placed.antt` says when executable bytes hold an object. For a well-formed object it is
+//! enough that each instruction stands at its address (`specs/Places.antt`), or that each function
+//! stands whole with its links filled in (`specs/Filled.antt`). `specs/Mirrors.antt` says when a
+//! state of the image's machine stands for one of the object's machine. No layout occurs here: any
+//! addresses of places will do. All of it holds until the object's run strays, that is,
 //! goes by a word which is no slot's start and no address behind a slot's call.
 #![tactic(auto)]
 
@@ -13,13 +14,17 @@ ghost use Rattle.behavior.specs.Moment.{Agrees, AreBytes, Behavior};
 ghost use Rattle.behavior.specs.Preserves.{Preserves};
 ghost use Rattle.x86_core.specs.declared.image.Image.{Image};
 ghost use Rattle.x86_core.specs.declared.image.Segment.{Segment};
-ghost use Rattle.machine_core.specs.Machine.{machine_behavior, machine_run, machine_step};
+ghost use Rattle.machine_core.specs.Data.{data_segments};
+ghost use Rattle.machine_core.specs.Machine.{machine_behavior, machine_run, machine_segments, machine_step};
+ghost use Rattle.machine_core.specs.Memory.{code_of, data_of};
 ghost use Rattle.machine_core.specs.Observation.{observe};
 ghost use Rattle.machine_core.specs.Run.{Act, run_over};
 ghost use Rattle.machine_core.specs.Step.{State};
 ghost use Rattle.obj_core.specs.declared.object.Object.{Object};
 ghost use Rattle.obj_core.specs.declared.object.Place.{Place};
+ghost use Rattle.obj_core.specs.Slots.{slot_start};
 ghost use Rattle.obj_core.specs.SymbolicMachine.{symbolic_behavior, symbolic_run, symbolic_step};
+ghost use Rattle.obj_lockstep.specs.Filled.{IsFilled};
 ghost use Rattle.obj_lockstep.specs.Mirrors.{Mirrors};
 ghost use Rattle.obj_core.specs.WellFormed.{IsWellFormed};
 ghost use Rattle.obj_lockstep.specs.Placed.{IsImageOf, Placed};
@@ -28,6 +33,12 @@ ghost use Rattle.obj_lockstep.specs.Places.{IsLaid, is_step_place};
 /// Bytes that hold each instruction and each slot of a well-formed object hold the object: its steps stay among its places.
 pub fn laid_is_placed()
     ensures { (exec : List Segment) (place : Place → ℕ) (o : Object) (well : IsWellFormed o) → IsLaid exec place o well.cuts → Placed exec place (is_step_place o well.cuts) o }
+{}
+
+/// An image is one of a well-formed object where each function stands whole at its address, with the displacements of its
+/// links filled in, each slot at its own, and nothing else but the object's data can be read.
+pub fn filled_is_image()
+    ensures { (image : Image) (place : Place → ℕ) (o : Object) (well : IsWellFormed o) → IsFilled (code_of (machine_segments image)) place o → data_of (machine_segments image) ≡ data_segments o.ro o.rw → image.entry ≡ slot_start o 0 → IsImageOf image place (is_step_place o well.cuts) o }
 {}
 
 /// A step of the image's machine mirrors a step of the object's machine, unless that one strays.

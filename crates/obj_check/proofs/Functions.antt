@@ -1,0 +1,50 @@
+-- The first function in which a rule fails.
+use Rattle.std.proofs.Common.{◌≡◌, ℕ, zero, suc, ◌+◌, ◌<◌, List, [], ◌∷◌, length, drop, get_or, min, Option, None, Some, refl, sym, ◌∙◌, ap, subst, arith}
+use Rattle.std.proofs.lemmas.List.{drop_more}
+use Rattle.x86_core.specs.declared.instr.Instr.{Instr}
+use Rattle.obj_core.specs.declared.object.Func.{Func}
+use Rattle.obj_core.specs.WellFormed.{Violation, Function, or_else, at_least_offset, least_from, in_functions}
+use Rattle.obj_check.specs.declared.cut.Cut.{Cut}
+use Rattle.obj_check.specs.Pieces.{instrs, IsCutUp, AreCutUp, cuts_of}
+use Rattle.obj_check.specs.Least.{least_with}
+
+pub same_lengths : (fs : List Func) (cs : List Cut) → AreCutUp fs cs → length cs ≡ length fs
+same_lengths [] [] h = refl
+same_lengths [] (c ∷ cs) h = absurd h
+same_lengths (f ∷ fs) [] h = absurd h
+same_lengths (f ∷ fs) (c ∷ cs) h = ap suc (same_lengths fs cs h.1)
+
+at_place : (fs : List Func) (cs : List Cut) (n : ℕ) (f : Func) (c : Cut) → AreCutUp fs cs → n < length fs → IsCutUp (get_or fs n f).bytes (get_or cs n c)
+at_place [] cs n f c h lt = absurd (omega arith)
+at_place (g ∷ fs) [] n f c h lt = absurd h
+at_place (g ∷ fs) (d ∷ cs) zero f c h lt = h.0
+at_place (g ∷ fs) (d ∷ cs) (suc n) f c h lt = at_place fs cs n f c h.1 (omega arith)
+
+-- the cut of a function stands at the function's number
+pub cut_at : (fs : List Func) (cs : List Cut) (n : ℕ) (f : Func) (c : Cut) → AreCutUp fs cs → n < length fs → f ≡ get_or fs n f → c ≡ get_or cs n c → IsCutUp f.bytes c
+cut_at fs cs n f c h lt ef ec =
+    let k = at_place fs cs n f c h lt in
+    let one = subst (λ (g : Func). IsCutUp g.bytes (get_or cs n c)) (sym ef) k in
+    subst (IsCutUp f.bytes) (sym ec) one
+
+least_some : (m : ℕ) (ms : List ℕ) → least_with (Some m) ms ≡ Some (least_from m ms)
+least_some m [] = refl
+least_some m (n ∷ ms) = least_some (min m n) ms
+
+-- a rule that fails in a function, told by the least offset
+abbrev pub at_function : ℕ → ℕ → Option ℕ → Option Violation
+at_function rule n None = None
+at_function rule n (Some off) = Some (record { rule = rule; spot = Function n; offset = off })
+
+told_at : (rule n : ℕ) (ms : List ℕ) → at_least_offset rule n ms ≡ at_function rule n (least_with None ms)
+told_at rule n [] = refl
+told_at rule n (m ∷ ms) = ap (at_function rule n) (sym (least_some m ms))
+
+-- one function, and the functions behind it
+pub first_more : (rule : ℕ) (fails : ℕ → Func → List Instr → List ℕ) (n : ℕ) (fs : List Func) (cs : List Cut) (f : Func) (c : Cut) → n < length fs → n < length cs → f ≡ get_or fs n f → c ≡ get_or cs n c →
+    in_functions rule fails n (drop n fs) (cuts_of (drop n cs)) ≡ or_else (at_function rule n (least_with None (fails n f (instrs c.pieces)))) (in_functions rule fails (n + 1) (drop (n + 1) fs) (cuts_of (drop (n + 1) cs)))
+first_more rule fails n fs cs f c h k ef ec =
+    let rest = in_functions rule fails (n + 1) (drop (n + 1) fs) (cuts_of (drop (n + 1) cs)) in
+    ap (λ (gs : List Func). in_functions rule fails n gs (cuts_of (drop n cs))) (drop_more fs n f h ∙ ap (λ (g : Func). g ∷ drop (n + 1) fs) (sym ef)) ∙
+    ap (λ (ds : List Cut). in_functions rule fails n (f ∷ drop (n + 1) fs) (cuts_of ds)) (drop_more cs n c k ∙ ap (λ (d : Cut). d ∷ drop (n + 1) cs) (sym ec)) ∙
+    ap (λ (v : Option Violation). or_else v rest) (told_at rule n (fails n f (instrs c.pieces)))

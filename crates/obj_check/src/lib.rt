@@ -1,0 +1,118 @@
+//! The verifier of objects: takes exactly the well-formed ones.
+//!
+//! Eight rules are asked in order: sizes (`few`), whole instructions (`cut`), transfers and ends
+//! (`code`), branches and links (`branches`), the goals of slots and the entry (`slots`), and saved
+//! registers (`saved`). The first rule that fails is told, with the first function or slot in which it
+//! fails and the least offset there. Time and memory are linear in the object.
+#![tactic(auto)]
+
+ghost use Rattle.std.specs.Prelude.{◌≡◌, IfOk, IfErr};
+ghost use Rattle.obj_core.specs.Object.{IsObject};
+ghost use Rattle.obj_core.specs.WellFormed.{AreFew, IsWellFormed, violation};
+ghost use Rattle.obj_check.specs.Pieces.{AreCutUp, cuts_of};
+ghost use Rattle.obj_check.specs.Least.{told_of};
+ghost use Rattle.obj_check.specs.Told.{later_violation, Judges, Explains};
+
+mod branches;
+mod code;
+mod cut;
+pub mod fault;
+mod few;
+mod marks;
+mod saved;
+mod slots;
+#[cfg(test)]
+mod tests;
+
+use code::{CodeRule, first_in_functions};
+use cut::{Cut, Cuts, cut_all};
+use fault::{Broken, Refused, ShapeFault, ShapeSpot};
+use few::is_few;
+use obj_core::checked::Checked;
+use obj_core::object::Object;
+use rd_num::width::NoMemory;
+use slots::first_bad_slot;
+use std::alloc::Global;
+
+/// Takes a well-formed object, and hands any other one back unchanged with the first thing that is
+/// wrong with it. Takes time and memory linear in the object.
+pub fn check(alloc: Global, o: Object) -> Result<Checked, Refused>
+    requires { IsObject o }
+    ensures taken { IfOk result (λ c. c.object ≡ o) }
+    ensures well_formed { IfOk result (λ c. IsWellFormed o) }
+    ensures back { IfErr result (λ r. r.object ≡ o) }
+    ensures first { IfErr result (λ r. Explains o r.fault) }
+{
+    match first_broken(alloc, &o) {
+        Ok(None) => Ok(Checked::new(o)),
+        Ok(Some(broken)) => Err(Refused {
+            object: o,
+            fault: ShapeFault::Rule {
+                rule: broken.rule,
+                spot: broken.spot,
+                offset: broken.offset,
+            },
+        }),
+        Err(_) => Err(Refused {
+            object: o,
+            fault: ShapeFault::NoMemory,
+        }),
+    }
+}
+
+/// The first rule that fails, where it fails first.
+fn first_broken(alloc: Global, o: &Object) -> Result<Option<Broken>, NoMemory>
+    requires { IsObject o.now }
+    ensures { IfOk result (λ r. Judges o.now r) }
+{
+    if !is_few(o) {
+        return Ok(Some(Broken {
+            rule: 1,
+            spot: ShapeSpot::Whole,
+            offset: 0,
+        }));
+    }
+    match cut_all(alloc, o)? {
+        Cuts::All { cuts } => {
+            let broken = first_in_cuts(alloc, o, cuts.as_slice())?;
+            Ok(broken)
+        }
+        Cuts::Stuck { function, offset } => Ok(Some(Broken {
+            rule: 2,
+            spot: ShapeSpot::Function(function),
+            offset,
+        })),
+    }
+}
+
+/// The first of rules 3 to 8 that fails.
+fn first_in_cuts(alloc: Global, o: &Object, cuts: &[Cut]) -> Result<Option<Broken>, NoMemory>
+    requires cut { AreCutUp o.now.functions cuts.now }
+    requires few { AreFew o.now }
+    ensures { IfOk result (λ r. told_of r ≡ violation o.now (cuts_of cuts.now)) }
+{
+    if let Some(broken) = first_in_functions(alloc, CodeRule::Transfers, o, cuts)? {
+        return Ok(Some(broken));
+    }
+    if let Some(broken) = first_in_functions(alloc, CodeRule::Branches, o, cuts)? {
+        return Ok(Some(broken));
+    }
+    if let Some(broken) = first_in_functions(alloc, CodeRule::Ends, o, cuts)? {
+        return Ok(Some(broken));
+    }
+    first_in_rest(alloc, o, cuts)
+}
+
+/// The first of rules 6 to 8 that fails.
+#[tactic(auto, using(crate::proofs::Judged::all_known))]
+fn first_in_rest(alloc: Global, o: &Object, cuts: &[Cut]) -> Result<Option<Broken>, NoMemory>
+    requires cut { AreCutUp o.now.functions cuts.now }
+    requires few { AreFew o.now }
+    ensures { IfOk result (λ r. told_of r ≡ later_violation o.now (cuts_of cuts.now)) }
+{
+    let slots = o.slots.as_slice();
+    match first_bad_slot(cuts, slots) {
+        Some(broken) => Ok(Some(broken)),
+        None => first_in_functions(alloc, CodeRule::Saved, o, cuts),
+    }
+}

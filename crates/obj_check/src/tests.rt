@@ -1,0 +1,85 @@
+//! Worked objects: the smallest one passes, and small changes fail a rule each.
+
+ghost use Rattle.std.specs.Prelude.{◌<◌, length};
+
+use crate::check;
+use crate::fault::{ShapeFault, ShapeSpot};
+use obj_file::read::read;
+use rd_num::bytes::put_u32_le;
+use rd_num::list::List;
+use rd_num::width::NoMemory;
+use std::alloc::Global;
+
+/// A file of one function without links, or of none where there is no code, and entry slots.
+fn file(alloc: Global, code: &[u8], targets: &[u32]) -> Result<List<u8>, NoMemory>
+    requires code_is_short { length code.now < 100 }
+    requires few_slots { length targets.now < 100 }
+{
+    let mut out = List::new(alloc);
+    out.append(b"RDO1")?;
+    out.append(&[1, 0, 0, 0, 0, 0, 0, 0, 0, 0, 0, 0, 0, 0, 0, 0, 0, 0, 0, 0])?;
+    out.append(&[u8::from(!code.is_empty()), 0, 0, 0])?;
+    out.append(&put_u32_le(targets.len() as u32))?;
+    out.append(&[0, 0, 0, 0, 0, 0, 0, 0])?;
+    if !code.is_empty() {
+        out.append(&[0, 0, 0, 0])?;
+        out.append(&put_u32_le(code.len() as u32))?;
+        out.append(&[0, 0, 0, 0])?;
+        out.append(code)?;
+    }
+    for target in targets {
+        out.append(&[0, 0, 0, 0])?;
+        out.append(&put_u32_le(*target))?;
+        out.append(&[0, 0, 0, 0, 0, 0, 0, 0])?;
+    }
+    Ok(out)
+}
+
+/// What is told of the object of a file; `None` where it is taken.
+fn told(alloc: Global, bytes: &[u8]) -> Option<ShapeFault> {
+    match read(alloc, bytes) {
+        Ok(o) => match check(alloc, o) {
+            Ok(_) => None,
+            Err(refused) => Some(refused.fault),
+        },
+        Err(_) => Some(ShapeFault::NoMemory),
+    }
+}
+
+#[test]
+fn tells_the_first_rule_that_fails(rt: HostRuntime) {
+    let rows: [(&[u8], &[u32], Option<(u8, ShapeSpot, u32)>); 9] = [
+        (&[0x0F, 0x0B], &[0], None),
+        (&[], &[0], Some((1, ShapeSpot::Whole, 0))),
+        (&[0x0F, 0x0B], &[], Some((1, ShapeSpot::Whole, 0))),
+        (
+            &[0x0F, 0x0B, 0xE9],
+            &[0],
+            Some((2, ShapeSpot::Function(0), 2)),
+        ),
+        (
+            &[0x0F, 0x05, 0x0F, 0x0B],
+            &[0],
+            Some((3, ShapeSpot::Function(0), 0)),
+        ),
+        (
+            &[0x0F, 0x0B, 0xE9, 0xFA, 0xFF, 0xFF, 0xFF],
+            &[0],
+            Some((4, ShapeSpot::Function(0), 2)),
+        ),
+        (&[0x90], &[0], Some((5, ShapeSpot::Function(0), 0))),
+        (&[0x0F, 0x0B], &[1], Some((6, ShapeSpot::Slot(0), 0))),
+        (&[0x0F, 0x0B], &[0, 0], Some((7, ShapeSpot::Slot(1), 0))),
+    ];
+    for (code, targets, wanted) in rows {
+        let expected = match wanted {
+            None => None,
+            Some((rule, spot, offset)) => Some(ShapeFault::Rule { rule, spot, offset }),
+        };
+        assert!(rt; code.len() < 100 && targets.len() < 100);
+        match file(rt.alloc(), code, targets) {
+            Ok(bytes) => assert_eq!(rt; told(rt.alloc(), bytes.as_slice()), expected),
+            Err(_) => panic!(rt; "no memory"),
+        }
+    }
+}
