@@ -19,9 +19,11 @@ abbrev pub executable : List ℕ → ℕ → List ℕ → List Segment
 executable slots base code = present slot_base slots 1 ++ present base code 1
 
 module _ (slots ro rw : List ℕ) (base : ℕ) (code : List ℕ) where
+  -- all segments of a layout
   abbrev pub all : List Segment
   all = present slot_base slots 1 ++ (present ro_start ro 4 ++ (present rw_start rw 6 ++ present base code 1))
 
+-- what may be executed
 pub all_code : (slots ro rw : List ℕ) (base : ℕ) (code : List ℕ) → code_of (all slots ro rw base code ++ stack ∷ []) ≡ executable slots base code
 all_code [] [] [] base [] = refl
 all_code [] [] [] base (w ∷ ws) = refl
@@ -40,6 +42,7 @@ all_code (x ∷ xs) (y ∷ ys) [] base (w ∷ ws) = refl
 all_code (x ∷ xs) (y ∷ ys) (z ∷ zs) base [] = refl
 all_code (x ∷ xs) (y ∷ ys) (z ∷ zs) base (w ∷ ws) = refl
 
+-- what may be read or written
 pub all_data : (slots ro rw : List ℕ) (base : ℕ) (code : List ℕ) → data_of (all slots ro rw base code ++ stack ∷ []) ≡ data_segments ro rw
 all_data [] [] [] base [] = refl
 all_data [] [] [] base (w ∷ ws) = refl
@@ -58,6 +61,7 @@ all_data (x ∷ xs) (y ∷ ys) [] base (w ∷ ws) = refl
 all_data (x ∷ xs) (y ∷ ys) (z ∷ zs) base [] = refl
 all_data (x ∷ xs) (y ∷ ys) (z ∷ zs) base (w ∷ ws) = refl
 
+-- what may be executed may be neither read nor written
 pub all_hidden : (slots : List ℕ) (base : ℕ) (code : List ℕ) → AreHidden (executable slots base code)
 all_hidden [] base [] = tt
 all_hidden [] base (w ∷ ws) = (refl, refl, tt)
@@ -72,6 +76,7 @@ take_past (suc n) (x ∷ xs) more le =
     let less : n - length xs ≡ suc n - length (x ∷ xs) = omega arith in
     ap (λ r. x ∷ r) (take_past n xs more (omega (arith, le)) ∙ ap (λ m. xs ++ take m more) less)
 
+-- an instruction takes a byte at least
 long : (xs : List ℕ) (k : ℕ) (i : Instr) → Front (drop k xs) i → k + 1 ≤ length xs
 long xs k i h =
     let whole : length (drop k xs) ≡ length (encoding i) + length h.more = ap length h.begins ∙ length-append (encoding i) h.more in
@@ -92,6 +97,7 @@ passed start (x ∷ xs) others a le =
     let past = and_right (nat_le start a) _ (lt-leb (a + 1) (start + length (x ∷ xs)) (omega (arith, le))) in
     ap (λ t. if t then Some (take 16 (drop (a - start) (x ∷ xs))) else code_at others a) past
 
+-- an instruction that is found whole
 begins_at : (exec : List Segment) (a : ℕ) (ys : List ℕ) (i : Instr) → IsInstr i → code_at exec a ≡ Some (take 16 ys) → Front ys i → IsAt exec a i
 begins_at exec a ys i is e h = record {
   is_instr = is;
@@ -99,9 +105,11 @@ begins_at exec a ys i is e h = record {
   bytes = e ∙ ap (λ zs. Some (take 16 zs)) h.begins ∙ ap Some (take_past 16 (encoding i) h.more (let few = few_bytes i in omega (arith, few)));
 }
 
+-- an instruction in the slots
 pub in_slots : (slots : List ℕ) (base : ℕ) (code : List ℕ) (a : ℕ) (i : Instr) → IsInstr i → slot_base ≤ a → Front (drop (a - slot_base) slots) i → IsAt (executable slots base code) a i
 in_slots slots base code a i is le h = begins_at (executable slots base code) a (drop (a - slot_base) slots) i is (found_here slot_base slots (present base code 1) a i le h) h
 
+-- an instruction in the code
 pub in_code : (slots : List ℕ) (base : ℕ) (code : List ℕ) (a : ℕ) (i : Instr) → IsInstr i → slot_base + length slots ≤ a → base ≤ a → Front (drop (a - base) code) i → IsAt (executable slots base code) a i
 in_code slots base code a i is past le h =
     begins_at (executable slots base code) a (drop (a - base) code) i is

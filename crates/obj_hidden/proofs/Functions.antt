@@ -38,10 +38,12 @@ pub record Begun (cuts : List (List Instr)) (n off : ℕ) : Type 0 where
   pub instr : Instr
   pub is_in : IsIn 0 cut off instr
 
+-- a place of a function is the start of an instruction
 pub begun : (cuts : List (List Instr)) (n off : ℕ) (x : Option (List Instr)) → slice_get cuts n ≡ x → is_code_place x off ≡ true → Begun cuts n off
 begun cuts n off None e h = absurd (cc)
 begun cuts n off (Some cut) e h = let x = which_starts 0 cut off h in record { cut = cut; there = e; instr = x.0; is_in = x.1 }
 
+-- where no link is found, none ends
 not_linked : (ls : List Link) (end : ℕ) → link_before ls end ≡ None → is_linked ls end ≡ false
 not_linked [] end e = refl
 not_linked (l ∷ ls) end e = by_test (nat_eq (l.at + 4) end) e (not_linked ls end)
@@ -57,14 +59,17 @@ same_instr bs i j xs ys a b e f =
     cc
 
 module _ (o : Object) (w : IsWellFormed o) (seed : ℕ) where
+  -- what may be executed of the layout
   abbrev pub exec : List Segment
   exec = executable (slot_bytes o seed) (code_base seed) (code_bytes o seed)
 
+  -- the address of a place
   abbrev pub at_place : Place → ℕ
   at_place = place o seed
 
   -- one function
   module _ (n : ℕ) (f : Func) (cut : List Instr) (func_there : slice_get o.functions n ≡ Some f) (cut_there : slice_get w.cuts n ≡ Some cut) (is_cut : IsCut f.bytes cut) where
+    -- the rules on the function
     rules : KeepsRules (length o.slots) f cut
     rules = function_keeps o w.cuts w.kept n f cut func_there cut_there
 
@@ -129,6 +134,7 @@ module _ (o : Object) (w : IsWellFormed o) (seed : ℕ) where
           ],
         )
 
+    -- only branches with displacement 0 have links
     no_link : (off : ℕ) (i : Instr) → IsIn 0 cut off i → is_zero (displacement i) ≡ false → (x : Option ℕ) → link_before f.links (off + size_of i) ≡ x → link_before f.links (off + size_of i) ≡ None
     no_link off i h z None e = e
     no_link off i h z (Some k) e = let t = (link_is off i h k e).1 in absurd (cc)
@@ -139,6 +145,7 @@ module _ (o : Object) (w : IsWellFormed o) (seed : ℕ) where
         runs off i i h (each_in IsInstr 0 cut off i is_cut.instructions h)
         (unlinked_stays (positions o) (start o seed n) cut (length o.slots) off i h i refl None f.links f.bytes rules.links e (plain off i h))
 
+    -- and so all others stand as they are
     straight : (off : ℕ) (i : Instr) → IsIn 0 cut off i → is_zero (displacement i) ≡ false → IsAt exec (at_place (Place.Code n off)) i
     straight off i h z = as_it_is off i h (no_link off i h z (link_before f.links (off + size_of i)) refl)
 

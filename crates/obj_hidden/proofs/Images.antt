@@ -37,6 +37,7 @@ unfolding layout
 entry_is o seed = refl
 
 module _ (o : Object) (w : IsWellFormed o) (seed : ℕ) where
+  -- the layout holds each instruction and each slot
   laid : IsLaid (exec o w seed) (at_place o w seed) o w.cuts
   laid = record {
     hidden = all_hidden (slot_bytes o seed) (code_base seed) (code_bytes o seed);
@@ -54,15 +55,19 @@ module _ (o : Object) (w : IsWellFormed o) (seed : ℕ) where
     some_slot = let some = w.few.some_slot in omega (arith, some);
   }
 
+-- a run of a layout shows what the object shows
 pub hidden_layout : (o : Object) → IsWellFormed o → (seed : ℕ) (input : List ℕ) (acts : List Act) → (symbolic_run o input acts).ending ≢ Strayed → observe (machine_run (layout o seed) input acts) ≡ observe (symbolic_run o input acts)
 hidden_layout o w seed input acts straight = image_shows (layout o seed) (at_place o w seed) (is_step_place o w.cuts) o (is_image o w seed) input acts straight
 
+-- and two of them show the same
 pub layouts_show_the_same : (o : Object) → IsWellFormed o → (seed other : ℕ) (input : List ℕ) (acts : List Act) → (symbolic_run o input acts).ending ≢ Strayed → observe (machine_run (layout o seed) input acts) ≡ observe (machine_run (layout o other) input acts)
 layouts_show_the_same o w seed other input acts straight = hidden_layout o w seed input acts straight ∙ sym (hidden_layout o w other input acts straight)
 
+-- after each step the same moment
 pub layout_agrees : (o : Object) → IsWellFormed o → (seed : ℕ) (input : List ℕ) (n : ℕ) → (symbolic_behavior o input n).ending ≢ Strayed → Agrees (symbolic_behavior o input n) (machine_behavior (layout o seed) input n)
 layout_agrees o w seed input n straight = image_agrees (layout o seed) (at_place o w seed) (is_step_place o w.cuts) o (is_image o w seed) input n straight
 
+-- what the object preserves, a layout does
 pub layout_preserves : (o : Object) → IsWellFormed o → (seed : ℕ) (A : Behavior) → ((input : List ℕ) → AreBytes input → (k : ℕ) → (A input k).ending ≢ Strayed) → Preserves A (symbolic_behavior o) → Preserves A (machine_behavior (layout o seed))
 layout_preserves o w seed A straight p = image_preserves (layout o seed) (at_place o w seed) (is_step_place o w.cuts) o (is_image o w seed) A straight p
 

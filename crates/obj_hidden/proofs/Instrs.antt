@@ -23,6 +23,7 @@ pub record Lies (at : ℕ) (is : List Instr) (off : ℕ) (i : Instr) : Type 0 wh
   pub from : at ≤ off
   pub to : off + size_of i ≤ at + length (spelled is)
 
+-- each instruction of a row does
 pub lies : (at : ℕ) (is : List Instr) (off : ℕ) (i : Instr) → IsIn at is off i → Lies at is off i
 lies at [] off i h = absurd h
 lies at (j ∷ js) off i (inl h) =
@@ -36,6 +37,7 @@ lies at (j ∷ js) off i (inr h) =
     let long = length-append (encoding j) (spelled js) in
     record { from = omega (arith, from); to = omega (arith, to, long) }
 
+-- from behind the first of two lists
 pub drop_behind : (xs ys : List ℕ) (n k : ℕ) → length xs ≡ n → n ≤ k → drop k (xs ++ ys) ≡ drop (k - n) ys
 drop_behind xs ys n k e le =
     let whole : k ≡ n + (k - n) = omega arith in
@@ -62,6 +64,7 @@ front at (j ∷ js) off i (inr h) =
 abbrev pub AreApart : ℕ → Instr → ℕ → Instr → Type 0
 AreApart off i off2 j = ((off ≡ off2) × (i ≡ j)) ⊎ ((off + size_of i ≤ off2) ⊎ (off2 + size_of j ≤ off))
 
+-- any two are so
 pub apart : (at : ℕ) (is : List Instr) (off : ℕ) (i : Instr) (off2 : ℕ) (j : Instr) → IsIn at is off i → IsIn at is off2 j → AreApart off i off2 j
 apart at [] off i off2 j h k = absurd h
 apart at (x ∷ xs) off i off2 j (inl h) (inl k) = inl (h.0 ∙ sym k.0, h.1 ∙ sym k.1)
@@ -83,6 +86,7 @@ which_starts at (j ∷ js) off h = elim (or_cases _ _ h) [
   | inr k ↦ let x = which_starts (at + size_of j) js off k in (x.0, inr x.1)
 ]
 
+-- what holds of each holds of one
 pub each_in : (P : Instr → Type 0) (at : ℕ) (is : List Instr) (off : ℕ) (i : Instr) → Each P is → IsIn at is off i → P i
 each_in P at [] off i e h = absurd h
 each_in P at (j ∷ js) off i e (inl h) = subst P (sym h.1) e.0
@@ -92,6 +96,7 @@ each_in P at (j ∷ js) off i e (inr h) = each_in P (at + size_of j) js off i e.
 abbrev pub BranchesWell : List Link → List Found → ℕ → Instr → Type 0
 BranchesWell links all off i = (is_linked links (off + size_of i) || goes_well all (off + size_of i) (displacement i)) ≡ true
 
+-- each instruction of a row does
 pub branches_well : (links : List Link) (all : List Found) (at : ℕ) (is : List Instr) (off : ℕ) (i : Instr) → bad_branches links all (found_from at is) ≡ [] → IsIn at is off i → BranchesWell links all off i
 branches_well links all at [] off i e h = absurd h
 branches_well links all at (j ∷ js) off i e (inl h) =
@@ -109,6 +114,7 @@ pub record FillsZero (at : ℕ) (is : List Instr) (a : ℕ) : Type 0 where
   pub ends : off + size_of instr ≡ a + 4
   pub zero_by : is_zero (displacement instr) ≡ true
 
+-- the branch that the test finds
 pub which_fills : (at : ℕ) (is : List Instr) (a : ℕ) → fills_zero (found_from at is) a ≡ true → FillsZero at is a
 which_fills at [] a h = absurd (cc)
 which_fills at (j ∷ js) a h = elim (or_cases _ _ h) [
@@ -120,10 +126,12 @@ which_fills at (j ∷ js) a h = elim (or_cases _ _ h) [
 abbrev pub IsZeroBranch : Instr → Type 0
 IsZeroBranch i = (i ≡ Jmp (pos 0)) ⊎ ((c : Cond) × (i ≡ Jcc c (pos 0)))
 
+-- a displacement of 0
 pub zero_is : (by : ℤ) → is_zero (Some by) ≡ true → by ≡ pos 0
 zero_is (pos n) e = ap pos (eqb-true n 0 e)
 zero_is (negsuc n) e = absurd (cc)
 
+-- only these two
 pub zero_branch : (i : Instr) → is_zero (displacement i) ≡ true → IsZeroBranch i
 zero_branch (Jmp by) e = inl (ap Jmp (zero_is by e))
 zero_branch (Jcc c by) e = inr (c, ap (Jcc c) (zero_is by e))

@@ -28,6 +28,7 @@ put_behind xs ys (b ∷ bs) k j e =
     ap (λ all. overlaid all (j + 1) bs) (set-append_right xs ys (length xs) j b refl (omega arith) ∙ ap (λ n. xs ++ slice_set ys n b) back) ∙
     put_behind xs (slice_set ys k b) bs (k + 1) (j + 1) (omega arith)
 
+-- what is put behind an offset is put into the rest
 drop_within : (n : ℕ) (xs bs : List ℕ) (k j : ℕ) → j ≡ n + k → drop n (overlaid xs j bs) ≡ overlaid (drop n xs) k bs
 drop_within n xs [] k j e = refl
 drop_within n xs (b ∷ bs) k j e =
@@ -50,6 +51,7 @@ stays bs d at off i (inr le) h =
 abbrev IsFilled : (ℤ → Instr) → Type 0
 IsFilled make = (bs d : List ℕ) (at off : ℕ) (by : ℤ) → at + 4 ≡ off + size_of (make (pos 0)) → d ≡ number32 by → Front (drop off bs) (make (pos 0)) → Front (drop off (overlaid bs at d)) (make by)
 
+-- a jump
 jump_filled : IsFilled Jmp
 jump_filled bs d at off by e same h =
     let whole : at ≡ off + 1 = omega arith in
@@ -58,6 +60,7 @@ jump_filled bs d at off by e same h =
       begins = ap (λ x. drop off (overlaid bs at x)) same ∙ drop_within off bs (number32 by) 1 at whole ∙ ap (λ xs. overlaid xs 1 (number32 by)) h.begins;
     }
 
+-- a conditional branch
 test_filled : (c : Cond) → IsFilled (Jcc c)
 test_filled c bs d at off by e same h =
     let whole : at ≡ off + 2 = omega arith in
@@ -71,6 +74,7 @@ good_parts : (before : Option ℕ) (xs : List Found) (slots : ℕ) (l : Link) �
 good_parts None xs slots l e = and_parts _ _ e
 good_parts (Some b) xs slots l e = and_parts _ _ (and_parts _ _ e).1
 
+-- the first link, and the others
 good_first : (before : Option ℕ) (xs : List Found) (slots : ℕ) (l : Link) (ls : List Link) → bad_links before xs slots (l ∷ ls) ≡ [] → (is_good_link before xs slots l ≡ true) × (bad_links (Some l.at) xs slots ls ≡ [])
 good_first before xs slots l ls e = other_empty (is_good_link before xs slots l) l.at _ _ e
 
@@ -96,6 +100,7 @@ link_good before is slots k end (l ∷ ls) e f = by_test (link_good (Some l.at) 
         (omega (arith, small, this), (l.at, eqb-true (l.at + 4) end same, which_fills 0 is l.at good.0))
     by_test later false same f = later f
 
+-- a branch has its four bytes
 zero_size : (i : Instr) → IsZeroBranch i → 4 ≤ size_of i
 zero_size i (inl e) = let size : size_of i ≡ 5 = ap size_of e in omega (arith, size)
 zero_size i (inr x) = let size : size_of i ≡ 6 = ap size_of x.1 in omega (arith, size)
@@ -123,9 +128,11 @@ module _ (positions : List ℕ) (start : ℕ) (is : List Instr) (slots : ℕ) (o
         | inr le ↦ inr (omega (arith, le, size))
       ]) h
 
+  -- the bytes after one link
   after : Link → List ℕ → List ℕ
   after l bs = overlaid bs l.at (displacement (slot_in positions l.slot) (start + l.at + 4))
 
+  -- no link at all, so not the first
   none_first : (l : Link) (ls : List Link) → link_before (l ∷ ls) (off + size_of i) ≡ None → (nat_eq (l.at + 4) (off + size_of i) ≡ false) × (link_before ls (off + size_of i) ≡ None)
   none_first l ls e = by_test (nat_eq (l.at + 4) (off + size_of i)) e
     where
@@ -145,9 +152,11 @@ module _ (positions : List ℕ) (start : ℕ) (is : List Instr) (slots : ℕ) (o
 
 -- a branch with a link leads to its slot
 module _ (positions : List ℕ) (start : ℕ) (is : List Instr) (slots : ℕ) (off : ℕ) (make : ℤ → Instr) (filled : IsFilled make) (sized : (by : ℤ) → size_of (make by) ≡ size_of (make (pos 0))) (there : IsIn 0 is off (make (pos 0))) (k : ℕ) (by : ℤ) (way : displacement (slot_in positions k) (start + (off + size_of (make (pos 0)))) ≡ number32 by) where
+  -- where the branch ends
   abbrev end : ℕ
   end = off + size_of (make (pos 0))
 
+  -- the links before leave it, its own fills it, and those behind leave it again
   linked_leads : (before : Option ℕ) (ls : List Link) (bs : List ℕ) → bad_links before (found is) slots ls ≡ [] → link_before ls end ≡ Some k → Front (drop off bs) (make (pos 0)) → Front (drop off (linked positions start ls bs)) (make by)
   linked_leads before [] bs e f h = absurd (cc)
   linked_leads before (l ∷ ls) bs e f h = by_test (linked_leads (Some l.at) ls (overlaid bs l.at (displacement (slot_in positions l.slot) (start + l.at + 4))) (good_first before (found is) slots l ls e).1) (nat_eq (l.at + 4) end) refl f
@@ -168,10 +177,12 @@ module _ (positions : List ℕ) (start : ℕ) (is : List Instr) (slots : ℕ) (o
           later f
           (one_aside positions start is slots off (make (pos 0)) there (make (pos 0)) refl l (slot_in positions l.slot) (start + l.at + 4) bs (good_parts before (found is) slots l x.0).0 (eqb-false (l.at + 4) end same) h)
 
+-- a jump with a link
 pub jump_leads : (positions : List ℕ) (start : ℕ) (is : List Instr) (slots off : ℕ) → IsIn 0 is off (Jmp (pos 0)) → (k : ℕ) (by : ℤ) → displacement (slot_in positions k) (start + (off + 5)) ≡ number32 by →
     (ls : List Link) (bs : List ℕ) → bad_links None (found is) slots ls ≡ [] → link_before ls (off + 5) ≡ Some k → Front (drop off bs) (Jmp (pos 0)) → Front (drop off (linked positions start ls bs)) (Jmp by)
 jump_leads positions start is slots off there k by way ls bs e f h = linked_leads positions start is slots off Jmp jump_filled (λ x. refl) there k by way None ls bs e f h
 
+-- a conditional branch with a link
 pub test_leads : (positions : List ℕ) (start : ℕ) (is : List Instr) (slots off : ℕ) (c : Cond) → IsIn 0 is off (Jcc c (pos 0)) → (k : ℕ) (by : ℤ) → displacement (slot_in positions k) (start + (off + 6)) ≡ number32 by →
     (ls : List Link) (bs : List ℕ) → bad_links None (found is) slots ls ≡ [] → link_before ls (off + 6) ≡ Some k → Front (drop off bs) (Jcc c (pos 0)) → Front (drop off (linked positions start ls bs)) (Jcc c by)
 test_leads positions start is slots off c there k by way ls bs e f h = linked_leads positions start is slots off (Jcc c) (test_filled c) (λ x. refl) there k by way None ls bs e f h

@@ -11,9 +11,11 @@ use Rattle.obj_lay.specs.Layout.{displacement}
 abbrev pub between : ℕ → ℕ → ℤ
 between to from = if nat_le from to then pos (to - from) else negsuc (from - to - 1)
 
+-- it leads there
 pub between_leads : (to from : ℕ) → to < 2 ^ 64 → from < 2 ^ 64 → moved (from % 2 ^ 64) (between to from) ≡ to
 between_leads to from a b = grind arith
 
+-- it fits where the addresses are near
 pub between_fits : (to from : ℕ) → to < from + 2 ^ 31 → from ≤ to + 2 ^ 31 → IsNumber32 (between to from)
 between_fits to from a b = grind arith
 
@@ -21,6 +23,7 @@ between_fits to from a b = grind arith
 byte_same : (n m : ℕ) → (n + 256 * m) % 256 ≡ n % 256
 byte_same n m = omega arith
 
+-- nor do four
 four_above : (n m : ℕ) → le_bytes 4 (n + 4294967296 * m) ≡ le_bytes 4 n
 four_above n m =
     let a : n + 4294967296 * m ≡ n + 256 * (16777216 * m) = omega arith in
@@ -47,6 +50,7 @@ by_order to from false e a b c =
     let same : (to + 2 ^ 64 - from) % 2 ^ 64 ≡ (2 ^ 32 - suc (from - to - 1)) + 4294967296 * 4294967295 = omega arith in
     ap (le_bytes 4) same ∙ four_above (2 ^ 32 - suc (from - to - 1)) 4294967295
 
+-- and so for any two near addresses
 pub displacement_between : (to from : ℕ) → from < 2 ^ 63 → to < 2 ^ 63 → from ≤ to + 2 ^ 31 → displacement to from ≡ number32 (between to from)
 displacement_between to from a b c = by_order to from (nat_le from to) refl a b c
 

@@ -14,6 +14,7 @@ pub record StandsAt (xs : List ℕ) (n : ℕ) : Type 0 where
   pub within : place_of xs n < length xs
   pub there : slice_index xs (place_of xs n) ≡ n
 
+-- a number that stands somewhere stands at its place
 place_found : (xs : List ℕ) (n i : ℕ) → i < length xs → slice_index xs i ≡ n → StandsAt xs n
 place_found [] n i lt e = absurd (omega (arith, lt))
 place_found (x ∷ xs) n zero lt e =
@@ -46,6 +47,7 @@ place_again words n k lt =
     let x = place_found (shuffled words n) (slice_index (shuffled words n) k) k within refl in
     shuffled_apart words n (place_of (shuffled words n) (slice_index (shuffled words n) k)) k x.within within x.there
 
+-- each number of a shuffle is below n
 pub index_below : (words : ℕ → ℕ) (n k : ℕ) → k < n → slice_index (shuffled words n) k < n
 index_below words n k lt = shuffled_below words n k 0 (let long = shuffled_long words n in omega (arith, long))
 
@@ -53,9 +55,11 @@ index_below words n k lt = shuffled_below words n k 0 (let long = shuffled_long 
 pub inverse_index : (xs : List ℕ) (p : ℕ) → p < length xs → slice_index (inverse xs) p ≡ place_of xs p
 inverse_index xs p lt = get_or-map-range_with_len (place_of xs) 0 (length xs) p p 0 lt (omega arith)
 
+-- the inverse is as long
 pub inverse_long : (xs : List ℕ) → length (inverse xs) ≡ length xs
 inverse_long xs = length-map-range_with_len (place_of xs) 0 (length xs)
 
+-- and has an entry for each number
 pub inverse_get : (xs : List ℕ) (p : ℕ) → p < length xs → slice_get (inverse xs) p ≡ Some (place_of xs p)
 inverse_get xs p lt =
     let long = inverse_long xs in

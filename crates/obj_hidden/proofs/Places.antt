@@ -24,14 +24,17 @@ module _ (o : Object) (seed : ℕ) where
   unfoldable pub start : ℕ → ℕ
   start n = slice_index (starts o seed) (place_of (order o seed) n)
 
+  -- each function has one place in the order
   order_long : length (order o seed) ≡ length o.functions
   unfolding order
   order_long = shuffled_long (keystream_word seed order_purpose 0) (length (pieces o.functions)) ∙ pieces_as_many o.functions
 
+  -- and stands there
   order_stands : (n : ℕ) → n < length o.functions → StandsAt (order o seed) n
   unfolding order
   order_stands n lt = shuffled_stands (keystream_word seed order_purpose 0) (length (pieces o.functions)) n (let long = pieces_as_many o.functions in omega (arith, long, lt))
 
+  -- the order is one of the numbers of functions
   order_permutes : IsPermutation (range_with_len 0 (length o.functions)) (order o seed)
   unfolding order
   order_permutes = subst (λ n. IsPermutation (range_with_len 0 n) (shuffled (keystream_word seed order_purpose 0) (length (pieces o.functions)))) (pieces_as_many o.functions) (shuffled_permutes (keystream_word seed order_purpose 0) (length (pieces o.functions)))
@@ -40,20 +43,25 @@ module _ (o : Object) (seed : ℕ) where
   abbrev row : List Piece
   row = placed o.functions (order o seed)
 
+  -- the words that are drawn for gaps
   abbrev words : ℕ → ℕ
   words = keystream_word seed gap_purpose 0
 
+  -- the starts of the pieces
   starts_are : starts o seed ≡ starts_from words 1 (code_base seed) row
   unfolding starts
   starts_are = refl
 
+  -- the bytes of the pieces
   code_is : code_bytes o seed ≡ code_from (positions o) (code_base seed) (starts_from words 1 (code_base seed) row) row
   unfolding code_bytes starts
   code_is = refl
 
+  -- as many bytes as all functions have
   row_size : sum_by size row ≡ sum (map (λ (f : Func). length f.bytes) o.functions)
   row_size = sizes_mapped o.functions (order o seed) ∙ sum_by-IsPermutation (λ k. size (piece o.functions k)) (range_with_len 0 (length o.functions)) (order o seed) order_permutes ∙ sizes_of o.functions
 
+  -- a function in the row
   row_has : (n : ℕ) (f : Func) → slice_get o.functions n ≡ Some f → slice_get row (place_of (order o seed) n) ≡ Some (whole n f)
   row_has n f e =
       let x = order_stands n (slice_get_within o.functions n f e) in
@@ -121,6 +129,7 @@ module _ (o : Object) (seed : ℕ) where
       inverse_get (shuffled (keystream_word o.slot_seed slot_purpose 0) (length o.slots)) (slice_index (shuffled (keystream_word o.slot_seed slot_purpose 0) (length o.slots)) k) (omega (arith, below, long)) ∙
       ap Some (place_again (keystream_word o.slot_seed slot_purpose 0) (length o.slots) k lt)
 
+  -- each slot has a position
   pub positions_long : length (positions o) ≡ length o.slots
   unfolding positions
   positions_long = shuffled_long (keystream_word o.slot_seed slot_purpose 0) (length o.slots)

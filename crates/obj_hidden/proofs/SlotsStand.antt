@@ -33,16 +33,20 @@ module _ (o : Object) (w : IsWellFormed o) (seed : ℕ) where
   abbrev Starts : ℕ → ℕ → Type 0
   Starts n off = is_code_place (slice_get w.cuts n) off ≡ true
 
+  -- a function begins with an instruction
   begins_known : (f : ℕ) → nat_lt f (length w.cuts) ≡ true → Starts f 0
   begins_known f h = function_starts o.functions w.cuts w.cut f (ltb-true f (length w.cuts) h)
 
+  -- the bytes of a slot
   abbrev bytes_of : ℕ → Slot → List ℕ
   bytes_of k s = trampoline (address o seed) (slot_start o k) (Some s)
 
   module _ (k : ℕ) (s : Slot) (there : slice_get o.slots k ≡ Some s) where
+    -- it stands low
     low : slot_start o k + 16 ≤ 285212672
     low = slot_low o seed k w.few (slice_get_within o.slots k s there)
 
+    -- an instruction in its bytes
     begins : (at : ℕ) (i : Instr) → IsInstr i → ((more : List ℕ) → Front (drop at (bytes_of k s ++ more)) i) → IsAt (exec o w seed) (at_place o w seed (Place.Slot k at)) i
     begins at i is h =
         let x = slot_there o seed k (slice_get_within o.slots k s there) in
@@ -78,15 +82,19 @@ module _ (o : Object) (w : IsWellFormed o) (seed : ℕ) where
         }
 
   module _ (k : ℕ) where
+    -- where the slot stands
     abbrev here : ℕ
     here = slot_start o k
 
+    -- an instruction at a byte of it
     abbrev Runs : ℕ → Instr → Type 0
     Runs at i = IsAt (exec o w seed) (at_place o w seed (Place.Slot k at)) i
 
+    -- a jump or a call at a byte of it
     abbrev Goes : ℕ → (ℤ → Instr) → Place → Type 0
     Goes at make to = IsAtTo (exec o w seed) (at_place o w seed (Place.Slot k at)) make (at_place o w seed to)
 
+    -- a slot that jumps
     enters : (f : ℕ) (s : Slot) → slice_get o.slots k ≡ Some s → Starts f 0 → bytes_of k s ≡ jump (address o seed (start_of f)) (here + 5) ++ filler 11 → Goes 0 Jmp (Place.Code f 0) × Runs 5 Int3
     enters f s e ok same = (
       leads k s e Jmp 0 (omega arith) f 0 ok (λ x. refl) (λ x y. y)
@@ -94,11 +102,13 @@ module _ (o : Object) (w : IsWellFormed o) (seed : ℕ) where
       begins k s e 5 Int3 tt (λ more. record { more = filler 10 ++ more; begins = ap (λ bs. drop 5 (bs ++ more)) same }),
     )
 
+    -- the jump back of a slot
     returns : (back : CodeAt) (s : Slot) (a b c d x : ℕ) → slice_get o.slots k ≡ Some s → is_start w.cuts back ≡ true → bytes_of k s ≡ (a ∷ b ∷ c ∷ d ∷ x ∷ []) ++ (jump (address o seed back) (here + 10) ++ filler 6) → Goes 5 Jmp (at_code back)
     returns back s a b c d x e ok same =
         leads k s e Jmp 5 (omega arith) back.function back.offset (sym (is_start_code w.cuts back) ∙ ok) (λ x. refl) (λ x y. y)
         (λ by z more. record { more = filler 6 ++ more; begins = ap (λ bs. drop 5 (bs ++ more)) same ∙ ap (λ y. ((0xE9 ∷ y) ++ filler 6) ++ more) z })
 
+    -- by the kind of slot
     slot_of : (s : Slot) → slice_get o.slots k ≡ Some s → is_good_slot w.cuts s ≡ true → SlotBytes (exec o w seed) (at_place o w seed) o k s
     slot_of (Slot.Entry f) e good = enters f (Slot.Entry f) e (begins_known f good) refl
     slot_of (Slot.Jump f) e good = enters f (Slot.Jump f) e (begins_known f good) refl

@@ -26,6 +26,7 @@ pub record StandsIn (positions : List ℕ) (end : ℕ) (starts : List ℕ) (ps :
   pub more : List ℕ
   pub bytes : drop (slice_index starts q - end) (code_from positions end starts ps) ≡ linked positions (slice_index starts q) p.links p.bytes ++ more
 
+-- a piece begins at the end before it or later
 behind_end : (end word : ℕ) → end ≤ start_behind end word
 behind_end end word = omega arith
 
@@ -40,6 +41,7 @@ further positions end start le r others rs s below =
     drop_behind (linked positions start r.links r.bytes) rest (length r.bytes) (s - end - (start - end)) (length-linked positions start r.links r.bytes) (omega (arith, le, below)) ∙
     ap (λ k. drop k rest) less
 
+-- each piece does
 pub piece_stands : (positions : List ℕ) (words : ℕ → ℕ) (i end : ℕ) (ps : List Piece) (q : ℕ) (p : Piece) → slice_get ps q ≡ Some p → StandsIn positions end (starts_from words i end ps) ps q p
 piece_stands positions words i end [] q p e = absurd (cc)
 piece_stands positions words i end (r ∷ rs) zero p e =
@@ -67,6 +69,7 @@ piece_stands positions words i end (r ∷ rs) (suc q) p e =
 abbrev pub size : Piece → ℕ
 size p = length p.bytes
 
+-- at most 511 bytes are lost before each piece
 pub piece_below : (words : ℕ → ℕ) (i end : ℕ) (ps : List Piece) (q : ℕ) (p : Piece) → slice_get ps q ≡ Some p → slice_index (starts_from words i end ps) q + length p.bytes ≤ end + sum_by size ps + 511 * length ps
 piece_below words i end [] q p e = absurd (cc)
 piece_below words i end (r ∷ rs) zero p e =
@@ -96,9 +99,11 @@ sizes_from g a (f ∷ fs) h =
     let right = sum_by-cons (λ (n : ℕ). n) (length f.bytes) (map (λ (f : Func). length f.bytes) fs) in
     omega (arith, first, others, left, right)
 
+-- by the pieces of all numbers
 pub sizes_of : (fs : List Func) → sum_by (λ k. size (piece fs k)) (range_with_len 0 (length fs)) ≡ sum (map (λ (f : Func). length f.bytes) fs)
 sizes_of fs = sizes_from (λ k. size (piece fs k)) 0 fs (λ k f e. let same : 0 + k ≡ k = omega arith in ap (λ n. size (piece fs n)) same ∙ ap size (piece_is fs k f e))
 
+-- and of any numbers
 pub sizes_mapped : (fs : List Func) (ks : List ℕ) → sum_by size (map (piece fs) ks) ≡ sum_by (λ k. size (piece fs k)) ks
 sizes_mapped fs [] = refl
 sizes_mapped fs (k ∷ ks) =

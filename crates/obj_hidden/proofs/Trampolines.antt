@@ -10,6 +10,7 @@ use Rattle.obj_hidden.proofs.Instrs.{drop_behind}
 use Rattle.obj_hidden.proofs.Order.{inverse_long}
 use Rattle.obj_hidden.proofs.Places.{positions_long, slot_place}
 
+-- each slot takes sixteen bytes
 sixteen : (code : CodeAt → ℕ) (at : ℕ) (s : Option Slot) → length (trampoline code at s) ≡ 16
 sixteen code at None = refl
 sixteen code at (Some (Slot.Entry target)) = refl
@@ -19,6 +20,7 @@ sixteen code at (Some (Slot.Indirect back)) = refl
 sixteen code at (Some (Slot.System back)) = refl
 
 module _ (code : CodeAt → ℕ) (at : List ℕ) (slots : List Slot) where
+  -- all of them
   all_long : (ks : List ℕ) → length (trampolines code at slots ks) ≡ 16 * length ks
   all_long [] = refl
   all_long (k ∷ ks) =
@@ -27,6 +29,7 @@ module _ (code : CodeAt → ℕ) (at : List ℕ) (slots : List Slot) where
       let whole = length-append (trampoline code (slot_in at k) (slice_get slots k)) (trampolines code at slots ks) in
       omega (arith, first, others, whole)
 
+  -- and one of them
   one_there : (ks : List ℕ) (p k : ℕ) → slice_get ks p ≡ Some k → (more : List ℕ) × (drop (16 * p) (trampolines code at slots ks) ≡ trampoline code (slot_in at k) (slice_get slots k) ++ more)
   one_there [] p k e = absurd (cc)
   one_there (j ∷ ks) zero k e =

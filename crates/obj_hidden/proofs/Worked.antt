@@ -32,12 +32,15 @@ main_cut = AluImm ImmOp.Sub Wide.W64 Rsp (pos 0) ∷ MovImm32 Rdi 7 ∷ MovImm32
 abbrev start_cut : List Instr
 start_cut = Jmp (pos 0) ∷ []
 
+-- their bytes, with the links to the slots
 abbrev main : Func
 main = record { kind = FuncKind.Plain; bytes = spelled main_cut; links = record { at = 18; slot = 2 } ∷ [] }
 
+-- the same
 abbrev start : Func
 start = record { kind = FuncKind.Plain; bytes = spelled start_cut; links = record { at = 1; slot = 1 } ∷ [] }
 
+-- the entry, the slot of the first function, and the exit
 abbrev seven : Object
 seven = record {
   slot_seed = 1;
@@ -48,20 +51,25 @@ seven = record {
   rw = [];
 }
 
+-- a test of bytes
 abbrev are_small : List ℕ → Bool
 are_small [] = true
 are_small (b ∷ bs) = nat_lt b 256 && are_small bs
 
+-- which tells
 small : (bs : List ℕ) → are_small bs ≡ true → Each IsByte bs
 small [] e = tt
 small (b ∷ bs) e = let x = and_parts _ _ e in (ltb-true b 256 x.0, small bs x.1)
 
+-- numbers in range
 main_is : IsFunc main
 main_is = record { bytes = small (spelled main_cut) refl; links = (record { at = omega arith; slot = omega arith }, tt); length_fits = omega arith; links_fit = omega arith }
 
+-- in both functions
 start_is : IsFunc start
 start_is = record { bytes = small (spelled start_cut) refl; links = (record { at = omega arith; slot = omega arith }, tt); length_fits = omega arith; links_fit = omega arith }
 
+-- and in the object
 seven_is : IsObject seven
 seven_is = record {
   slot_seed = omega arith;
@@ -76,9 +84,11 @@ seven_is = record {
   rw_fits = omega arith;
 }
 
+-- sizes
 seven_few : AreFew seven
 seven_few = record { some_function = omega arith; functions = omega arith; some_slot = omega arith; slots = omega arith; code = omega arith; data_bytes = omega arith }
 
+-- all eight rules
 seven_well : IsWellFormed seven
 seven_well = record {
   object = seven_is;
@@ -88,9 +98,11 @@ seven_well = record {
   kept = refl;
 }
 
+-- what the object shows at last
 abbrev ended : Moment
 ended = record { printed = []; taken = 0; ending = Ended 7 }
 
+-- after eight steps
 seven_ends : symbolic_behavior seven [] 8 ≡ ended
 unfolding decode effect_of request_of
 seven_ends = refl
