@@ -47,24 +47,33 @@ abbrev pub with_number : (ℕ → Reading) → Option ℕ → Option Reading
 with_number ask (Some n) = Some (ask n)
 with_number ask None = None
 
--- the values of a command, behind its file and its first option with its value
-abbrev pub by_options : List ℕ → List ℕ → List ℕ → List ℕ → List (List ℕ) → Option Reading
-by_options command file option n [] =
+-- run FILE --steps N
+-- lay FILE --layout-seed N
+-- compile FILE --slot-seed N --reg-seed N
+abbrev pub short_reading : List (List ℕ) → Option Reading
+short_reading (command ∷ file ∷ option ∷ n ∷ []) =
     if is_file file then
     (if same command (codes "run") && same option (codes "--steps") then with_number (Run file) (number_of n) else
     (if same command (codes "lay") && same option (codes "--layout-seed") then with_number (Lay file) (number_of n) else None))
     else None
-by_options command file first a (second ∷ b ∷ []) =
+short_reading (command ∷ file ∷ first ∷ a ∷ second ∷ b ∷ []) =
     if same command (codes "compile") && (is_file file && (same first (codes "--slot-seed") && same second (codes "--reg-seed"))) then compile_of file (number_of a) (number_of b) else None
-by_options command file first a (second ∷ b ∷ third ∷ c ∷ []) =
-    if same command (codes "build") && (is_file file && (same first (codes "--slot-seed") && (same second (codes "--reg-seed") && same third (codes "--layout-seed")))) then build_of file (number_of a) (number_of b) (number_of c) else None
-by_options command file first a others = None
+short_reading words = None
 
--- compile FILE --slot-seed N --reg-seed N
 -- build FILE --slot-seed N --reg-seed N --layout-seed N
--- lay FILE --layout-seed N
--- run FILE --steps N
--- every other list of words has no reading
+abbrev pub build_values : List ℕ → List ℕ → List ℕ → List ℕ → List (List ℕ) → Option Reading
+build_values command file first a (second ∷ b ∷ third ∷ c ∷ []) =
+    if same command (codes "build") && (is_file file && (same first (codes "--slot-seed") && (same second (codes "--reg-seed") && same third (codes "--layout-seed")))) then build_of file (number_of a) (number_of b) (number_of c) else None
+build_values command file first a values = None
+
+abbrev pub build_reading : List (List ℕ) → Option Reading
+build_reading (command ∷ file ∷ first ∷ a ∷ values) = build_values command file first a values
+build_reading words = None
+
+abbrev pub or_else : Option Reading → Option Reading → Option Reading
+or_else (Some r) other = Some r
+or_else None other = other
+
+-- one of the four; every other list of words has no reading
 abbrev pub reading_of : List (List ℕ) → Option Reading
-reading_of (command ∷ file ∷ first ∷ a ∷ others) = by_options command file first a others
-reading_of words = None
+reading_of words = or_else (build_reading words) (short_reading words)

@@ -51,7 +51,10 @@ fn image_bytes(alloc: Global, object: Object, layout_seed: u64) -> Result<List<u
     let checked = Checked::new(object);
     checked_layouts_hide(&checked);
     let image = lay(alloc, &checked, layout_seed)?;
-    elf_file::write::write(alloc, &image)
+    match elf_file::write::write(alloc, &image) {
+        Ok(file) => Ok(file),
+        Err(fault) => Err(fault),
+    }
 }
 
 /// The bytes of what is made of a text.

@@ -1,7 +1,7 @@
 //! The command line as one command with its values, or none.
 
 ghost use Rattle.std.specs.Prelude.{◌≡◌, ◌∷◌, [], Some, None, MatchOption, codes, map, string_bytes};
-ghost use Rattle.rd_top.specs.Words.{is_file, number_of, digits_from, by_options, reading_of};
+ghost use Rattle.rd_top.specs.Words.{is_file, number_of, digits_from, short_reading, build_values, build_reading, reading_of};
 ghost use Rattle.rd_top.specs.Asked.{asked};
 
 /// A command with its values.
@@ -68,7 +68,7 @@ fn compile_words<'a>(
     second: &'a str,
     reg_seed: &'a str,
 ) -> Option<Command<'a>>
-    ensures { MatchOption result (by_options command.now file.now first.now slot_seed.now (second.now ∷ reg_seed.now ∷ []) ≡ None) (λ c. by_options command.now file.now first.now slot_seed.now (second.now ∷ reg_seed.now ∷ []) ≡ Some (asked c)) }
+    ensures { MatchOption result (short_reading (command.now ∷ file.now ∷ first.now ∷ slot_seed.now ∷ second.now ∷ reg_seed.now ∷ []) ≡ None) (λ c. short_reading (command.now ∷ file.now ∷ first.now ∷ slot_seed.now ∷ second.now ∷ reg_seed.now ∷ []) ≡ Some (asked c)) }
 {
     if command != "compile"
         || !names_file(file.as_bytes())
@@ -97,7 +97,7 @@ fn build_words<'a>(
     third: &'a str,
     layout_seed: &'a str,
 ) -> Option<Command<'a>>
-    ensures { MatchOption result (by_options command.now file.now first.now slot_seed.now (second.now ∷ reg_seed.now ∷ third.now ∷ layout_seed.now ∷ []) ≡ None) (λ c. by_options command.now file.now first.now slot_seed.now (second.now ∷ reg_seed.now ∷ third.now ∷ layout_seed.now ∷ []) ≡ Some (asked c)) }
+    ensures { MatchOption result (build_values command.now file.now first.now slot_seed.now (second.now ∷ reg_seed.now ∷ third.now ∷ layout_seed.now ∷ []) ≡ None) (λ c. build_values command.now file.now first.now slot_seed.now (second.now ∷ reg_seed.now ∷ third.now ∷ layout_seed.now ∷ []) ≡ Some (asked c)) }
 {
     if command != "build"
         || !names_file(file.as_bytes())
@@ -125,7 +125,7 @@ fn run_or_lay_words<'a>(
     option: &'a str,
     value: &'a str,
 ) -> Option<Command<'a>>
-    ensures { MatchOption result (by_options command.now file.now option.now value.now [] ≡ None) (λ c. by_options command.now file.now option.now value.now [] ≡ Some (asked c)) }
+    ensures { MatchOption result (short_reading (command.now ∷ file.now ∷ option.now ∷ value.now ∷ []) ≡ None) (λ c. short_reading (command.now ∷ file.now ∷ option.now ∷ value.now ∷ []) ≡ Some (asked c)) }
 {
     if !names_file(file.as_bytes()) {
         return None;
@@ -143,19 +143,40 @@ fn run_or_lay_words<'a>(
     }
 }
 
-/// What a command and a file ask for with their options and values, or none.
-fn read_options<'a>(
+/// What words ask for that are `run`, `lay` or `compile`, or none.
+fn read_short<'a>(words: &'a [String]) -> Option<Command<'a>>
+    ensures { MatchOption result (short_reading (map string_bytes words.now) ≡ None) (λ c. short_reading (map string_bytes words.now) ≡ Some (asked c)) }
+{
+    match words {
+        [command, file, option, n] => run_or_lay_words(
+            command.as_str(),
+            file.as_str(),
+            option.as_str(),
+            n.as_str(),
+        ),
+        [command, file, first, a, second, b] => compile_words(
+            command.as_str(),
+            file.as_str(),
+            first.as_str(),
+            a.as_str(),
+            second.as_str(),
+            b.as_str(),
+        ),
+        _ => None,
+    }
+}
+
+/// What `build` asks for with these options and values, or none.
+fn read_build_values<'a>(
     command: &'a str,
     file: &'a str,
     first: &'a str,
     a: &'a str,
-    others: &'a [String],
+    values: &'a [String],
 ) -> Option<Command<'a>>
-    ensures { MatchOption result (by_options command.now file.now first.now a.now (map string_bytes others.now) ≡ None) (λ c. by_options command.now file.now first.now a.now (map string_bytes others.now) ≡ Some (asked c)) }
+    ensures { MatchOption result (build_values command.now file.now first.now a.now (map string_bytes values.now) ≡ None) (λ c. build_values command.now file.now first.now a.now (map string_bytes values.now) ≡ Some (asked c)) }
 {
-    match others {
-        [] => run_or_lay_words(command, file, first, a),
-        [second, b] => compile_words(command, file, first, a, second.as_str(), b.as_str()),
+    match values {
         [second, b, third, c] => build_words(
             command,
             file,
@@ -170,20 +191,28 @@ fn read_options<'a>(
     }
 }
 
+/// What words ask for that are `build`, or none.
+fn read_build<'a>(words: &'a [String]) -> Option<Command<'a>>
+    ensures { MatchOption result (build_reading (map string_bytes words.now) ≡ None) (λ c. build_reading (map string_bytes words.now) ≡ Some (asked c)) }
+{
+    match words {
+        [command, file, first, a, values @ ..] => read_build_values(
+            command.as_str(),
+            file.as_str(),
+            first.as_str(),
+            a.as_str(),
+            values,
+        ),
+        _ => None,
+    }
+}
+
 /// What the words ask for, or none.
 pub fn read_words<'a>(words: &'a [String]) -> Option<Command<'a>>
     ensures { MatchOption result (reading_of (map string_bytes words.now) ≡ None) (λ c. reading_of (map string_bytes words.now) ≡ Some (asked c)) }
 {
-    match words {
-        [command, file, first, a, others @ ..] => {
-            read_options(
-                command.as_str(),
-                file.as_str(),
-                first.as_str(),
-                a.as_str(),
-                others,
-            )
-        }
-        _ => None,
+    match read_build(words) {
+        Some(command) => Some(command),
+        None => read_short(words),
     }
 }
