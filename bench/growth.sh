@@ -17,17 +17,22 @@ text() {
   echo '}'
 }
 
-# Milliseconds of processor time for all runs of a command.
+# Microseconds of the fastest run of a command: other work on the machine only ever adds to it.
 cost() {
-  local TIMEFORMAT='%U %S'
-  { time for ((n = 0; n < runs; n++)); do ./read_main "$@" >/dev/null 2>&1; done; } 2>&1 |
-    awk '{ printf "%d\n", ($1 + $2) * 1000 }'
+  local least=999999999 begin end
+  for ((n = 0; n < runs; n++)); do
+    begin=${EPOCHREALTIME/./}
+    crates/read_main/out/read_main "$@" >/dev/null 2>&1
+    end=${EPOCHREALTIME/./}
+    if ((end - begin < least)); then least=$((end - begin)); fi
+  done
+  echo "$least"
 }
 
 # The ratio of a command's costs on the files of three sizes.
 ratio() {
-  awk -v name="$1" -v none="$2" -v few="$3" -v many="$4" -v runs="$runs" 'BEGIN {
-    printf "%-8s %d runs each, in ms: %d without instructions, %d for 1,000, %d for 4,000; ratio %.2f\n", name, runs, none, few, many, (many - none) / (few - none)
+  awk -v name="$1" -v none="$2" -v few="$3" -v many="$4" 'BEGIN {
+    printf "%-8s in microseconds: %d without instructions, %d for 1,000, %d for 4,000; ratio of what the instructions add: %.2f\n", name, none, few, many, (many - none) / (few - none)
   }'
 }
 
