@@ -231,7 +231,7 @@ const HEADERS: [u8; 96] = [
 
 /// The file of an image with this code and nothing else.
 fn image_of(alloc: Global, code: &[u8]) -> Result<Vec<u8>, AllocError> {
-    let size = [code.len() as u8, 0, 0, 0, 0, 0, 0, 0];
+    let size = [(code.len() % 256) as u8, 0, 0, 0, 0, 0, 0, 0];
     let mut file = Vec::new(alloc);
     file.extend_from_slice(&HEADERS)?;
     file.extend_from_slice(&size)?;
@@ -340,7 +340,7 @@ fn objects_have_these_lines(rt: HostRuntime) -> Result<(), Fail> {
     for (code, cut, want, line) in rows {
         let mut file = Vec::new(alloc);
         file.extend_from_slice(&OBJECT)?;
-        file.extend_from_slice(&[code.len() as u8, 0, 0, 0, 0, 0, 0, 0])?;
+        file.extend_from_slice(&[(code.len() % 256) as u8, 0, 0, 0, 0, 0, 0, 0])?;
         file.extend_from_slice(code)?;
         file.resize(file.len() + 16, 0)?;
         let length = file.len() - cut;
