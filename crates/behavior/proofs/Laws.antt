@@ -196,3 +196,11 @@ preserves_straight A S M straight same p = record {
         inr (x.0, agrees_trans (A input x.0) (S input n) (M input n) x.1 (same input bytes n there))
   ];
 }
+
+-- what keeps the meaning of a run that is never left and never strays doesn't stray
+pub straight_kept : (A S : Behavior) (input : List ℕ) → AreBytes input → ((k : ℕ) → is_left (A input k).ending ≡ false) → ((k : ℕ) → (A input k).ending ≢ Strayed) → Preserves A S → (n : ℕ) → (S input n).ending ≢ Strayed
+straight_kept A S input bytes meant straight p n =
+    elim (p.only input bytes n) [
+      | inl x ↦ absurd (not_both (is_left (A input x.0).ending) x.1 (meant x.0))
+      | inr x ↦ agrees_straight (A input x.0) (S input n) x.1 (straight x.0)
+    ]

@@ -12,7 +12,7 @@ pub data Ending : Type 0 where
   Trap : Ending
   -- a module called too deep
   Depth : Ending
-  -- a module came to where its meaning claims nothing; each language numbers its reasons
+  -- a module came to where its meaning claims nothing; `ir_core` numbers the reasons, for all languages
   Left : (reason : ℕ) → Ending
   -- a machine came to `ud2`
   Invalid : Ending

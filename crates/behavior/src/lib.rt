@@ -7,8 +7,8 @@
 //! `proofs/Stretch` has what puts the steps of a pass together.
 #![tactic(auto)]
 
-ghost use Rattle.std.specs.Prelude.{◌≢◌, ℕ, ◌+◌, ◌*◌, List};
-ghost use Rattle.behavior.specs.Ending.{Strayed};
+ghost use Rattle.std.specs.Prelude.{◌≡◌, ◌≢◌, ℕ, ◌+◌, ◌*◌, List, false};
+ghost use Rattle.behavior.specs.Ending.{Strayed, is_left};
 ghost use Rattle.behavior.specs.Moment.{Behavior, Agrees, AreBytes};
 ghost use Rattle.behavior.specs.Preserves.{Preserves, ReachesWithin};
 
@@ -30,6 +30,11 @@ pub fn preserves_same()
 /// Two machines that show the same until the first strays mean the same, for what never strays.
 pub fn preserves_straight()
     ensures { (A S M : Behavior) → ((input : List ℕ) → AreBytes input → (k : ℕ) → (A input k).ending ≢ Strayed) → ((input : List ℕ) → AreBytes input → (n : ℕ) → (S input n).ending ≢ Strayed → Agrees (S input n) (M input n)) → Preserves A S → Preserves A M }
+{}
+
+/// What means the same as a program that is never left and never strays doesn't stray.
+pub fn straight_kept()
+    ensures { (A S : Behavior) (input : List ℕ) → AreBytes input → ((k : ℕ) → is_left (A input k).ending ≡ false) → ((k : ℕ) → (A input k).ending ≢ Strayed) → Preserves A S → (n : ℕ) → (S input n).ending ≢ Strayed }
 {}
 
 /// The bounds of two passes make one bound for both: the costs multiply.

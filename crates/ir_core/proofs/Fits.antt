@@ -4,14 +4,13 @@ use Rattle.std.specs.Prelude.{ℤ, pos, negsuc, bit_and}
 use Rattle.std.proofs.Math.Nat.{mod-lt, mod-le, div-le_self}
 use Rattle.std.proofs.lemmas.Nat.{pow_pos, and_le_l, or_lt, xor_lt}
 use Rattle.std.proofs.lemmas.Bool.{leb-true}
-use Rattle.behavior.specs.Ending.{Divide}
 use Rattle.rd_num.specs.declared.width.Width.{Width}
 use Rattle.rd_num.specs.Number.{bits}
 use Rattle.ir_core.specs.declared.instruction.BinOp.{BinOp}
 use Rattle.ir_core.specs.declared.instruction.BinOp.TheVariants.{Add, Sub, Mul, Udiv, Sdiv, Urem, Srem, Shl, Lshr, Ashr, And, Or, Xor}
 use Rattle.ir_core.specs.declared.instruction.CastOp.{CastOp}
 use Rattle.ir_core.specs.declared.instruction.CastOp.TheVariants.{Trunc, Zext, Sext}
-use Rattle.ir_core.specs.Stops.{Answer}
+use Rattle.ir_core.specs.Stops.{Divide, Answer}
 use Rattle.ir_core.specs.Kinds.{literal}
 use Rattle.ir_core.specs.Arithmetic.{modulus, IsOfWidth, is_negative, negated, magnitude, differ, signed_quotient, signed_remainder, sign_shifted, divides_by_zero, overflows, or_divide, binary, cast}
 

@@ -1,17 +1,20 @@
 -- What every run of a module has, whatever its instructions do.
-use Rattle.std.proofs.Common.{◌≡◌, ℕ, List, refl, ap, false, Ok, Err}
-use Rattle.behavior.specs.Ending.{Ending, Going, is_going}
+use Rattle.std.proofs.Common.{◌≡◌, ◌≢◌, ℕ, zero, suc, List, Option, Some, None, refl, ap, subst, false, Ok, Err}
+use Rattle.std.specs.Prelude.{codes, slice_get}
+use Rattle.behavior.specs.Ending.{Ending, Going, Strayed, is_going}
 use Rattle.behavior.specs.Moment.{HasStopped}
-use Rattle.behavior.specs.System.{AddsAtMostOne, Silent, Prints, Takes, System, IsGradual, behavior_of}
+use Rattle.behavior.specs.System.{iter, AddsAtMostOne, Silent, Prints, Takes, System, IsGradual, behavior_of}
 use Rattle.behavior.specs.Preserves.{Preserves, ReachesWithin}
 use Rattle.behavior.proofs.Between.{adds_grows}
 use Rattle.behavior.proofs.Follow.{AllFollow, AllStart, simulates, simulates_within}
 use Rattle.ir_core.specs.declared.module.Module.{Module}
 use Rattle.ir_core.specs.Memory.{Memory}
-use Rattle.ir_core.specs.Stops.{Answer}
+use Rattle.ir_core.specs.Stops.{Stop, Ended, Divide, Trap, Depth, Left, Malformed, Answer, ending_of, IsModuleEnding}
 use Rattle.ir_core.specs.State.{Frame, State, Exchange, Nothing, Print, Take, Turn, turned, source_moment}
 use Rattle.ir_core.specs.Step.{turn_of, source_step}
-use Rattle.ir_core.specs.Run.{source_start, source_run}
+use Rattle.ir_core.specs.declared.module.Function.{Function}
+use Rattle.ir_core.specs.Operands.{function_number}
+use Rattle.ir_core.specs.Run.{start_in, start_at, source_start, source_run}
 
 -- what a turn adds
 turned_adds : (s : State) (a : Answer Turn) → AddsAtMostOne (source_moment s) (source_moment (turned s a))
@@ -21,7 +24,7 @@ turned_adds s (Ok t) = exchanged t.frames t.objects t.exchange
     exchanged frames objects Nothing = Silent refl refl
     exchanged frames objects (Print byte) = Prints byte refl refl refl
     exchanged frames objects Take = Takes refl refl refl
-turned_adds s (Err ending) = Silent refl refl
+turned_adds s (Err stop) = Silent refl refl
 
 -- what a step adds, by the fields of the state
 adds_at : (m : Module) (input : List ℕ) (frames : List Frame) (objects : Memory) (printed : List ℕ) (taken : ℕ) (ending : Ending) → let s : State = record { frames = frames; objects = objects; printed = printed; taken = taken; ending = ending } in AddsAtMostOne (source_moment s) (source_moment (source_step m input s))
@@ -44,6 +47,48 @@ stays_at m input frames objects printed taken stopped h = refl
 -- a run that has stopped stays as it is
 pub step_stays : (m : Module) (input : List ℕ) (s : State) → HasStopped (source_moment s) → source_step m input s ≡ s
 step_stays m input s h = stays_at m input s.frames s.objects s.printed s.taken s.ending h
+
+-- what stops a run is an ending of modules
+stop_ending : (x : Stop) → IsModuleEnding (ending_of x)
+stop_ending (Ended status) = tt
+stop_ending Divide = tt
+stop_ending Trap = tt
+stop_ending Depth = tt
+stop_ending (Left reason) = tt
+stop_ending Malformed = tt
+
+turned_ending : (s : State) (a : Answer Turn) → IsModuleEnding (turned s a).ending
+turned_ending s (Ok t) = tt
+turned_ending s (Err stop) = stop_ending stop
+
+-- so a step leads from an ending of modules to one, by the fields of the state
+ending_at : (m : Module) (input : List ℕ) (frames : List Frame) (objects : Memory) (printed : List ℕ) (taken : ℕ) (ending : Ending) → IsModuleEnding ending → let s : State = record { frames = frames; objects = objects; printed = printed; taken = taken; ending = ending } in IsModuleEnding (source_step m input s).ending
+unfolding source_step
+ending_at m input frames objects printed taken Going h =
+    let s : State = record { frames = frames; objects = objects; printed = printed; taken = taken; ending = Going } in
+    turned_ending s (turn_of m input s frames)
+ending_at m input frames objects printed taken stopped h = h
+
+steps_ending : (m : Module) (input : List ℕ) (n : ℕ) (s : State) → IsModuleEnding s.ending → IsModuleEnding (iter (source_step m input) n s).ending
+steps_ending m input zero s h = h
+steps_ending m input (suc n) s h = steps_ending m input n (source_step m input s) (ending_at m input s.frames s.objects s.printed s.taken s.ending h)
+
+in_ending : (m : Module) (number : ℕ) (f : Option Function) → IsModuleEnding (start_in m number f).ending
+in_ending m number (Some f) = tt
+in_ending m number None = tt
+
+start_ending : (m : Module) (number : Option ℕ) → IsModuleEnding (start_at m number).ending
+start_ending m (Some number) = in_ending m number (slice_get m.functions number)
+start_ending m None = tt
+
+-- a run stands as modules can
+pub run_ending : (m : Module) (input : List ℕ) (n : ℕ) → IsModuleEnding (source_run m input n).ending
+unfolding source_run source_start
+run_ending m input n = steps_ending m input n (start_at m (function_number m (codes "main"))) (start_ending m (function_number m (codes "main")))
+
+-- so none strays
+pub run_straight : (m : Module) (input : List ℕ) (n : ℕ) → (source_run m input n).ending ≢ Strayed
+run_straight m input n e = subst IsModuleEnding e (run_ending m input n)
 
 -- modules as a system, for simulations that begin or end in them
 abbrev pub source_system : Module → List ℕ → System State

@@ -17,7 +17,7 @@ use Rattle.ir_core.specs.Calls.{returned}
 use Rattle.ir_core.specs.declared.module.Block.{Block}
 use Rattle.ir_core.specs.declared.module.Function.{Function}
 use Rattle.ir_core.specs.declared.module.Module.{Module}
-use Rattle.ir_core.specs.Stops.{after, found_or, malformed}
+use Rattle.ir_core.specs.Stops.{after, found_or, Malformed}
 use Rattle.ir_core.specs.State.{Frame, State, turned}
 use Rattle.ir_core.specs.Step.{binary_value, gives, terminator, turn_at, turn_of, source_step}
 
@@ -30,8 +30,8 @@ pub record Stands (m : Module) (f : Frame) (fn : Function) (b : Block) (next : O
 -- what the innermost call does next
 pub turn_here : (m : Module) (input : List ℕ) (s : State) (f : Frame) (callers : List Frame) (fn : Function) (b : Block) (next : Option Inst) → Stands m f fn b next → turn_of m input s (f ∷ callers) ≡ turn_at m input s f callers fn b next
 turn_here m input s f callers fn b next h =
-    ap (λ o. after (found_or malformed o) (λ g. after (found_or malformed (slice_get g.blocks f.block)) (λ c. turn_at m input s f callers g c (slice_get c.insts f.next)))) h.in_module
-    ∙ ap (λ o. after (found_or malformed o) (λ c. turn_at m input s f callers fn c (slice_get c.insts f.next))) h.in_function
+    ap (λ o. after (found_or Malformed o) (λ g. after (found_or Malformed (slice_get g.blocks f.block)) (λ c. turn_at m input s f callers g c (slice_get c.insts f.next)))) h.in_module
+    ∙ ap (λ o. after (found_or Malformed o) (λ c. turn_at m input s f callers fn c (slice_get c.insts f.next))) h.in_function
     ∙ ap (λ o. turn_at m input s f callers fn b o) h.in_block
 
 -- a step of a run that goes on

@@ -3,7 +3,7 @@ use Rattle.std.proofs.Common.{◌≡◌, ℕ, Bool, List, [], ◌∷◌, true, f
 use Rattle.std.specs.Prelude.{codes, pos, negsuc, replicate, Ok, Err}
 use denote.Hole.Carrier.{out}
 use Rattle.rd_num.specs.declared.width.Width.TheVariants.{W1, W8, W32, W64}
-use Rattle.behavior.specs.Ending.{Ending, Going, Ended, Divide, Depth}
+use Rattle.behavior.specs.Ending.{Ending, Going, Ended, Divide}
 use Rattle.behavior.specs.Moment.{Moment}
 use Rattle.ir_core.specs.declared.ty.Ty.{Ty, out-Ty}
 use Rattle.ir_core.specs.declared.operand.Operand.{Operand}
@@ -21,9 +21,11 @@ use Rattle.ir_core.specs.declared.module.Param.{Param}
 use Rattle.ir_core.specs.declared.module.Extern.{Extern}
 use Rattle.ir_core.specs.declared.module.Function.{Function}
 use Rattle.ir_core.specs.declared.module.Module.{Module}
+use Rattle.ir_core.specs.declared.memory.Reason.{Reason}
 use Rattle.ir_core.specs.declared.memory.Reason.TheVariants.{Unset, Equal, Callee, Overlap}
 use Rattle.ir_core.specs.declared.memory.Value.TheVariants.{Num, Null, Fun}
-use Rattle.ir_core.specs.Stops.{Answer, left}
+use Rattle.ir_core.specs.Stops.{Answer, ending_of}
+use Rattle.ir_core.specs.Stops as stop
 use Rattle.ir_core.specs.Kinds.{Number, Pointer}
 use Rattle.ir_core.specs.Shapes.{single, struct, unaligned}
 use Rattle.ir_core.specs.State.{Frame, State, Nothing, Turn}
@@ -80,6 +82,10 @@ entry value from = record { value = value; from = from }
 -- an argument
 abbrev arg : Ty → Operand → Arg
 arg ty value = record { ty = ty; value = value }
+
+-- a run that is left for a reason
+abbrev left : Reason → Ending
+left reason = ending_of (stop.Left reason)
 
 -- what a run shows
 abbrev shown : List ℕ → ℕ → Ending → Moment
@@ -296,7 +302,7 @@ deep calls =
     entered again s (replicate calls frame) (Number W32) (Number W32 ∷ Pointer ∷ []) (Num W32 1 ∷ Null ∷ []) None (Fun 0)
 
 -- 1,024 calls are active
-called_at_limit : deep 1024 ≡ Err Depth
+called_at_limit : deep 1024 ≡ Err stop.Depth
 unfolding out-Ty out
 called_at_limit = refl
 

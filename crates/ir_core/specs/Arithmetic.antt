@@ -1,6 +1,5 @@
 -- Arithmetic on numbers of one width, over whole numbers and remainders.
 use Rattle.std.specs.Prelude.{ℕ, ◌+◌, ◌*◌, ◌-◌, ◌/◌, ◌%◌, ◌^◌, ◌<◌, Bool, true, false, not, ◌&&◌, nat_eq, nat_lt, nat_le, if◌then◌else◌, Ok, Err, bit_and, bit_or, bit_xor}
-use Rattle.behavior.specs.Ending.{Divide}
 use Rattle.rd_num.specs.declared.width.Width.{Width}
 use Rattle.rd_num.specs.Number.{bits}
 use Rattle.ir_core.specs.declared.instruction.BinOp.{BinOp}
@@ -9,7 +8,7 @@ use Rattle.ir_core.specs.declared.instruction.Pred.{Pred}
 use Rattle.ir_core.specs.declared.instruction.Pred.TheVariants.{Eq, Ne, Ult, Ule, Ugt, Uge, Slt, Sle, Sgt, Sge}
 use Rattle.ir_core.specs.declared.instruction.CastOp.{CastOp}
 use Rattle.ir_core.specs.declared.instruction.CastOp.TheVariants.{Trunc, Zext, Sext}
-use Rattle.ir_core.specs.Stops.{Answer}
+use Rattle.ir_core.specs.Stops.{Divide, Answer}
 
 -- the numbers of a width are those below this one
 abbrev pub modulus : Width → ℕ

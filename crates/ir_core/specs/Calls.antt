@@ -1,7 +1,6 @@
 -- Calls and returns, and the functions that stand outside of a module.
 use Rattle.std.specs.Prelude.{ℕ, ◌-◌, ◌%◌, ◌^◌, List, [], ◌∷◌, Bool, true, false, ◌&&◌, nat_le, length, map, slice_get, codes, Option, Some, None, Ok, Err, if◌then◌else◌}
 use Rattle.rd_num.specs.declared.width.Width.TheVariants.{W32}
-use Rattle.behavior.specs.Ending.{Ending, Ended, Trap, Depth}
 use Rattle.ir_core.specs.declared.TheConstants.{MAX_CALLS}
 use Rattle.ir_core.specs.declared.operand.Operand.{Operand}
 use Rattle.ir_core.specs.declared.operand.Operand.TheVariants.{Local as LocalName, Global}
@@ -12,7 +11,7 @@ use Rattle.ir_core.specs.declared.memory.Value.{Value}
 use Rattle.ir_core.specs.declared.memory.Value.TheVariants.{Num, Fun}
 use Rattle.ir_core.specs.declared.memory.Reason.TheVariants.{Callee}
 use Rattle.ir_core.specs.Names.{same_name}
-use Rattle.ir_core.specs.Stops.{Answer, after, found_or, left, malformed}
+use Rattle.ir_core.specs.Stops.{Stop, Ended, Trap, Depth, Left, Answer, after, found_or, Malformed}
 use Rattle.ir_core.specs.Kinds.{Kind, same_kind, kind_of}
 use Rattle.ir_core.specs.Memory.{Memory, copied, filled, without}
 use Rattle.ir_core.specs.State.{Local, Frame, State, Exchange, Nothing, Print, Take, Turn, given}
@@ -56,7 +55,7 @@ target_named name None = Outside (outer_of name)
 abbrev pub target_of : Module → List Local → Operand → Answer Target
 target_of m locals (LocalName name) = after (local_value locals name) (λ v. Ok (Inside v))
 target_of m locals (Global name) = Ok (target_named name (function_number m name))
-target_of m locals other = Err malformed
+target_of m locals other = Err Malformed
 
 -- as many, and each the same
 abbrev pub same_kinds : List Kind → List Kind → Bool
@@ -82,11 +81,11 @@ first_frame number f arguments into = record { function = number; block = 0; nex
 -- the tests of a call in their order: the callee is a function, it has the call's types, and there is room for one more call
 abbrev pub entered : Module → State → List Frame → Kind → List Kind → List Value → Option (List ℕ) → Value → Answer Turn
 entered m s callers ret kinds arguments into (Fun number) =
-    after (found_or malformed (slice_get m.functions number)) (λ f.
+    after (found_or Malformed (slice_get m.functions number)) (λ f.
     if is_called_as f ret kinds
     then (if nat_le MAX_CALLS (length s.frames) then Err Depth else Ok (record { frames = first_frame number f arguments into ∷ callers; objects = s.objects; exchange = Nothing }))
-    else Err (left Callee))
-entered m s callers ret kinds arguments into other = Err (left Callee)
+    else Err (Left Callee))
+entered m s callers ret kinds arguments into other = Err (Left Callee)
 
 -- the callers once the innermost of them goes on with a result
 abbrev pub resumed : List Frame → Option (List ℕ) → Option Value → List Frame
@@ -95,10 +94,10 @@ resumed (g ∷ gs) into (Some v) = record g { locals = given into v g.locals } �
 resumed (g ∷ gs) into None = g ∷ gs
 
 -- the call with which the run began ends it with the low 8 bits of its result
-abbrev pub last_result : Option Value → Ending
+abbrev pub last_result : Option Value → Stop
 last_result (Some (Num w n)) = Ended (n % 256)
-last_result (Some other) = malformed
-last_result None = malformed
+last_result (Some other) = Malformed
+last_result None = Malformed
 
 -- a return to the caller; the objects of the call's allocas are dead then
 abbrev pub returned : State → Frame → List Frame → Option Value → Answer Turn
@@ -127,7 +126,7 @@ outer_turn input s frames into Memcpy (to ∷ from ∷ Num w count ∷ volatile 
 outer_turn input s frames into Memset (to ∷ Num v byte ∷ Num w count ∷ volatile ∷ []) = with_memory frames (filled s.objects to byte count)
 outer_turn input s frames into TrapNow arguments = Err Trap
 outer_turn input s frames into Lifetime arguments = goes_on s frames into Nothing None
-outer_turn input s frames into outer arguments = Err malformed
+outer_turn input s frames into outer arguments = Err Malformed
 
 -- a call of what the callee is
 abbrev pub called : Module → List ℕ → State → List Frame → Kind → List Kind → List Value → Option (List ℕ) → Target → Answer Turn

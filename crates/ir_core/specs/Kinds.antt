@@ -7,7 +7,7 @@ use Rattle.ir_core.specs.declared.ty.Ty.{Ty, out-Ty}
 use Rattle.ir_core.specs.declared.ty.Ty.TheOpen.{Ty-F}
 use Rattle.ir_core.specs.declared.memory.Value.{Value}
 use Rattle.ir_core.specs.declared.memory.Value.TheVariants.{Num, Null}
-use Rattle.ir_core.specs.Stops.{Answer, malformed}
+use Rattle.ir_core.specs.Stops.{Answer, Malformed}
 
 -- a number of a width, a pointer, or nothing that a local can hold
 pub data Kind : Type 0 where
@@ -56,6 +56,6 @@ truth holds = if holds then Num W1 1 else Num W1 0
 
 -- zeros, as undef and poison are read
 abbrev pub zero_of : Kind → Answer Value
-zero_of NoValue = Err malformed
+zero_of NoValue = Err Malformed
 zero_of (Number w) = Ok (Num w 0)
 zero_of Pointer = Ok Null

@@ -8,7 +8,7 @@ use Rattle.ir_core.specs.declared.memory.Cell.{Cell}
 use Rattle.ir_core.specs.declared.memory.Cell.TheVariants.{Unset, Byte, Piece}
 use Rattle.ir_core.specs.declared.memory.Object0.{Object0}
 use Rattle.ir_core.specs.declared.memory.Reason.TheVariants.{Bounds, Dead, Constant, Unset as WasUnset, Mixed, Overlap}
-use Rattle.ir_core.specs.Stops.{Answer, after, left, malformed}
+use Rattle.ir_core.specs.Stops.{Left, Answer, after, Malformed}
 use Rattle.ir_core.specs.Kinds.{Kind, NoValue, Number, Pointer}
 use Rattle.ir_core.specs.Shapes.{bytes_of}
 
@@ -59,16 +59,16 @@ same_cells cs ds = false
 -- an i1 is the low bit of its byte
 abbrev pub number_read : Width → Option (List ℕ) → Answer Value
 number_read w (Some ns) = Ok (Num w (le_number ns % 2 ^ bits w))
-number_read w None = Err (left Mixed)
+number_read w None = Err (Left Mixed)
 
 -- the pieces of one pointer in order, or eight zero bytes for null
 abbrev pub pointer_read : List Cell → Answer Value
-pointer_read (Piece v k ∷ cs) = if same_cells (Piece v k ∷ cs) (pieces v) then Ok v else Err (left Mixed)
-pointer_read cs = if same_cells cs (cells_of Null) then Ok Null else Err (left Mixed)
+pointer_read (Piece v k ∷ cs) = if same_cells (Piece v k ∷ cs) (pieces v) then Ok v else Err (Left Mixed)
+pointer_read cs = if same_cells cs (cells_of Null) then Ok Null else Err (Left Mixed)
 
 -- the value of a kind that cells hold
 abbrev pub value_read : Kind → List Cell → Answer Value
-value_read NoValue cs = Err malformed
+value_read NoValue cs = Err Malformed
 value_read (Number w) cs = number_read w (numbers cs)
 value_read Pointer cs = pointer_read cs
 
@@ -86,20 +86,20 @@ pub record Range : Type 0 where
 
 -- count bytes from an offset of an object
 abbrev pub range_of : ℕ → ℕ → ℕ → Option Object0 → Answer Range
-range_of o d count None = Err (left Bounds)
+range_of o d count None = Err (Left Bounds)
 range_of o d count (Some x) =
-    if x.live then (if nat_le (d + count) x.size then Ok (record { object = o; offset = d; held = x }) else Err (left Bounds)) else Err (left Dead)
+    if x.live then (if nat_le (d + count) x.size then Ok (record { object = o; offset = d; held = x }) else Err (Left Bounds)) else Err (Left Dead)
 
 -- the tests of a load, in their order: no place, a dead object, a range that isn't inside
 abbrev pub readable : Memory → ℕ → Value → Answer Range
 readable m count (At o d) = range_of o d count (slice_get m o)
-readable m count (Num w n) = Err (left Bounds)
-readable m count Null = Err (left Bounds)
-readable m count (Fun f) = Err (left Bounds)
+readable m count (Num w n) = Err (Left Bounds)
+readable m count Null = Err (Left Bounds)
+readable m count (Fun f) = Err (Left Bounds)
 
 -- no store goes to a constant object
 abbrev pub unless_constant : Range → Answer Range
-unless_constant r = if r.held.constant then Err (left Constant) else Ok r
+unless_constant r = if r.held.constant then Err (Left Constant) else Ok r
 
 -- those of a store: a constant object is the last
 abbrev pub writable : Memory → ℕ → Value → Answer Range
@@ -112,7 +112,7 @@ cells_at r count = take count (drop r.offset r.held.cells)
 -- a load: the tests of its range, then whether its bytes are set, then what they are
 abbrev pub load_at : Memory → Kind → Value → Answer Value
 load_at m kind p = after (readable m (size_of kind) p) (λ r.
-    if any_unset (cells_at r (size_of kind)) then Err (left WasUnset) else value_read kind (cells_at r (size_of kind)))
+    if any_unset (cells_at r (size_of kind)) then Err (Left WasUnset) else value_read kind (cells_at r (size_of kind)))
 
 -- memory with other cells from the start of a range on
 abbrev pub written : Memory → Range → List Cell → Memory
@@ -134,7 +134,7 @@ overlaps count a b = (nat_eq a.object b.object && not (nat_eq a.offset b.offset)
 abbrev pub copied : Memory → Value → Value → ℕ → Answer Memory
 copied m to from count =
     if nat_eq count 0 then Ok m else (after (readable m count from) (λ a. after (writable m count to) (λ b.
-    if overlaps count a b then Err (left Overlap) else Ok (written m b (cells_at a count)))))
+    if overlaps count a b then Err (Left Overlap) else Ok (written m b (cells_at a count)))))
 
 -- a new object of unset bytes; its number is the number of objects before it
 abbrev pub with_alloca : Memory → ℕ → Memory

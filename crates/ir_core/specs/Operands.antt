@@ -11,14 +11,14 @@ use Rattle.ir_core.specs.declared.memory.Value.{Value}
 use Rattle.ir_core.specs.declared.memory.Value.TheVariants.{Num, Null, At, Fun}
 use Rattle.ir_core.specs.declared.memory.Reason.TheVariants.{Unset}
 use Rattle.ir_core.specs.Names.{same_name, number_where, first_where}
-use Rattle.ir_core.specs.Stops.{Answer, after, found_or, left, malformed}
+use Rattle.ir_core.specs.Stops.{Left, Answer, after, found_or, Malformed}
 use Rattle.ir_core.specs.Kinds.{Kind, NoValue, Number, Pointer, kind_of, literal, signed_word, truth, zero_of}
 use Rattle.ir_core.specs.Shapes.{shape_of}
 use Rattle.ir_core.specs.State.{Local}
 
 -- a local that was given no value yet stops the run
 abbrev pub local_value : List Local → List ℕ → Answer Value
-local_value locals name = found_or (left Unset) (option_map (λ (l : Local). l.value) (first_where (λ (l : Local). same_name l.name name) locals))
+local_value locals name = found_or (Left Unset) (option_map (λ (l : Local). l.value) (first_where (λ (l : Local). same_name l.name name) locals))
 
 -- the number of a global
 abbrev pub global_number : Module → List ℕ → Option ℕ
@@ -32,23 +32,23 @@ function_number m name = number_where (λ f. same_name f.name name) m.functions
 abbrev pub named_value : Option ℕ → Option ℕ → Answer Value
 named_value (Some g) function = Ok (At g 0)
 named_value None (Some f) = Ok (Fun f)
-named_value None None = Err malformed
+named_value None None = Err Malformed
 
 -- a literal as a number of a kind
 abbrev pub int_value : Kind → ℤ → Answer Value
 int_value (Number w) n = Ok (Num w (literal w n))
-int_value Pointer n = Err malformed
-int_value NoValue n = Err malformed
+int_value Pointer n = Err Malformed
+int_value NoValue n = Err Malformed
 
 -- an index as a number of bytes or elements modulo 2^64, below zero too
 abbrev pub index_word : Value → Answer ℕ
 index_word (Num w n) = Ok (signed_word w n)
-index_word v = Err malformed
+index_word v = Err Malformed
 
 -- how many bytes a row of indices leads from a pointer to a type: the first counts whole ones of it, the others go into it
 abbrev pub bytes_to : Module → Ty → List ℕ → Answer ℕ
 bytes_to m source [] = Ok 0
-bytes_to m source (i ∷ is) = found_or malformed (option_map (λ at. i * (shape_of m.types source).size + at) ((shape_of m.types source).part is))
+bytes_to m source (i ∷ is) = found_or Malformed (option_map (λ at. i * (shape_of m.types source).size + at) ((shape_of m.types source).part is))
 
 -- the indices of a constant place
 abbrev pub literal_indices : List Index0 → Answer (List ℕ)
@@ -58,7 +58,7 @@ literal_indices (i ∷ is) = after (int_value (kind_of i.ty) i.value) (λ v. aft
 -- a place in a global that is known before the run
 abbrev pub constant_place : Module → Place0 → Answer Value
 constant_place m p =
-    after (found_or malformed (global_number m p.base)) (λ g.
+    after (found_or Malformed (global_number m p.base)) (λ g.
     after (literal_indices p.indices) (λ is. after (bytes_to m p.source is) (λ by. Ok (At g (by % 2 ^ 64)))))
 
 -- the value of an operand of a kind; undef and poison are zeros

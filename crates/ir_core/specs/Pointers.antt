@@ -7,7 +7,7 @@ use Rattle.ir_core.specs.declared.memory.Object0.{Object0}
 use Rattle.ir_core.specs.declared.memory.Reason.TheVariants.{Order, Equal, Gep}
 use Rattle.ir_core.specs.declared.instruction.Pred.{Pred}
 use Rattle.ir_core.specs.declared.instruction.Pred.TheVariants.{Eq, Ne, Ult, Ule, Ugt, Uge, Slt, Sle, Sgt, Sge}
-use Rattle.ir_core.specs.Stops.{Answer, after, left, malformed}
+use Rattle.ir_core.specs.Stops.{Left, Answer, after, Malformed}
 use Rattle.ir_core.specs.Arithmetic.{compared}
 use Rattle.ir_core.specs.Memory.{Memory}
 
@@ -22,7 +22,7 @@ is_inside m o d = holds_place (slice_get m o) d
 
 -- places inside of live objects differ from null, from functions, and from such places in other objects; of others nothing is known
 abbrev pub apart_if : Bool → Answer Bool
-apart_if known = if known then Ok false else Err (left Equal)
+apart_if known = if known then Ok false else Err (Left Equal)
 
 -- whether two pointers are the same, where that is claimed
 abbrev pub pointers_equal : Memory → Value → Value → Answer Bool
@@ -35,7 +35,7 @@ pointers_equal m (Fun f) (At p e) = apart_if (is_inside m p e)
 pointers_equal m (At o d) Null = apart_if (is_inside m o d)
 pointers_equal m (At o d) (Fun g) = apart_if (is_inside m o d)
 pointers_equal m (At o d) (At p e) = if nat_eq o p then Ok (nat_eq d e) else apart_if (is_inside m o d && is_inside m p e)
-pointers_equal m u v = Err malformed
+pointers_equal m u v = Err Malformed
 
 -- whether an offset is at most the size
 abbrev pub reaches : Option Object0 → ℕ → Bool
@@ -45,8 +45,8 @@ reaches None d = false
 -- offsets of one object, live or dead, compare where both are at most its size
 abbrev pub pointers_ordered : Pred → Memory → Value → Value → Answer Bool
 pointers_ordered pred m (At o d) (At p e) =
-    if nat_eq o p && (reaches (slice_get m o) d && reaches (slice_get m o) e) then Ok (compared pred W64 d e) else Err (left Order)
-pointers_ordered pred m u v = Err (left Order)
+    if nat_eq o p && (reaches (slice_get m o) d && reaches (slice_get m o) e) then Ok (compared pred W64 d e) else Err (Left Order)
+pointers_ordered pred m u v = Err (Left Order)
 
 -- what a comparison of two pointers says; signed order says nothing of them
 abbrev pub pointers_compared : Pred → Memory → Value → Value → Answer Bool
@@ -56,18 +56,18 @@ pointers_compared Ult m u v = pointers_ordered Ult m u v
 pointers_compared Ule m u v = pointers_ordered Ule m u v
 pointers_compared Ugt m u v = pointers_ordered Ugt m u v
 pointers_compared Uge m u v = pointers_ordered Uge m u v
-pointers_compared Slt m u v = Err (left Order)
-pointers_compared Sle m u v = Err (left Order)
-pointers_compared Sgt m u v = Err (left Order)
-pointers_compared Sge m u v = Err (left Order)
+pointers_compared Slt m u v = Err (Left Order)
+pointers_compared Sle m u v = Err (Left Order)
+pointers_compared Sgt m u v = Err (Left Order)
+pointers_compared Sge m u v = Err (Left Order)
 
 -- null and functions can be moved by nothing alone
 abbrev pub unmoved : ℕ → Value → Answer Value
-unmoved by v = if nat_eq (by % 2 ^ 64) 0 then Ok v else Err (left Gep)
+unmoved by v = if nat_eq (by % 2 ^ 64) 0 then Ok v else Err (Left Gep)
 
 -- a pointer so many bytes on, modulo 2^64
 abbrev pub moved : ℕ → Value → Answer Value
 moved by (At o d) = Ok (At o ((d + by) % 2 ^ 64))
 moved by Null = unmoved by Null
 moved by (Fun f) = unmoved by (Fun f)
-moved by (Num w n) = Err malformed
+moved by (Num w n) = Err Malformed

@@ -8,7 +8,7 @@ use Rattle.ir_core.specs.declared.module.Function.{Function}
 use Rattle.ir_core.specs.declared.module.Module.{Module}
 use Rattle.ir_core.specs.declared.memory.Value.{Value}
 use Rattle.ir_core.specs.declared.memory.Value.TheVariants.{Num, Null}
-use Rattle.ir_core.specs.Stops.{malformed}
+use Rattle.ir_core.specs.Stops.{Malformed, ending_of}
 use Rattle.ir_core.specs.Memory.{Memory}
 use Rattle.ir_core.specs.Globals.{first_objects}
 use Rattle.ir_core.specs.State.{Frame, State, source_moment}
@@ -27,12 +27,12 @@ standing objects frames ending = record { frames = frames; objects = objects; pr
 -- the first call, of the function of that number
 abbrev pub start_in : Module → ℕ → Option Function → State
 start_in m number (Some f) = standing (first_objects m) (first_frame number f first_arguments None ∷ []) Going
-start_in m number None = standing [] [] malformed
+start_in m number None = standing [] [] (ending_of Malformed)
 
 -- the first call, where there is a `main`
 abbrev pub start_at : Module → Option ℕ → State
 start_at m (Some number) = start_in m number (slice_get m.functions number)
-start_at m None = standing [] [] malformed
+start_at m None = standing [] [] (ending_of Malformed)
 
 -- before the first instruction of `main`; a module without one, which isn't valid, is left at once
 unfoldable pub source_start : Module → State

@@ -4,7 +4,7 @@ use Rattle.behavior.specs.Ending.{Ending, Going}
 use Rattle.behavior.specs.Moment.{Moment}
 use Rattle.ir_core.specs.declared.memory.Value.{Value}
 use Rattle.ir_core.specs.Memory.{Memory}
-use Rattle.ir_core.specs.Stops.{Answer}
+use Rattle.ir_core.specs.Stops.{Answer, ending_of}
 
 -- a value that a local was given
 pub record Local : Type 0 where
@@ -72,7 +72,7 @@ turned s (Ok t) = record {
   taken = taken_with s.taken t.exchange;
   ending = Going;
 }
-turned s (Err ending) = record s { ending = ending }
+turned s (Err stop) = record s { ending = ending_of stop }
 
 -- the locals once one more was given a value
 abbrev pub given : Option (List ℕ) → Value → List Local → List Local

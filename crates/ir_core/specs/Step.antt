@@ -1,7 +1,7 @@
 -- One step of a module: an instruction, or a terminator with the phis of the edge that it takes.
 use Rattle.std.specs.Prelude.{ℕ, ◌+◌, ◌*◌, List, [], ◌∷◌, nat_eq, length, map, slice_get, Option, Some, None, Ok, Err, if◌then◌else◌}
 use Rattle.rd_num.specs.declared.width.Width.TheVariants.{W1}
-use Rattle.behavior.specs.Ending.{Trap, if_going}
+use Rattle.behavior.specs.Ending.{if_going}
 use Rattle.ir_core.specs.declared.instruction.BinOp.{BinOp}
 use Rattle.ir_core.specs.declared.instruction.Pred.{Pred}
 use Rattle.ir_core.specs.declared.instruction.CastOp.{CastOp}
@@ -19,7 +19,7 @@ use Rattle.ir_core.specs.declared.module.Module.{Module}
 use Rattle.ir_core.specs.declared.memory.Value.{Value}
 use Rattle.ir_core.specs.declared.memory.Value.TheVariants.{Num, At}
 use Rattle.ir_core.specs.Names.{same_name, number_where, first_where}
-use Rattle.ir_core.specs.Stops.{Answer, after, found_or, malformed}
+use Rattle.ir_core.specs.Stops.{Trap, Answer, after, found_or, Malformed}
 use Rattle.ir_core.specs.Kinds.{Kind, Number, Pointer, kind_of, truth}
 use Rattle.ir_core.specs.Arithmetic.{binary, compared, cast}
 use Rattle.ir_core.specs.Shapes.{shape_of}
@@ -32,23 +32,23 @@ use Rattle.ir_core.specs.Calls.{target_of, called, returned}
 -- two values of a kind by an operation
 abbrev pub binary_value : BinOp → Kind → Value → Value → Answer Value
 binary_value op (Number w) (Num u a) (Num v b) = after (binary op w a b) (λ n. Ok (Num w n))
-binary_value op kind a b = Err malformed
+binary_value op kind a b = Err Malformed
 
 -- two values of a kind compared
 abbrev pub compared_value : Memory → Pred → Kind → Value → Value → Answer Value
 compared_value objects pred (Number w) (Num u a) (Num v b) = Ok (truth (compared pred w a b))
 compared_value objects pred Pointer a b = after (pointers_compared pred objects a b) (λ holds. Ok (truth holds))
-compared_value objects pred kind a b = Err malformed
+compared_value objects pred kind a b = Err Malformed
 
 -- a value as one of another width
 abbrev pub cast_value : CastOp → Kind → Kind → Value → Answer Value
 cast_value op (Number from) (Number to) (Num v n) = Ok (Num to (cast op from to n))
-cast_value op from to v = Err malformed
+cast_value op from to v = Err Malformed
 
 -- one of two values, by a truth value
 abbrev pub selected : Value → Value → Value → Answer Value
 selected (Num w n) taken other = Ok (if nat_eq n 0 then other else taken)
-selected condition taken other = Err malformed
+selected condition taken other = Err Malformed
 
 -- the value of an instruction that gives one and changes nothing else
 abbrev pub result_of : Module → Memory → List Local → Op → Answer Value
@@ -61,7 +61,7 @@ result_of m objects locals (Freeze ty a) = value_of m locals (kind_of ty) a
 result_of m objects locals (Load ty p) = after (value_of m locals Pointer p) (λ x. load_at objects (kind_of ty) x)
 result_of m objects locals (Gep ty p indices) =
     after (value_of m locals Pointer p) (λ x. after (values_of m locals indices) (λ is. after (index_words is) (λ ns. after (bytes_to m ty ns) (λ by. moved by x))))
-result_of m objects locals other = Err malformed
+result_of m objects locals other = Err Malformed
 
 -- the call once the instruction is done
 abbrev pub past : Frame → Frame
@@ -111,7 +111,7 @@ choices_of (i ∷ is) = choices_with i.result i.op (choices_of is)
 
 -- the first entry of the block from which the edge comes
 abbrev pub chosen : Module → List Local → List ℕ → Choice → Answer Value
-chosen m locals from c = after (found_or malformed (first_where (λ (e : Entry). same_name e.from from) c.entries)) (λ e. value_of m locals c.kind e.value)
+chosen m locals from c = after (found_or Malformed (first_where (λ (e : Entry). same_name e.from from) c.entries)) (λ e. value_of m locals c.kind e.value)
 
 -- all phis read at once: none sees what another gives
 abbrev pub given_at_once : Module → List Local → List ℕ → List Choice → Answer (List Local)
@@ -127,18 +127,18 @@ in_block m s f callers from number b =
 -- along the edge to a label
 abbrev pub goes_to : Module → State → Frame → List Frame → Function → List ℕ → List ℕ → Answer Turn
 goes_to m s f callers fn from label =
-    after (found_or malformed (number_where (λ (b : Block). same_name b.label label) fn.blocks)) (λ number.
-    after (found_or malformed (slice_get fn.blocks number)) (λ b. in_block m s f callers from number b))
+    after (found_or Malformed (number_where (λ (b : Block). same_name b.label label) fn.blocks)) (λ number.
+    after (found_or Malformed (slice_get fn.blocks number)) (λ b. in_block m s f callers from number b))
 
 -- one of two labels, by a truth value
 abbrev pub if_true : Value → List ℕ → List ℕ → Answer (List ℕ)
 if_true (Num w n) taken other = Ok (if nat_eq n 0 then other else taken)
-if_true condition taken other = Err malformed
+if_true condition taken other = Err Malformed
 
 -- a label where two numbers are equal, and otherwise what other cases give
 abbrev pub to_if_equal : Value → Value → List ℕ → Answer (List ℕ) → Answer (List ℕ)
 to_if_equal (Num u a) (Num w b) to others = if nat_eq a b then Ok to else others
-to_if_equal x y to others = Err malformed
+to_if_equal x y to others = Err Malformed
 
 -- the label of the first case that is the number, or the default
 abbrev pub switched : Module → Value → List ℕ → List Case → Answer (List ℕ)
@@ -163,10 +163,10 @@ turn_at m input s f callers fn b None = terminator m s f callers fn b.label b.en
 
 -- what the innermost call does next
 abbrev pub turn_of : Module → List ℕ → State → List Frame → Answer Turn
-turn_of m input s [] = Err malformed
+turn_of m input s [] = Err Malformed
 turn_of m input s (f ∷ callers) =
-    after (found_or malformed (slice_get m.functions f.function)) (λ fn.
-    after (found_or malformed (slice_get fn.blocks f.block)) (λ b. turn_at m input s f callers fn b (slice_get b.insts f.next)))
+    after (found_or Malformed (slice_get m.functions f.function)) (λ fn.
+    after (found_or Malformed (slice_get fn.blocks f.block)) (λ b. turn_at m input s f callers fn b (slice_get b.insts f.next)))
 
 -- a run that has stopped stays as it is
 unfoldable pub source_step : Module → List ℕ → State → State

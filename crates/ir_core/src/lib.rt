@@ -13,6 +13,8 @@ ghost use Rattle.behavior.specs.System.{AddsAtMostOne};
 ghost use Rattle.ir_core.specs.declared.module.Module.{Module};
 ghost use Rattle.ir_core.specs.State.{State, source_moment};
 ghost use Rattle.ir_core.specs.Step.{source_step};
+ghost use Rattle.ir_core.specs.Stops.{IsModuleEnding};
+ghost use Rattle.ir_core.specs.Run.{source_run};
 
 pub mod init;
 pub mod instruction;
@@ -28,8 +30,9 @@ pub const MAX_CALLS: u32 = 1024;
 pub const MAX_PARAMETERS: u32 = 6;
 
 /// What every run of a module has: a step prints at most one byte or takes at most one and then the
-/// run goes on, and a run that has stopped stays as it is.
+/// run goes on, a run that has stopped stays as it is, and none comes to an ending of machines alone.
 pub fn run_laws()
     ensures adds { (m : Module) (input : List ℕ) (s : State) → AddsAtMostOne (source_moment s) (source_moment (source_step m input s)) }
     ensures stays { (m : Module) (input : List ℕ) (s : State) → HasStopped (source_moment s) → source_step m input s ≡ s }
+    ensures endings { (m : Module) (input : List ℕ) (n : ℕ) → IsModuleEnding (source_run m input n).ending }
 {}

@@ -3,3 +3,4 @@ pub mod Kept
 pub mod Rows
 pub mod Words
 pub mod Exact
+mod Worked

@@ -1,16 +1,28 @@
 -- The object of a narrow text is compiled from the text's module.
-use Rattle.std.proofs.Common.{◌≡◌, ℕ, ◌^◌, ◌<◌, List, refl, sym, subst}
+use Rattle.std.proofs.Common.{◌≡◌, ◌≢◌, ℕ, ◌^◌, ◌<◌, List, false, refl, sym, subst}
+use Rattle.behavior.specs.Ending.{Strayed, is_left}
+use Rattle.behavior.specs.Moment.{AreBytes}
+use Rattle.behavior.specs.Preserves.{Preserves}
+use Rattle.behavior.proofs.Laws.{straight_kept}
+use Rattle.ir_core.specs.Run.{source_run}
+use Rattle.ir_core.proofs.Laws.{run_straight}
+use Rattle.obj_core.specs.SymbolicMachine.{symbolic_behavior}
+use Rattle.ir_narrow.specs.NarrowText.{Program}
 use Rattle.ir_narrow.specs.declared.narrow.Narrow.{Narrow}
 use Rattle.ir_narrow.specs.Resolved.{SpellsNarrow, module_of}
 use Rattle.obj_core.specs.declared.object.Object.{Object}
 use Rattle.rd_compile.specs.NarrowCode.{IsFit, narrow_object}
 use Rattle.rd_compile.specs.Compiled.{IsCompiledFrom, CompiledText}
 use Rattle.rd_compile.proofs.Fit.{fit}
-use Rattle.rd_compile.proofs.Narrow.{narrow_preserves}
+use Rattle.rd_compile.proofs.Narrow.{narrow_preserves, narrow_within, narrow_defined}
 use Rattle.rd_compile.proofs.WellFormed.{narrow_well_formed}
 
 pub fit_text : (text : List ℕ) (n : Narrow) → SpellsNarrow text n → IsFit n
 fit_text text n x = fit x.program n x.spelled.narrow x.resolved
+
+-- a module that has a meaning on every input gives an object that never strays
+narrow_straight : (p : Program) (o : Object) → ((input : List ℕ) → AreBytes input → (k : ℕ) → is_left (source_run (module_of p) input k).ending ≡ false) → Preserves (source_run (module_of p)) (symbolic_behavior o) → (input : List ℕ) → AreBytes input → (n : ℕ) → (symbolic_behavior o input n).ending ≢ Strayed
+narrow_straight p o meant same input bytes n = straight_kept (source_run (module_of p)) (symbolic_behavior o) input bytes (meant input bytes) (run_straight (module_of p) input) same n
 
 pub compiled_text : (text : List ℕ) (n : Narrow) (slot_seed reg_seed : ℕ) (o : Object) → SpellsNarrow text n → slot_seed < 2 ^ 64 → reg_seed < 2 ^ 64 → o ≡ narrow_object slot_seed reg_seed n → CompiledText text slot_seed reg_seed o
 compiled_text text n slot_seed reg_seed o x slot_fits reg_fits e =
@@ -23,4 +35,11 @@ compiled_text text n slot_seed reg_seed o x slot_fits reg_fits e =
       plain = (refl, (refl, (refl, (refl, (refl, (refl, (refl, tt)))))));
       preserves = narrow_preserves slot_seed reg_seed x.program n f.few x.resolved;
     } in
-    subst (CompiledText text slot_seed reg_seed) (sym e) (record { program = x.program; spelled = x.spelled; compiled = c })
+    subst (CompiledText text slot_seed reg_seed) (sym e) (record {
+      program = x.program;
+      spelled = x.spelled;
+      compiled = c;
+      meant = narrow_defined slot_seed reg_seed x.program n f.few x.resolved;
+      within = narrow_within slot_seed reg_seed x.program n f.few x.resolved;
+      straight = narrow_straight x.program (narrow_object slot_seed reg_seed n) (narrow_defined slot_seed reg_seed x.program n f.few x.resolved) c.preserves;
+    })

@@ -6,7 +6,7 @@ use Rattle.ir_core.specs.declared.memory.Value.TheVariants.{Num}
 use Rattle.ir_core.specs.declared.memory.Reason.TheVariants.{Unset}
 use Rattle.ir_core.specs.Names.{same_name, first_where}
 use Rattle.ir_core.specs.State.{Local}
-use Rattle.ir_core.specs.Stops.{found_or, left}
+use Rattle.ir_core.specs.Stops.{Left, found_or}
 use Rattle.ir_core.specs.Operands.{local_value}
 use Rattle.ir_narrow.specs.Pieces.{same}
 use Rattle.ir_narrow.specs.Values.{place_of}
@@ -28,14 +28,14 @@ module _ (results : ℕ) (few : results ≤ 4000) (names : List (List ℕ)) (loc
 
   newest : (q : List ℕ) → q ≡ name → local_value more q ≡ Ok (Num W32 w)
   newest q e =
-      ap (local_value more) e ∙ ap (λ b. found_or (left Unset) (option_map (λ (l : Local). l.value) (if b then Some (record { name = name; value = Num W32 w }) else first_where (λ (l : Local). same_name l.name name) locals))) (same_self name)
+      ap (local_value more) e ∙ ap (λ b. found_or (Left Unset) (option_map (λ (l : Local). l.value) (if b then Some (record { name = name; value = Num W32 w }) else first_where (λ (l : Local). same_name l.name name) locals))) (same_self name)
 
   older : (q : List ℕ) (j : ℕ) → place_of names q ≡ Some j → (b : Bool) → same_name name q ≡ b → local_value more q ≡ local_value locals q
   older q j e true t =
       let s : name ≡ q = same_is name q t in
       let none : place_of names q ≡ None = ap (place_of names) (sym s) ∙ fresh in
       absurd (cc)
-  older q j e false t = ap (λ b. found_or (left Unset) (option_map (λ (l : Local). l.value) (if b then Some (record { name = name; value = Num W32 w }) else first_where (λ (l : Local). same_name l.name q) locals))) t
+  older q j e false t = ap (λ b. found_or (Left Unset) (option_map (λ (l : Local). l.value) (if b then Some (record { name = name; value = Num W32 w }) else first_where (λ (l : Local). same_name l.name q) locals))) t
 
   kept : (q : List ℕ) (j : ℕ) → place_of names q ≡ Some j → Result results names locals bytes q j → Result results (names ++ name ∷ []) more written q j
   kept q j e r =

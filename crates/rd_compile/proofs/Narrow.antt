@@ -1,11 +1,11 @@
 -- A narrow program's object does what its module means.
-use Rattle.std.proofs.Common.{◌≡◌, ℕ, ◌+◌, ◌*◌, ◌%◌, ◌^◌, ◌<◌, ◌≤◌, List, [], ◌∷◌, ◌++◌, length, map, Option, Some, None, Ok, refl, sym, ◌∙◌, ap, subst, arith, inl, inr, append_assoc, length-append}
+use Rattle.std.proofs.Common.{◌≡◌, ℕ, zero, suc, ◌+◌, ◌*◌, ◌%◌, ◌^◌, ◌<◌, ◌≤◌, ◌⊎◌, false, List, [], ◌∷◌, ◌++◌, length, map, Option, Some, None, Ok, refl, sym, ◌∙◌, ap, subst, arith, inl, inr, append_assoc, length-append}
 use Rattle.std.specs.Prelude.{slice_get, codes}
 use Rattle.std.proofs.lemmas.List.{append-nil, length-map, map-append}
-use Rattle.behavior.specs.Ending.{Going, Ended}
+use Rattle.behavior.specs.Ending.{Going, Ended, is_left}
 use Rattle.behavior.specs.Moment.{Agrees, HasStopped, AreBytes}
-use Rattle.behavior.specs.Preserves.{Preserves}
-use Rattle.behavior.specs.System.{System}
+use Rattle.behavior.specs.Preserves.{Preserves, ReachesWithin}
+use Rattle.behavior.specs.System.{System, iter}
 use Rattle.behavior.specs.Simulation.{Met, Follows, Starts}
 use Rattle.behavior.proofs.Stretch.{comes_wider, met_by, starts_by}
 use Rattle.behavior.proofs.Laws.{agrees_refl}
@@ -21,7 +21,7 @@ use Rattle.ir_core.specs.Operands.{value_of as module_value}
 use Rattle.ir_core.specs.State.{Local, Frame, State as Source, source_moment}
 use Rattle.ir_core.specs.Step.{source_step}
 use Rattle.ir_core.specs.Run.{source_start, source_run}
-use Rattle.ir_core.proofs.Laws.{source_system, source_gradual, module_simulates}
+use Rattle.ir_core.proofs.Laws.{source_system, source_gradual, step_stays, module_simulates, module_simulates_within}
 use Rattle.ir_core.proofs.Steps.{Stands, binary_here, last_return_here}
 use Rattle.ir_core.proofs.Types.{kind-int}
 use Rattle.x86_core.specs.declared.flags.Flags.{Flags}
@@ -152,8 +152,9 @@ module _ (slot_seed reg_seed : ℕ) (p : Program) (n : Narrow) (few : length n.i
   abbrev B : List ℕ → System (State Place)
   B input = machine_system (λ _. symbolic_fetch (narrow_object slot_seed reg_seed n)) (symbolic_land (narrow_object slot_seed reg_seed n))
 
+  -- the step is met, and the module's run has a meaning after it
   abbrev Meets : List ℕ → Source → State Place → Type 0
-  Meets input a b = Met (A input) (B input) (Stage input) (λ _. 0) 4 a (source_step m input a) b
+  Meets input a b = Met (A input) (B input) (Stage input) (λ _. 0) 4 a (source_step m input a) b × (is_left (source_step m input a).ending ≡ false)
 
   names_long : (before : List Row) → length (names_of before) ≡ length before
   names_long before = length-map before (λ (r : Row). r.name)
@@ -193,10 +194,12 @@ module _ (slot_seed reg_seed : ℕ) (p : Program) (n : Narrow) (few : length n.i
       let stood = stands_in (frame_code results ++ instructions_code 0 done) (end_code n.result) [] (instr, (omega arith, (omega arith, (tt, tt)))) around in
       let whole : offset done + length (spelled (end_code n.result)) ≡ length (main_bytes n) = sym (length-spelled-append (frame_code results ++ instructions_code 0 done) (end_code n.result)) ∙ ap (λ c. length (spelled c)) (sym (around ∙ ap (λ c. (frame_code results ++ instructions_code 0 done) ++ c) (append-nil (end_code n.result)))) in
       let comes = end_comes slot_seed reg_seed n few input (offset done) rax rcx 0 x.number flags bytes n.result stack in_object stood whole in
-      let end = ended slot_seed reg_seed n few input x.number rcx (offset done) flags bytes in
-      met_by (A input) (B input) (Stage input) (λ _. 0) 4 s (source_step m input s) (spot slot_seed reg_seed n few input (offset done) rax rcx 0 flags bytes) end
-      (comes_wider _ 4 4 1 4 _ _ (omega arith) (omega arith) comes)
-      (inr (subst (λ t. HasStopped (source_moment t) × Agrees (source_moment t) (moment_of end)) (sym returns) (refl, agrees_refl (moment_of end))))
+      let end = ended slot_seed reg_seed n few input x.number rcx (offset done) flags bytes in (
+        met_by (A input) (B input) (Stage input) (λ _. 0) 4 s (source_step m input s) (spot slot_seed reg_seed n few input (offset done) rax rcx 0 flags bytes) end
+            (comes_wider _ 4 4 1 4 _ _ (omega arith) (omega arith) comes)
+            (inr (subst (λ t. HasStopped (source_moment t) × Agrees (source_moment t) (moment_of end)) (sym returns) (refl, agrees_refl (moment_of end)))),
+        subst (λ (t : Source). is_left t.ending ≡ false) (sym returns) refl,
+      )
 
   -- an instruction: its result goes to its local and to its home
   instruction_meets : (input : List ℕ) (before : List Row) (r : Row) (rows : List Row) (done : List Instruction) (i : Instruction) (todo : List Instruction) (locals : List Local) (bytes : List ℕ) (rax rcx : ℕ) (flags : Flags) → p.rows ≡ before ++ r ∷ rows → n.instructions ≡ done ++ i ∷ todo → length before ≡ length done →
@@ -260,10 +263,12 @@ module _ (slot_seed reg_seed : ℕ) (p : Program) (n : Narrow) (few : length n.i
         held = subst (λ ns. Held results ns (record { name = r.name; value = Num W32 w } ∷ locals) (written results few names locals bytes stack r.name match.fresh below w (result_small i.operation a.number b.number))) (sym (map-append (λ (q : Row). q.name) before (r ∷ []))) x;
         source = ap (λ q. source_at q (record { name = r.name; value = Num W32 w } ∷ locals)) (sym (length-append before (r ∷ [])));
         target = ap (λ q. spot slot_seed reg_seed n few input q w b.number 0 changed (written results few names locals bytes stack r.name match.fresh below w (result_small i.operation a.number b.number))) ends;
-      } in
-      met_by (A input) (B input) (Stage input) (λ _. 0) 4 s (source_step m input s) (spot slot_seed reg_seed n few input (offset done) rax rcx 0 flags bytes) t
-      (comes_wider _ 4 4 1 4 _ _ (omega arith) (omega arith) comes.1)
-      (inl (subst (λ q. Stage input q t) (sym steps) stage))
+      } in (
+        met_by (A input) (B input) (Stage input) (λ _. 0) 4 s (source_step m input s) (spot slot_seed reg_seed n few input (offset done) rax rcx 0 flags bytes) t
+            (comes_wider _ 4 4 1 4 _ _ (omega arith) (omega arith) comes.1)
+            (inl (subst (λ q. Stage input q t) (sym steps) stage)),
+        subst (λ (q : Source). is_left q.ending ≡ false) (sym steps) refl,
+      )
 
   step_meets : (input : List ℕ) (a : Source) (b : State Place) → Stage input a b → Meets input a b
   step_meets input a b g =
@@ -285,7 +290,7 @@ module _ (slot_seed reg_seed : ℕ) (p : Program) (n : Narrow) (few : length n.i
   follows input bytes = record {
     gradual = source_gradual m input;
     shown = shown input;
-    step = λ a b g going. inr (step_meets input a b g);
+    step = λ a b g going. inr (step_meets input a b g).0;
   }
 
   begins_source : source_start m ≡ source_at 0 []
@@ -318,5 +323,47 @@ module _ (slot_seed reg_seed : ℕ) (p : Program) (n : Narrow) (few : length n.i
       (subst (λ q. Agrees (source_moment q) (moment_of (symbolic_start (narrow_object slot_seed reg_seed n) input))) (sym begins_source) (agrees_refl (source_moment (source_at 0 []))))
       (comes_wider _ 4 4 0 4 _ _ (omega arith) (omega arith) x.1) (inl stage)
 
+  pub narrow_within : ReachesWithin 4 4 (source_run m) (symbolic_behavior (narrow_object slot_seed reg_seed n))
+  narrow_within = module_simulates_within m B (λ input. symbolic_start (narrow_object slot_seed reg_seed n) input) Stage (λ _ _. 0) 4 4 follows starts
+
   pub narrow_preserves : Preserves (source_run m) (symbolic_behavior (narrow_object slot_seed reg_seed n))
   narrow_preserves = module_simulates m B (λ input. symbolic_start (narrow_object slot_seed reg_seed n) input) Stage (λ _ _. 0) 4 4 follows starts
+
+  -- a run of the module stands at an instruction or has ended, and has a meaning
+  record On (input : List ℕ) (a : Source) : Type 0 where
+    meant : is_left a.ending ≡ false
+    stage : ((b : State Place) × Stage input a b) ⊎ HasStopped (source_moment a)
+
+  on_step : (input : List ℕ) (a : Source) → On input a → On input (source_step m input a)
+  on_step input a x = elim x.stage [
+    | inl g ↦
+        let y = step_meets input a g.0 g.1 in
+        record {
+          meant = y.1;
+          stage = elim y.0.lands [
+            | inl h ↦ inl (iter (B input).step y.0.count g.0, h)
+            | inr h ↦ inr h.0
+          ];
+        }
+    | inr h ↦ subst (On input) (sym (step_stays m input a h)) x
+  ]
+
+  on_steps : (input : List ℕ) (k : ℕ) (a : Source) → On input a → On input (iter (source_step m input) k a)
+  on_steps input zero a x = x
+  on_steps input (suc k) a x = on_steps input k (source_step m input a) (on_step input a x)
+
+  on_start : (input : List ℕ) → AreBytes input → On input (source_start m)
+  on_start input bytes =
+      let x = starts input bytes in
+      record {
+        meant = subst (λ (q : Source). is_left q.ending ≡ false) (sym begins_source) refl;
+        stage = elim x.lands [
+          | inl h ↦ inl (iter (B input).step x.count (symbolic_start (narrow_object slot_seed reg_seed n) input), h)
+          | inr h ↦ inr h.0
+        ];
+      }
+
+  -- the module has a meaning on every input
+  pub narrow_defined : (input : List ℕ) → AreBytes input → (k : ℕ) → is_left (source_run m input k).ending ≡ false
+  unfolding source_run
+  narrow_defined input bytes k = (on_steps input k (source_start m) (on_start input bytes)).meant

@@ -1,5 +1,9 @@
 -- What each command does to the outside, answer by answer.
 use Rattle.std.specs.Prelude.{◌≡◌, ℕ, ◌⊎◌, List, Option, Some, None}
+use Rattle.behavior.specs.Preserves.{Preserves}
+use Rattle.ir_core.specs.Run.{source_run}
+use Rattle.ir_narrow.specs.Resolved.{module_of}
+use Rattle.machine_core.specs.Machine.{machine_behavior}
 use Rattle.rd_io.specs.Outside.{Gets, GetsPart}
 use Rattle.rd_io.specs.Causes.{Rose}
 use Rattle.ir_narrow.specs.NarrowText.{Program, IsNarrowText}
@@ -26,11 +30,13 @@ pub record IsObjectOf (text : List ℕ) (slot_seed reg_seed : ℕ) (bytes : List
   pub compiled : CompiledText text slot_seed reg_seed object
   pub spelled : bytes ≡ object_bytes object
 
--- bytes are the file of the image of such an object
+-- bytes are the file of the image of such an object: the image prints, takes and ends as the module means, in both
+-- directions, and every run of it shows what the object's run shows, whatever the layout seed
 pub record IsImageOf (text : List ℕ) (slot_seed reg_seed layout_seed : ℕ) (bytes : List ℕ) : Type 0 where
   pub object : Object
   pub compiled : CompiledText text slot_seed reg_seed object
   pub spelled : bytes ≡ elf_bytes (layout object layout_seed)
+  pub means : Preserves (source_run (module_of compiled.program)) (machine_behavior (layout object layout_seed))
   pub hides : Hides object layout_seed
 
 abbrev pub IsMade : List ℕ → ℕ → ℕ → Made → List ℕ → Type 0

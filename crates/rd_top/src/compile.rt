@@ -58,6 +58,7 @@ fn image_bytes(alloc: Global, object: Object, layout_seed: u64) -> Result<List<u
 }
 
 /// The bytes of what is made of a text.
+#[tactic(auto, using(crate::proofs::Made::image_made))]
 fn bytes_of(
     alloc: Global,
     text: &[u8],
