@@ -70,6 +70,7 @@ module _ (image : Image) (n : ℕ) (old new : Machine) (starts : (xs : List ℕ)
       record {
         taken = k;
         early = early;
+        prints = subst (λ p. 0 < length p) piece got.some;
         part = got.written.0;
         begins = subst (λ p. IsPrefixOf got.written.0 p) piece got.written.1.0;
         met = record { left = left; written = got.written.1.1 };

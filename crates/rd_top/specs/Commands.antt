@@ -1,10 +1,9 @@
 -- What each command does to the outside, answer by answer.
-use Rattle.std.specs.Prelude.{◌≡◌, ℕ, ◌⊎◌, List, Option, Some, None}
+use Rattle.std.specs.Prelude.{◌≡◌, ◌≢◌, ℕ, ◌⊎◌, List, Option, Some, None}
 use Rattle.behavior.specs.Preserves.{Preserves}
 use Rattle.ir_core.specs.Run.{source_run}
 use Rattle.ir_narrow.specs.Resolved.{module_of}
 use Rattle.machine_core.specs.Machine.{machine_behavior}
-use Rattle.rd_io.specs.Outside.{Gets, GetsPart}
 use Rattle.rd_io.specs.Causes.{Rose}
 use Rattle.ir_narrow.specs.NarrowText.{Program, IsNarrowText}
 use Rattle.obj_core.specs.declared.object.Object.{Object}
@@ -90,6 +89,10 @@ Means held (Some (Build file slot_seed reg_seed layout_seed)) files files2 input
 Means held (Some (Lay file layout_seed)) files files2 input input2 out out2 a = LayMeans (held file) file layout_seed files files2 out out2 a × (input2 ≡ input)
 Means held (Some (Run file steps)) files files2 input input2 out out2 a = RunMeans (held file) file steps files files2 input input2 out out2 a
 
+-- every answer but that a file failed leaves the count of faults and the name of the last file that failed: no other file was read
+abbrev pub KeepsFiles : FilesTold → FilesTold → Answer → Type 0
+KeepsFiles files files2 a = a ≢ File → files2 ≡ files
+
 -- the line is on the sink for messages, or a fault came and a prefix of it is
-abbrev pub Says : Option (List ℕ) → Option (List ℕ) → ℕ → ℕ → List ℕ → Type 0
-Says old new before now line = Gets old new line ⊎ (Rose before now × GetsPart old new line)
+abbrev pub Says : OutTold → OutTold → List ℕ → Type 0
+Says err err2 line = Wrote err err2 line ⊎ (Rose err.faults err2.faults × WrotePart err err2 line)

@@ -47,10 +47,11 @@ pub record CutByInput (image : Image) (n : ℕ) (xs : List ℕ) (input2 : InputT
   pub met : Met (stands_after image xs taken) [] input2 out out2
   pub total : Counts out.total out2.total (length (stands_after image xs taken).printed)
 
--- a prefix of what an instruction prints came out, and all before was done
+-- a prefix of what an instruction prints, at least one byte, came out, and all before was done
 pub record CutByOutput (image : Image) (n : ℕ) (xs : List ℕ) (input2 : InputTold) (out out2 : OutTold) : Type 0 where
   pub taken : ℕ
   pub early : taken < n
+  pub prints : 0 < length (prints_next (stands_after image xs taken))
   pub part : List ℕ
   pub begins : IsPrefixOf part (prints_next (stands_after image xs taken))
   pub met : Met (stands_after image xs taken) part input2 out out2

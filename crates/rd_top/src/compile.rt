@@ -2,7 +2,7 @@
 
 ghost use Rattle.std.specs.Prelude.{◌≡◌, Err, IfOk};
 ghost use Rattle.ir_narrow.specs.NarrowText.{Program, IsNarrowText};
-ghost use Rattle.rd_top.specs.Commands.{CompileMeans, IsMade};
+ghost use Rattle.rd_top.specs.Commands.{CompileMeans, IsMade, KeepsFiles};
 ghost use Rattle.rd_top.specs.Laying.{Hides};
 ghost use Rattle.obj_core.specs.Object.{object_bytes as object_bytes_of};
 ghost use Rattle.obj_core.specs.WellFormed.{IsWellFormed};
@@ -90,7 +90,8 @@ pub fn compile_file<F: Files, O: Sink>(
     files: &mut F,
     out: &mut O,
 ) -> Answer
-    ensures { CompileMeans (F.held files.old file.now) file.now slot_seed reg_seed made (record { lost = F.lost files.old; faults = F.faults files.old }) (record { lost = F.lost files.new; faults = F.faults files.new }) (record { written = O.written out.old; total = O.total out.old; faults = O.faults out.old }) (record { written = O.written out.new; total = O.total out.new; faults = O.faults out.new }) result }
+    ensures means { CompileMeans (F.held files.old file.now) file.now slot_seed reg_seed made (record { lost = F.lost files.old; faults = F.faults files.old }) (record { lost = F.lost files.new; faults = F.faults files.new }) (record { written = O.written out.old; total = O.total out.old; faults = O.faults out.old }) (record { written = O.written out.new; total = O.total out.new; faults = O.faults out.new }) result }
+    ensures files { KeepsFiles (record { lost = F.lost files.old; faults = F.faults files.old }) (record { lost = F.lost files.new; faults = F.faults files.new }) result }
 {
     let text = match files.read(alloc, file, TEXT_LIMIT) {
         Ok(text) => text,

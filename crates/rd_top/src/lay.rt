@@ -1,6 +1,7 @@
 //! `lay`: the image of an object's file.
 
 ghost use Rattle.std.specs.Prelude.{IfOk, IfErr};
+ghost use Rattle.rd_top.specs.Commands.{KeepsFiles};
 ghost use Rattle.rd_top.specs.Laying.{IsLaid, LayMeans, Refuses};
 
 use crate::answer::Answer;
@@ -55,7 +56,8 @@ pub fn lay_file<F: Files, O: Sink>(
     files: &mut F,
     out: &mut O,
 ) -> Answer
-    ensures { LayMeans (F.held files.old file.now) file.now layout_seed (record { lost = F.lost files.old; faults = F.faults files.old }) (record { lost = F.lost files.new; faults = F.faults files.new }) (record { written = O.written out.old; total = O.total out.old; faults = O.faults out.old }) (record { written = O.written out.new; total = O.total out.new; faults = O.faults out.new }) result }
+    ensures means { LayMeans (F.held files.old file.now) file.now layout_seed (record { lost = F.lost files.old; faults = F.faults files.old }) (record { lost = F.lost files.new; faults = F.faults files.new }) (record { written = O.written out.old; total = O.total out.old; faults = O.faults out.old }) (record { written = O.written out.new; total = O.total out.new; faults = O.faults out.new }) result }
+    ensures files { KeepsFiles (record { lost = F.lost files.old; faults = F.faults files.old }) (record { lost = F.lost files.new; faults = F.faults files.new }) result }
 {
     let bytes = match files.read(alloc, file, OBJECT_LIMIT) {
         Ok(bytes) => bytes,

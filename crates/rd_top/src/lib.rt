@@ -13,7 +13,7 @@
 #![tactic(auto)]
 
 ghost use Rattle.std.specs.Prelude.{◌≡◌, map, string_bytes};
-ghost use Rattle.rd_top.specs.Commands.{Means};
+ghost use Rattle.rd_top.specs.Commands.{KeepsFiles, Means};
 ghost use Rattle.rd_top.specs.Ends.{Ends, Tells};
 ghost use Rattle.rd_top.specs.Words.{reading_of};
 
@@ -41,7 +41,8 @@ fn work<F: Files, I: Source, O: Sink>(
     input: &mut I,
     out: &mut O,
 ) -> Answer
-    ensures { Means (F.held files.old) (reading_of (map string_bytes words.now)) (record { lost = F.lost files.old; faults = F.faults files.old }) (record { lost = F.lost files.new; faults = F.faults files.new }) (record { left = I.left input.old; ended = I.ended input.old; faults = I.faults input.old }) (record { left = I.left input.new; ended = I.ended input.new; faults = I.faults input.new }) (record { written = O.written out.old; total = O.total out.old; faults = O.faults out.old }) (record { written = O.written out.new; total = O.total out.new; faults = O.faults out.new }) result }
+    ensures means { Means (F.held files.old) (reading_of (map string_bytes words.now)) (record { lost = F.lost files.old; faults = F.faults files.old }) (record { lost = F.lost files.new; faults = F.faults files.new }) (record { left = I.left input.old; ended = I.ended input.old; faults = I.faults input.old }) (record { left = I.left input.new; ended = I.ended input.new; faults = I.faults input.new }) (record { written = O.written out.old; total = O.total out.old; faults = O.faults out.old }) (record { written = O.written out.new; total = O.total out.new; faults = O.faults out.new }) result }
+    ensures files { KeepsFiles (record { lost = F.lost files.old; faults = F.faults files.old }) (record { lost = F.lost files.new; faults = F.faults files.new }) result }
 {
     match read_words(words) {
         None => Answer::Words,

@@ -1,5 +1,6 @@
 //! `run`: an image's file, run for a number of instructions.
 
+ghost use Rattle.rd_top.specs.Commands.{KeepsFiles};
 ghost use Rattle.rd_top.specs.Running.{RunMeans, RunOf};
 
 use crate::answer::Answer;
@@ -44,7 +45,8 @@ pub fn run_file<F: Files, I: Source, O: Sink>(
     input: &mut I,
     out: &mut O,
 ) -> Answer
-    ensures { RunMeans (F.held files.old file.now) file.now steps (record { lost = F.lost files.old; faults = F.faults files.old }) (record { lost = F.lost files.new; faults = F.faults files.new }) (record { left = I.left input.old; ended = I.ended input.old; faults = I.faults input.old }) (record { left = I.left input.new; ended = I.ended input.new; faults = I.faults input.new }) (record { written = O.written out.old; total = O.total out.old; faults = O.faults out.old }) (record { written = O.written out.new; total = O.total out.new; faults = O.faults out.new }) result }
+    ensures means { RunMeans (F.held files.old file.now) file.now steps (record { lost = F.lost files.old; faults = F.faults files.old }) (record { lost = F.lost files.new; faults = F.faults files.new }) (record { left = I.left input.old; ended = I.ended input.old; faults = I.faults input.old }) (record { left = I.left input.new; ended = I.ended input.new; faults = I.faults input.new }) (record { written = O.written out.old; total = O.total out.old; faults = O.faults out.old }) (record { written = O.written out.new; total = O.total out.new; faults = O.faults out.new }) result }
+    ensures files { KeepsFiles (record { lost = F.lost files.old; faults = F.faults files.old }) (record { lost = F.lost files.new; faults = F.faults files.new }) result }
 {
     let bytes = match files.read(alloc, file, IMAGE_LIMIT) {
         Ok(bytes) => bytes,

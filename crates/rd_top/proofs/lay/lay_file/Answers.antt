@@ -3,8 +3,8 @@ use Rattle.rd_io.specs.declared.PutFail.TheVariants as put
 use Rattle.rd_top.proofs.Contents.{laid_part}
 use Rattle.rd_top.proofs.lay.lay_file.Goals as goal
 
-pub returns : goal.returns
-returns g c =
+pub returns-clause-means : goal.returns-clause-means
+returns-clause-means g c =
     inr (
     laid_part (g.F.Files.held c.args.files.now c.args.file.now) c.args.layout_seed
     (record { written = g.O.Sink.written c.args.out.now; total = g.O.Sink.total c.args.out.now; faults = g.O.Sink.faults c.args.out.now })

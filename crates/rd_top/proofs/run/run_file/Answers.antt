@@ -5,8 +5,8 @@ use Rattle.rd_top.proofs.Runs.{of_file}
 use Rattle.rd_top.specs.Running.{image_limit}
 use Rattle.rd_top.proofs.run.run_file.Goals as goal
 
-pub returns-in-Ok-read : goal.returns-in-Ok-read
-returns-in-Ok-read g c =
+pub returns-in-Ok-read-clause-means : goal.returns-in-Ok-read-clause-means
+returns-in-Ok-read-clause-means g c =
     of_file (g.F.Files.held c.args.files.now c.args.file.now) c.args.file.now c.in-Ok.bytes c.in-Ok-read.image c.args.steps
     (record { lost = g.F.Files.lost c.args.files.now; faults = g.F.Files.faults c.args.files.now })
     (record { lost = g.F.Files.lost c.read.new.self; faults = g.F.Files.faults c.read.new.self })
