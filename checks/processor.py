@@ -86,7 +86,7 @@ def division(rng):
     half = 1 << bits - 1
     if signed:
         by = rng.choice([1, 3, -2, -half, half - 1, rng.randrange(1, half)])
-        quotient = rng.choice([0, 1, -1, half - 1, 1 - half, rng.randrange(1 - half, half)])
+        quotient = rng.choice([0, 1, -1, half - 1, -half, rng.randrange(-half, half)])
         rest = rng.randrange(abs(by))
         number = quotient * by + (rest if quotient * by >= 0 else -rest)
     else:
@@ -121,20 +121,73 @@ def memory(rng):
     return code, at(opcode, w, reg, base, disp, always, front), base
 
 
+def push(r):
+    return rex(0, 0, r) + bytes([0x50 | r & 7])
+
+
+def pop(r):
+    return rex(0, 0, r) + bytes([0x58 | r & 7])
+
+
+def branch(opcode, by):
+    return opcode + struct.pack("<i", by)
+
+
+def to_r11(by):
+    """The address so many bytes behind this code, in r11: `call` to the next instruction tells where that stands."""
+    return branch(b"\xe8", 0) + pop(R11) + pair(b"\x81", 1, 0, R11) + struct.pack("<i", 9 + by)
+
+
 def stack(rng):
-    """A push and a pop, a call and a return, or a branch over an instruction."""
+    """Pushes, pops, calls, returns and branches in both directions, and which flags are known behind them where they write any."""
     a, b = rng.choice(OTHERS), rng.choice(OTHERS)
     over = set_word(rng.choice(OTHERS), rng.getrandbits(64))
-    pick = rng.randrange(4)
-    if pick == 0:
-        return rex(0, 0, a) + bytes([0x50 | a & 7]) + rex(0, 0, b) + bytes([0x58 | b & 7])
-    if pick == 1:
-        return b"\x0f" + bytes([0x80 + rng.choice(CONDITIONS)]) + struct.pack("<i", len(over)) + over
-    if pick == 2:
-        return b"\xe9" + struct.pack("<i", len(over)) + over
-    # call the instruction and the return behind the jump
-    body = over + b"\xc3"
-    return b"\xe8" + struct.pack("<i", 5) + b"\xe9" + struct.pack("<i", len(body)) + body
+    size, body = len(over), over + b"\xc3"
+    jmp, call = b"\xe9", b"\xe8"
+    return rng.choice([
+        (push(a) + pop(b), None),
+        (branch(b"\x0f" + bytes([0x80 + rng.choice(CONDITIONS)]), size) + over, None),
+        (branch(jmp, size) + over, None),
+        # call the instruction and the return behind the jump
+        (branch(call, 5) + branch(jmp, len(body)) + body, None),
+        # to the last jump, from there back to the instruction, and past all
+        (branch(jmp, size + 5) + over + branch(jmp, 5) + branch(jmp, -(size + 10)), None),
+        (branch(jmp, len(body)) + body + branch(call, -(len(body) + 5)), None),
+        (to_r11(3 + size) + b"\x41\xff\xe3" + over, "czso"),
+        (to_r11(3 + 5) + b"\x41\xff\xd3" + branch(jmp, len(body)) + body, "czso"),
+        # the old rsp less the new one
+        (push(RSP) + pop(a) + pair(b"\x29", 1, RSP, a), "czso"),
+        # rsp from a word that was pushed, and back again
+        (at(b"\x8d", 1, a, RSP, -64) + push(a) + pop(RSP) + at(b"\x8d", 1, RSP, RSP, 64) + set_word(a, 0), None),
+    ])
+
+
+def system_call(rng):
+    """A system call that prints and takes nothing; of the flags in r11 those that the machine has."""
+    number, first, place, count = rng.choice([(1, 1, 0, 0), (1, 1, 0x1000, 8), (1, 1, 0x10000000, 0), (0, 0, 0x1000, 1), (0, 0, 0x1000, 0)])
+    code = set_word(RAX, word(rng)) + set_word(RCX, word(rng)) + pair(b"\x39", 1, RCX, RAX)
+    code += set_word(RAX, number) + set_word(7, first) + set_word(6, place) + set_word(RDX, count) + b"\x0f\x05"
+    return code + pair(b"\x81", 1, 4, R11) + struct.pack("<i", 0xAC3), "czso"
+
+
+def faults():
+    """Code that stops, the signal by which a process ends there, and what the machine says of it."""
+    for bits in (8, 16, 32, 64):
+        front, opcode = b"\x66" if bits == 16 else b"", b"\xf6" if bits == 8 else b"\xf7"
+        half, low = 1 << bits - 1, (1 << bits) - 1
+        # by zero, and quotients that are one too large or too small
+        for number, by, signed in [(5, 0, 0), (5, 0, 1), (1 << bits, 1, 0), (half, 1, 1), (-half, -1, 1), (half + 1, -1, 1), (-half - 1, 1, 1)]:
+            number &= (1 << 2 * bits) - 1
+            values = set_word(RAX, number) if bits == 8 else set_word(RAX, number & low) + set_word(RDX, number >> bits)
+            divide = pair(opcode, int(bits == 64), 6 + signed, 3, bits == 8, front)
+            yield values + set_word(3, by & low) + divide, 8, b"trapped divide\n"
+    yield b"\x0f\x0b", 4, b"trapped invalid\n"
+    yield b"\xcc", 5, b"trapped breakpoint\n"
+    absent, code = set_word(3, 0x1000), set_word(3, 0x10000000)
+    for access in (at(b"\x8b", 1, RAX, 3, 0), at(b"\x89", 1, RAX, 3, 0), pair(b"\x89", 1, 3, RSP) + push(RAX), pair(b"\x89", 1, 3, RSP) + b"\xc3"):
+        yield absent + access, 11, b"stopped pagefault\n"
+    yield code + at(b"\x89", 1, RAX, 3, 0), 11, b"stopped pagefault\n"
+    yield set_word(R11, 0x1000) + b"\x41\xff\xe3", 11, b"stopped pagefault\n"
 
 
 def case(rng):
@@ -151,7 +204,8 @@ def case(rng):
     elif pick < 0.88:
         before, one, base = memory(rng)
     else:
-        one = stack(rng)
+        one, written = system_call(rng) if pick > 0.97 else stack(rng)
+        known = known if written is None else written
     code = b"".join(set_word(r, word(rng)) + at(b"\x89", 1, r, RSP, MEMORY_AT + 8 * i) for i, r in enumerate([0, 1, 2, 3, 5]))
     # cmp gives all four flags
     code += set_word(RAX, word(rng)) + set_word(RCX, word(rng)) + pair(b"\x39", 1, RCX, RAX)
@@ -176,11 +230,22 @@ def image(code):
     return (header + segment).ljust(4096, b"\0") + code
 
 
+def outcomes(program, path, code):
+    """How the image of this code ends as a process and on the machine. There is input, so that a place to read it to is looked at."""
+    with open(path, "wb") as file:
+        file.write(image(code))
+    os.chmod(path, 0o755)
+    native = subprocess.run([path], input=b"input", stdout=subprocess.PIPE, check=False)
+    ours = subprocess.run([program, "run", path, "--steps", "10000000"], input=b"input", stdout=subprocess.PIPE, stderr=subprocess.PIPE, check=False)
+    return native, ours
+
+
 def main():
     program, seed, images, each = sys.argv[1], int(sys.argv[2]), int(sys.argv[3]), int(sys.argv[4])
     rng = random.Random(seed)
     size = FLAGS_AT + 44
     failed = 0
+    stops = []
     with tempfile.TemporaryDirectory() as work:
         path = os.path.join(work, "image")
         for _ in range(images):
@@ -188,11 +253,7 @@ def main():
             # a frame, the cases, exit(0)
             code = pair(b"\x81", 1, 5, RSP) + struct.pack("<i", 8192)
             code += b"".join(c for c, _ in cases) + set_word(RAX, 60) + set_word(7, 0) + b"\x0f\x05"
-            with open(path, "wb") as file:
-                file.write(image(code))
-            os.chmod(path, 0o755)
-            native = subprocess.run([path], stdout=subprocess.PIPE, check=False)
-            ours = subprocess.run([program, "run", path, "--steps", "10000000"], stdout=subprocess.PIPE, stderr=subprocess.PIPE, check=False)
+            native, ours = outcomes(program, path, code)
             if native.returncode != 0 or ours.stderr != b"ended 0\n":
                 print("ends differ:", native.returncode, ours.stderr)
                 failed += 1
@@ -201,7 +262,13 @@ def main():
                 if a != b or len(a) != size:
                     print("differs:", one.hex(" "), a.hex(), b.hex())
                     failed += 1
-    print(f"{images * each} instructions, {failed} differences")
+        stops = list(faults())
+        for code, signal, line in stops:
+            native, ours = outcomes(program, path, code)
+            if native.returncode != -signal or ours.stderr != line:
+                print("stops differ:", code.hex(" "), native.returncode, ours.stderr)
+                failed += 1
+    print(f"{images * each} instructions and {len(stops)} that stop, {failed} differences")
     return 1 if failed else 0
 
 

@@ -1,5 +1,5 @@
 #!/usr/bin/env bash
-# 2,500 random instructions and 200 random modules on this processor and on the machine: no difference. Left out where there is no such processor or no python3.
+# 2,500 random instructions, 36 that stop, and 200 random modules on this processor and on the machine: no difference. Left out where there is no such processor or no python3.
 set -u
 cd "$(dirname "$0")/.." || exit 1
 if [ "$(uname -sm)" != "Linux x86_64" ] || ! command -v python3 >/dev/null; then
