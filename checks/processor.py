@@ -245,7 +245,6 @@ def main():
     rng = random.Random(seed)
     size = FLAGS_AT + 44
     failed = 0
-    stops = []
     with tempfile.TemporaryDirectory() as work:
         path = os.path.join(work, "image")
         for _ in range(images):
