@@ -14,7 +14,7 @@ use Rattle.obj_core.specs.declared.object.Object.{Object}
 use Rattle.rd_compile.specs.NarrowCode.{IsFit, narrow_object}
 use Rattle.rd_compile.specs.Compiled.{IsCompiledFrom, CompiledText}
 use Rattle.rd_compile.proofs.Fit.{fit}
-use Rattle.rd_compile.proofs.Narrow.{narrow_preserves, narrow_within, narrow_defined}
+use Rattle.rd_compile.proofs.Narrow.{narrow_preserves, narrow_within, narrow_defined, narrow_ends}
 use Rattle.rd_compile.proofs.WellFormed.{narrow_well_formed}
 
 pub fit_text : (text : List ℕ) (n : Narrow) → SpellsNarrow text n → IsFit n
@@ -40,6 +40,7 @@ compiled_text text n slot_seed reg_seed o x slot_fits reg_fits e =
       spelled = x.spelled;
       compiled = c;
       meant = narrow_defined slot_seed reg_seed x.program n f.few x.resolved;
+      ends = narrow_ends slot_seed reg_seed x.program n f.few x.resolved;
       within = narrow_within slot_seed reg_seed x.program n f.few x.resolved;
       straight = narrow_straight x.program (narrow_object slot_seed reg_seed n) (narrow_defined slot_seed reg_seed x.program n f.few x.resolved) c.preserves;
     })

@@ -2,13 +2,13 @@
 use Rattle.std.proofs.Common.{◌≡◌, ℕ, zero, suc, ◌+◌, ◌*◌, ◌%◌, ◌^◌, ◌<◌, ◌≤◌, ◌⊎◌, false, List, [], ◌∷◌, ◌++◌, length, map, Option, Some, None, Ok, refl, sym, ◌∙◌, ap, subst, arith, inl, inr, append_assoc, length-append}
 use Rattle.std.specs.Prelude.{slice_get, codes}
 use Rattle.std.proofs.lemmas.List.{append-nil, length-map, map-append}
-use Rattle.behavior.specs.Ending.{Going, Ended, is_left}
-use Rattle.behavior.specs.Moment.{Agrees, HasStopped, AreBytes}
+use Rattle.behavior.specs.Ending.{Going, Ended, is_left, is_going}
+use Rattle.behavior.specs.Moment.{Moment, Agrees, HasStopped, AreBytes}
 use Rattle.behavior.specs.Preserves.{Preserves, ReachesWithin}
 use Rattle.behavior.specs.System.{System, iter}
 use Rattle.behavior.specs.Simulation.{Met, Follows, Starts}
 use Rattle.behavior.proofs.Stretch.{comes_wider, met_by, starts_by}
-use Rattle.behavior.proofs.Laws.{agrees_refl}
+use Rattle.behavior.proofs.Laws.{agrees_refl, not_both}
 use Rattle.rd_num.specs.declared.width.Width.TheVariants.{W32}
 use Rattle.ir_core.specs.declared.memory.Value.TheVariants.{Num}
 use Rattle.ir_core.specs.declared.instruction.Inst.{Inst}
@@ -152,9 +152,12 @@ module _ (slot_seed reg_seed : ℕ) (p : Program) (n : Narrow) (few : length n.i
   abbrev B : List ℕ → System (State Place)
   B input = machine_system (λ _. symbolic_fetch (narrow_object slot_seed reg_seed n)) (symbolic_land (narrow_object slot_seed reg_seed n))
 
-  -- the step is met, and the module's run has a meaning after it
-  abbrev Meets : List ℕ → Source → State Place → Type 0
-  Meets input a b = Met (A input) (B input) (Stage input) (λ _. 0) 4 a (source_step m input a) b × (is_left (source_step m input a).ending ≡ false)
+  -- a step before instruction k leads before the next one, or ends the run
+  abbrev Goes : ℕ → Source → Type 0
+  Goes k a = ((locals : List Local) × (a ≡ source_at (k + 1) locals)) ⊎ ((status : ℕ) × (source_moment a ≡ record { printed = []; taken = 0; ending = Ended status }))
+
+  abbrev Meets : List ℕ → ℕ → Source → State Place → Type 0
+  Meets input k a b = Met (A input) (B input) (Stage input) (λ _. 0) 4 a (source_step m input a) b × Goes k (source_step m input a)
 
   names_long : (before : List Row) → length (names_of before) ≡ length before
   names_long before = length-map before (λ (r : Row). r.name)
@@ -177,7 +180,7 @@ module _ (slot_seed reg_seed : ℕ) (p : Program) (n : Narrow) (few : length n.i
 
   -- the return: the run ends with the result's low 8 bits on both sides
   return_meets : (input : List ℕ) (before : List Row) (done : List Instruction) (locals : List Local) (bytes : List ℕ) (rax rcx : ℕ) (flags : Flags) → p.rows ≡ before ++ [] → n.instructions ≡ done ++ [] → length before ≡ length done → IsStack bytes → Held results (names_of before) locals bytes →
-      Meets input (source_at (length before) locals) (spot slot_seed reg_seed n few input (offset done) rax rcx 0 flags bytes)
+      Meets input (length before) (source_at (length before) locals) (spot slot_seed reg_seed n few input (offset done) rax rcx 0 flags bytes)
   return_meets input before done locals bytes rax rcx flags split code same stack held =
       let s = source_at (length before) locals in
       let rows : p.rows ≡ before = split ∙ append-nil before in
@@ -198,13 +201,13 @@ module _ (slot_seed reg_seed : ℕ) (p : Program) (n : Narrow) (few : length n.i
         met_by (A input) (B input) (Stage input) (λ _. 0) 4 s (source_step m input s) (spot slot_seed reg_seed n few input (offset done) rax rcx 0 flags bytes) end
             (comes_wider _ 4 4 1 4 _ _ (omega arith) (omega arith) comes)
             (inr (subst (λ t. HasStopped (source_moment t) × Agrees (source_moment t) (moment_of end)) (sym returns) (refl, agrees_refl (moment_of end)))),
-        subst (λ (t : Source). is_left t.ending ≡ false) (sym returns) refl,
+        inr (x.number % 256, ap source_moment returns),
       )
 
   -- an instruction: its result goes to its local and to its home
   instruction_meets : (input : List ℕ) (before : List Row) (r : Row) (rows : List Row) (done : List Instruction) (i : Instruction) (todo : List Instruction) (locals : List Local) (bytes : List ℕ) (rax rcx : ℕ) (flags : Flags) → p.rows ≡ before ++ r ∷ rows → n.instructions ≡ done ++ i ∷ todo → length before ≡ length done →
       Matches (names_of before) r i → AllMatch (names_of before ++ r.name ∷ []) rows todo → IsStack bytes → Held results (names_of before) locals bytes →
-      Meets input (source_at (length before) locals) (spot slot_seed reg_seed n few input (offset done) rax rcx 0 flags bytes)
+      Meets input (length before) (source_at (length before) locals) (spot slot_seed reg_seed n few input (offset done) rax rcx 0 flags bytes)
   instruction_meets input before r rows done i todo locals bytes rax rcx flags split code same match others stack held =
       let s = source_at (length before) locals in
       let names = names_of before in
@@ -267,15 +270,15 @@ module _ (slot_seed reg_seed : ℕ) (p : Program) (n : Narrow) (few : length n.i
         met_by (A input) (B input) (Stage input) (λ _. 0) 4 s (source_step m input s) (spot slot_seed reg_seed n few input (offset done) rax rcx 0 flags bytes) t
             (comes_wider _ 4 4 1 4 _ _ (omega arith) (omega arith) comes.1)
             (inl (subst (λ q. Stage input q t) (sym steps) stage)),
-        subst (λ (q : Source). is_left q.ending ≡ false) (sym steps) refl,
+        inl (record { name = r.name; value = Num W32 w } ∷ locals, steps),
       )
 
-  step_meets : (input : List ℕ) (a : Source) (b : State Place) → Stage input a b → Meets input a b
+  step_meets : (input : List ℕ) (a : Source) (b : State Place) (g : Stage input a b) → Meets input (length g.before) a b
   step_meets input a b g =
-      subst (λ q. Meets input q b) (sym g.source)
-      (subst (Meets input (source_at (length g.before) g.locals)) (sym g.target) (by_rows g.rows g.todo g.split g.code g.matches))
+      subst (λ q. Meets input (length g.before) q b) (sym g.source)
+      (subst (Meets input (length g.before) (source_at (length g.before) g.locals)) (sym g.target) (by_rows g.rows g.todo g.split g.code g.matches))
     where
-      by_rows : (rows : List Row) (todo : List Instruction) → p.rows ≡ g.before ++ rows → n.instructions ≡ g.done ++ todo → AllMatch (names_of g.before) rows todo → Meets input (source_at (length g.before) g.locals) (spot slot_seed reg_seed n few input (offset g.done) g.rax g.rcx 0 g.flags g.bytes)
+      by_rows : (rows : List Row) (todo : List Instruction) → p.rows ≡ g.before ++ rows → n.instructions ≡ g.done ++ todo → AllMatch (names_of g.before) rows todo → Meets input (length g.before) (source_at (length g.before) g.locals) (spot slot_seed reg_seed n few input (offset g.done) g.rax g.rcx 0 g.flags g.bytes)
       by_rows [] [] split code match = return_meets input g.before g.done g.locals g.bytes g.rax g.rcx g.flags split code g.same g.stack g.held
       by_rows (r ∷ rows) (i ∷ todo) split code match = instruction_meets input g.before r rows g.done i todo g.locals g.bytes g.rax g.rcx g.flags split code g.same match.0 match.1 g.stack g.held
       by_rows [] (i ∷ todo) split code match = absurd match
@@ -334,12 +337,16 @@ module _ (slot_seed reg_seed : ℕ) (p : Program) (n : Narrow) (few : length n.i
     meant : is_left a.ending ≡ false
     stage : ((b : State Place) × Stage input a b) ⊎ HasStopped (source_moment a)
 
+  goes_meant : (k : ℕ) (a : Source) → Goes k a → is_left a.ending ≡ false
+  goes_meant k a (inl x) = ap (λ (q : Source). is_left q.ending) x.1
+  goes_meant k a (inr x) = ap (λ (q : Moment). is_left q.ending) x.1
+
   on_step : (input : List ℕ) (a : Source) → On input a → On input (source_step m input a)
   on_step input a x = elim x.stage [
     | inl g ↦
         let y = step_meets input a g.0 g.1 in
         record {
-          meant = y.1;
+          meant = goes_meant (length g.1.before) (source_step m input a) y.1;
           stage = elim y.0.lands [
             | inl h ↦ inl (iter (B input).step y.0.count g.0, h)
             | inr h ↦ inr h.0
@@ -367,3 +374,49 @@ module _ (slot_seed reg_seed : ℕ) (p : Program) (n : Narrow) (few : length n.i
   pub narrow_defined : (input : List ℕ) → AreBytes input → (k : ℕ) → is_left (source_run m input k).ending ≡ false
   unfolding source_run
   narrow_defined input bytes k = (on_steps input k (source_start m) (on_start input bytes)).meant
+
+  -- the number of the next instruction of the innermost call
+  abbrev next_in : List Frame → ℕ
+  next_in [] = 0
+  next_in (f ∷ fs) = f.next
+
+  -- a row further than before
+  ahead : (input : List ℕ) (a : Source) (b c : State Place) (g : Stage input a b) (locals : List Local) → source_step m input a ≡ source_at (length g.before + 1) locals → (h : Stage input (source_step m input a) c) → length h.before ≡ length g.before + 1
+  ahead input a b c g locals e h = ap (λ (q : Source). next_in q.frames) (sym h.source ∙ e)
+
+  abbrev Ends : List ℕ → Source → Type 0
+  Ends input a = (k : ℕ) × (status : ℕ) × (source_moment (iter (source_step m input) k a) ≡ record { printed = []; taken = 0; ending = Ended status })
+
+  -- from an instruction with so many rows behind it the run comes to its end
+  ends_from : (input : List ℕ) (rest : ℕ) (a : Source) (b : State Place) (g : Stage input a b) → length p.rows ≡ length g.before + rest → Ends input a
+  ends_from input zero a b g long = elim (step_meets input a b g).1 [
+    | inr x ↦ (1, x.0, x.1)
+    | inl x ↦ elim (step_meets input a b g).0.lands [
+      | inl h ↦
+          let further = ahead input a b _ g x.0 x.1 h in
+          let rows : length p.rows ≡ length h.before + length h.rows = ap length h.split ∙ length-append h.before h.rows in
+          let none : ⊥ = omega (arith, further, rows, long) in
+          absurd none
+      | inr h ↦ absurd (not_both (is_going (source_step m input a).ending) (ap (λ (q : Source). is_going q.ending) x.1) h.0)
+    ]
+  ]
+  ends_from input (suc rest) a b g long = elim (step_meets input a b g).1 [
+    | inr x ↦ (1, x.0, x.1)
+    | inl x ↦ elim (step_meets input a b g).0.lands [
+      | inl h ↦
+          let further = ahead input a b _ g x.0 x.1 h in
+          let y = ends_from input rest (source_step m input a) _ h (omega (arith, further, long)) in
+          (suc y.0, y.1, y.2)
+      | inr h ↦ absurd (not_both (is_going (source_step m input a).ending) (ap (λ (q : Source). is_going q.ending) x.1) h.0)
+    ]
+  ]
+
+  -- on every input the module ends by its return, and prints and takes nothing
+  pub narrow_ends : (input : List ℕ) → AreBytes input → (k : ℕ) × (status : ℕ) × (source_run m input k ≡ record { printed = []; taken = 0; ending = Ended status })
+  unfolding source_run
+  narrow_ends input bytes = elim (starts input bytes).lands [
+    | inl h ↦
+        let rows : length p.rows ≡ length h.before + length h.rows = ap length h.split ∙ length-append h.before h.rows in
+        ends_from input (length h.rows) (source_start m) _ h rows
+    | inr h ↦ absurd (not_both (is_going (source_start m).ending) (ap (λ (q : Source). is_going q.ending) begins_source) h.0)
+  ]

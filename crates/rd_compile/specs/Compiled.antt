@@ -1,6 +1,6 @@
 -- What it means that an object is compiled from a module.
-use Rattle.std.specs.Prelude.{◌≡◌, ◌≢◌, ℕ, ◌+◌, List, length, false}
-use Rattle.behavior.specs.Ending.{Strayed, is_left}
+use Rattle.std.specs.Prelude.{◌≡◌, ◌≢◌, ℕ, ◌+◌, List, [], length, false}
+use Rattle.behavior.specs.Ending.{Ended, Strayed, is_left}
 use Rattle.behavior.specs.Moment.{AreBytes}
 use Rattle.behavior.specs.Preserves.{Preserves, ReachesWithin}
 use Rattle.ir_core.specs.declared.module.Module.{Module}
@@ -27,12 +27,14 @@ pub record IsCompiledFrom (m : Module) (slot_seed reg_seed : ℕ) (o : Object) :
   pub plain : Each IsPlain o.functions
   pub preserves : Preserves (source_run m) (symbolic_behavior o)
 
--- an object that is compiled from the module of a narrow text; the module has a meaning on every input, and the object never strays
+-- an object that is compiled from the module of a narrow text; the module is never left, it comes to an end on every input, and the
+-- object never strays
 pub record CompiledText (text : List ℕ) (slot_seed reg_seed : ℕ) (o : Object) : Type 0 where
   pub program : Program
   pub spelled : IsNarrowText text program
   pub compiled : IsCompiledFrom (module_of program) slot_seed reg_seed o
   pub meant : (input : List ℕ) → AreBytes input → (k : ℕ) → is_left (source_run (module_of program) input k).ending ≡ false
+  pub ends : (input : List ℕ) → AreBytes input → (k : ℕ) × (status : ℕ) × (source_run (module_of program) input k ≡ record { printed = []; taken = 0; ending = Ended status })
   -- what the module shows after k steps, the object shows after at most 4 + 4k
   pub within : ReachesWithin 4 4 (source_run (module_of program)) (symbolic_behavior o)
   pub straight : (input : List ℕ) → AreBytes input → (n : ℕ) → (symbolic_behavior o input n).ending ≢ Strayed
