@@ -14,7 +14,8 @@ use Rattle.rd_top.specs.declared.answer.Answer.TheVariants.{Done, Words, File, L
 use Rattle.rd_top.specs.Told.{FilesTold, InputTold, OutTold, IsContent, IsTooLong, Lost, Wrote, WrotePart}
 use Rattle.rd_top.specs.Laying.{Hides, LayMeans}
 use Rattle.rd_top.specs.Running.{RunMeans}
-use Rattle.rd_top.specs.Words.{Reading, Compile, Build, Lay, Run}
+use Rattle.rd_top.specs.Showing.{ShowMeans}
+use Rattle.rd_top.specs.Words.{Reading, Compile, Build, Lay, Run, Show}
 
 -- the most bytes of a module's text
 abbrev pub text_limit : ℕ
@@ -83,6 +84,7 @@ Means held (Some (Build file slot_seed reg_seed layout_seed)) files files2 input
     CompileMeans (held file) file slot_seed reg_seed (Made.Image layout_seed) files files2 out out2 a × (input2 ≡ input)
 Means held (Some (Lay file layout_seed)) files files2 input input2 out out2 a = LayMeans (held file) file layout_seed files files2 out out2 a × (input2 ≡ input)
 Means held (Some (Run file steps)) files files2 input input2 out out2 a = RunMeans (held file) file steps files files2 input input2 out out2 a
+Means held (Some (Show file steps)) files files2 input input2 out out2 a = ShowMeans (held file) file steps files files2 input input2 out out2 a
 
 -- the line is on the sink for messages, or a fault came and a prefix of it is
 abbrev pub Says : Option (List ℕ) → Option (List ℕ) → ℕ → ℕ → List ℕ → Type 0
