@@ -2,3 +2,4 @@ pub mod Contents
 pub mod Runs
 pub mod Lengths
 mod Made
+pub mod Shows

@@ -18,7 +18,7 @@ use Rattle.rd_top.specs.declared.answer.Answer.TheVariants as answer
 use Rattle.rd_top.specs.Told.{FilesTold, InputTold, OutTold, IsContent}
 use Rattle.rd_top.specs.Running.{stands_after, prints_next, TakesNext, Met, IsRun, CutByInput, CutByOutput, OfImage, RunOf, RunMeans, image_limit}
 
-abbrev seen : InputTold → OutTold → Told
+abbrev pub seen : InputTold → OutTold → Told
 seen input out = told input.left out.written out.total
 
 -- a state with nothing done yet

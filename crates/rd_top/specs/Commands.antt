@@ -17,7 +17,8 @@ use Rattle.rd_top.specs.declared.answer.Answer.TheVariants.{Done, Words, File, L
 use Rattle.rd_top.specs.Told.{FilesTold, InputTold, OutTold, IsContent, IsTooLong, Lost, Wrote, WrotePart}
 use Rattle.rd_top.specs.Laying.{Hides, LayMeans}
 use Rattle.rd_top.specs.Running.{RunMeans}
-use Rattle.rd_top.specs.Words.{Reading, Compile, Build, Lay, Run}
+use Rattle.rd_top.specs.Showing.{ShowMeans}
+use Rattle.rd_top.specs.Words.{Reading, Compile, Build, Lay, Run, Show}
 
 -- the most bytes of a module's text
 abbrev pub text_limit : ℕ
@@ -88,6 +89,7 @@ Means held (Some (Build file slot_seed reg_seed layout_seed)) files files2 input
     CompileMeans (held file) file slot_seed reg_seed (Made.Image layout_seed) files files2 out out2 a × (input2 ≡ input)
 Means held (Some (Lay file layout_seed)) files files2 input input2 out out2 a = LayMeans (held file) file layout_seed files files2 out out2 a × (input2 ≡ input)
 Means held (Some (Run file steps)) files files2 input input2 out out2 a = RunMeans (held file) file steps files files2 input input2 out out2 a
+Means held (Some (Show file steps)) files files2 input input2 out out2 a = ShowMeans (held file) file steps files files2 input input2 out out2 a
 
 -- every answer but that a file failed leaves the count of faults and the name of the last file that failed: no other file was read
 abbrev pub KeepsFiles : FilesTold → FilesTold → Answer → Type 0

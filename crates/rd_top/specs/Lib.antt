@@ -5,4 +5,5 @@ pub mod Commands
 pub mod Ends
 pub mod Asked
 pub mod Running
+pub mod Showing
 pub mod Laying

@@ -4,12 +4,13 @@
 //!     read_main build FILE --slot-seed N --reg-seed N --layout-seed N
 //!     read_main lay FILE --layout-seed N
 //!     read_main run FILE --steps N
+//!     read_main show FILE --steps N
 //!
 //! write the object of the module in FILE, write the image of that object, write the image of the object
-//! in FILE, and run the image in FILE. `words` reads the command line,
-//! `compile` and `run` do the work, and `answer` has the statuses with their lines. What a reading of
-//! words is stands in `specs/Words.antt`, what a command does to the outside in `specs/Commands.antt`
-//! and `specs/Running.antt`.
+//! in FILE, run the image in FILE, and write what an observer sees of it then. `words` reads the command
+//! line, `compile`, `lay`, `run` and `show` do the work, and `answer` has the statuses with their lines.
+//! What a reading of words is stands in `specs/Words.antt`, what a command does to the outside in
+//! `specs/Commands.antt`, `specs/Laying.antt`, `specs/Running.antt` and `specs/Showing.antt`.
 #![tactic(auto)]
 
 ghost use Rattle.std.specs.Prelude.{◌≡◌, map, string_bytes};
@@ -22,6 +23,7 @@ use compile::{Made, compile_file};
 use lay::lay_file;
 use rd_io::{Files, PutFail, Sink, Source};
 use run::run_file;
+use show::show_file;
 use std::alloc::Global;
 use words::{Command, read_words};
 
@@ -29,6 +31,7 @@ pub mod answer;
 pub mod compile;
 pub mod lay;
 pub mod run;
+pub mod show;
 #[cfg(test)]
 mod tests;
 pub mod words;
@@ -71,6 +74,7 @@ fn work<F: Files, I: Source, O: Sink>(
         ),
         Some(Command::Lay { file, layout_seed }) => lay_file(alloc, file, layout_seed, files, out),
         Some(Command::Run { file, steps }) => run_file(alloc, file, steps, files, input, out),
+        Some(Command::Show { file, steps }) => show_file(alloc, file, steps, files, input, out),
     }
 }
 

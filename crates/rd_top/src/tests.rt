@@ -82,8 +82,10 @@ fn ends_surely(alloc: Global, words: &[&str], content: &[u8]) -> Result<(u8, usi
 
 #[test]
 fn words_have_these_statuses(rt: HostRuntime) -> Result<(), Fail> {
-    let rows: [(&[&str], u8); 15] = [
+    let rows: [(&[&str], u8); 17] = [
         (ASKED, 0),
+        (&["show", "m", "--steps", "1"], 6),
+        (&["show", "m", "--layout-seed", "1"], 2),
         (&["run", "m", "--steps", "-1"], 2),
         (&["lay", "m", "--steps", "1"], 2),
         (
@@ -348,6 +350,55 @@ fn objects_have_these_lines(rt: HostRuntime) -> Result<(), Fail> {
         assert_eq!(rt; left.status, want);
         assert!(rt; left.said.as_slice() == line);
     }
+    Ok(())
+}
+
+/// The object of one function `ud2` with the bytes 41 42 of data that may be written.
+#[rattlefmt::skip]
+const DATA_OBJECT: [u8; 72] = [
+    0x52, 0x44, 0x4F, 0x31, 1, 0, 0, 0,
+    0, 0, 0, 0, 0, 0, 0, 0,
+    0, 0, 0, 0, 0, 0, 0, 0,
+    1, 0, 0, 0, 1, 0, 0, 0,
+    0, 0, 0, 0, 2, 0, 0, 0,
+    0, 0, 0, 0, 2, 0, 0, 0,
+    0, 0, 0, 0, 0x0F, 0x0B, 0, 0,
+    0, 0, 0, 0, 0, 0, 0, 0,
+    0, 0, 0, 0, 0, 0, 0x41, 0x42,
+];
+
+/// What is seen of its image before the first instruction.
+const DATA_TEXT: &[u8] = b"rax 0000000000000000
+rcx 0000000000000000
+rdx 0000000000000000
+rbx 0000000000000000
+rsp 00000000c0000000
+rbp 0000000000000000
+rsi 0000000000000000
+rdi 0000000000000000
+r8 0000000000000000
+r9 0000000000000000
+r10 0000000000000000
+r11 0000000000000000
+r12 0000000000000000
+r13 0000000000000000
+r14 0000000000000000
+r15 0000000000000000
+flags 0 0 0 0
+outcome going
+segment 0000000030000000 2 rw
+0000000030000000 4142
+segment 00000000bbfff000 67112960 rw
+";
+
+#[test]
+fn an_image_shows_this_text(rt: HostRuntime) -> Result<(), Fail> {
+    let alloc = rt.alloc();
+    let laid = run_surely(alloc, &["lay", "m", "--layout-seed", "0"], &DATA_OBJECT)?;
+    let shown = run_surely(alloc, &["show", "m", "--steps", "0"], laid.out.as_slice())?;
+    assert_eq!(rt; shown.status, 0);
+    assert!(rt; shown.said.is_empty());
+    assert!(rt; shown.out.as_slice() == DATA_TEXT);
     Ok(())
 }
 

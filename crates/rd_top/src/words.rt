@@ -26,6 +26,10 @@ pub enum Command<'a> {
         file: &'a str,
         steps: u64,
     },
+    Show {
+        file: &'a str,
+        steps: u64,
+    },
 }
 
 /// A number of a command line: 1 to 20 decimal digits of at most 2^64 - 1.
@@ -118,8 +122,8 @@ fn build_words<'a>(
     })
 }
 
-/// The values of `run` or `lay`, where that is the command.
-fn run_or_lay_words<'a>(
+/// The values of `run`, `show` or `lay`, where that is the command.
+fn one_number_words<'a>(
     command: &'a str,
     file: &'a str,
     option: &'a str,
@@ -133,6 +137,8 @@ fn run_or_lay_words<'a>(
     let n = number(value.as_bytes())?;
     if command == "run" && option == "--steps" {
         Some(Command::Run { file, steps: n })
+    } else if command == "show" && option == "--steps" {
+        Some(Command::Show { file, steps: n })
     } else if command == "lay" && option == "--layout-seed" {
         Some(Command::Lay {
             file,
@@ -143,12 +149,12 @@ fn run_or_lay_words<'a>(
     }
 }
 
-/// What words ask for that are `run`, `lay` or `compile`, or none.
+/// What words ask for that are `run`, `show`, `lay` or `compile`, or none.
 fn read_short<'a>(words: &'a [String]) -> Option<Command<'a>>
     ensures { MatchOption result (short_reading (map string_bytes words.now) ≡ None) (λ c. short_reading (map string_bytes words.now) ≡ Some (asked c)) }
 {
     match words {
-        [command, file, option, n] => run_or_lay_words(
+        [command, file, option, n] => one_number_words(
             command.as_str(),
             file.as_str(),
             option.as_str(),

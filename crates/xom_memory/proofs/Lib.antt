@@ -3,3 +3,4 @@ pub mod Behind
 pub mod Allowed
 pub mod Places
 pub mod Zeros
+pub mod Whole

@@ -4,9 +4,9 @@ ghost use Rattle.std.specs.Prelude.{◌≡◌, ◌≢◌, ◌↔◌, ◌≤◌, 
 ghost use Rattle.machine_core.specs.Memory.{reads, writes, executes, one_holds, is_allowed, read_at, write_at, code_at};
 ghost use Rattle.machine_core.specs.Data.{stack_start, segment};
 ghost use Rattle.machine_core.specs.Machine.{machine_segments};
-ghost use Rattle.xom_memory.specs.Access.{bytes_at, written_at, outline_of, place_of, Wrote};
+ghost use Rattle.xom_memory.specs.Access.{bytes_at, written_at, outline_of, place_of, readable_at, lent as lent_segment, Wrote};
 
-use crate::segment::{Part, may_execute, may_read, may_write};
+use crate::segment::{Part, ReadableSegment, may_execute, may_read, may_write};
 use crate::stack::Stack;
 use rd_num::width::NoMemory;
 use std::alloc::Global;
@@ -57,6 +57,22 @@ impl Memory {
         ensures { result ≡ option_map outline_of (slice_get self.now i) }
     {
         outline_at(self.parts.as_slice(), &self.stack, i)
+    }
+
+    /// How many segments there are, the stack among them.
+    pub fn count(&self) -> usize
+        ensures { result ≡ length self.now }
+    {
+        self.parts.len() + 1
+    }
+
+    /// The whole segment with an index, counted as in `segment`, where it may be read.
+    ///
+    /// `None` comes exactly past the last and where the segment may not be read.
+    pub fn readable(&self, i: usize) -> Option<ReadableSegment<'_>>
+        ensures { MatchOption result (readable_at self.now i ≡ None) (λ s. readable_at self.now i ≡ Some (lent_segment s)) }
+    {
+        readable_part(self.parts.as_slice(), &self.stack, i)
     }
 
     /// The bytes of a range, where one segment that may be read holds it.
@@ -163,6 +179,18 @@ fn outline_at(parts: &[Part], stack: &Stack, i: usize) -> Option<(u64, u64, Righ
     match parts.get(i) {
         Some(part) => Some(part.outline()),
         None if i == parts.len() => Some(stack.outline()),
+        None => None,
+    }
+}
+
+// The whole segment with an index or, behind the last, the stack, where it may be read.
+#[tactic(auto, using(crate::proofs::Whole::whole_front, crate::proofs::Whole::whole_last, crate::proofs::Whole::whole_past))]
+fn readable_part<'a>(parts: &'a [Part], stack: &'a Stack, i: usize) -> Option<ReadableSegment<'a>>
+    ensures { let all = parts.now ++ segment stack_start stack.now 6 ∷ [] in MatchOption result (readable_at all i ≡ None) (λ s. readable_at all i ≡ Some (lent_segment s)) }
+{
+    match parts.get(i) {
+        Some(part) => part.readable(),
+        None if i == parts.len() => Some(stack.lent()),
         None => None,
     }
 }

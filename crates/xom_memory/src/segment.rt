@@ -1,8 +1,8 @@
 //! One segment of an image in memory, and the two tests that every access makes.
 
-ghost use Rattle.std.specs.Prelude.{◌≡◌, ◌-◌, ◌+◌, ◌&&◌, nat_le, IfOk, IsTrue, take, drop, length};
+ghost use Rattle.std.specs.Prelude.{◌≡◌, ◌-◌, ◌+◌, ◌&&◌, nat_le, IfOk, IsTrue, MatchOption, None, Some, take, drop, length};
 ghost use Rattle.machine_core.specs.Memory.{holds, reads, writes, executes, with_bytes};
-ghost use Rattle.xom_memory.specs.Access.{outline_of};
+ghost use Rattle.xom_memory.specs.Access.{outline_of, where_readable, lent};
 
 use bitflags::Flags;
 use rd_num::width::NoMemory;
@@ -23,7 +23,7 @@ pub(crate) fn is_within(start: u64, size: usize, at: u64, len: usize) -> bool
 
 /// Whether bytes with these rights may be read.
 #[tactic(auto, using(crate::proofs::Rights::read_tested))]
-pub(crate) fn may_read(rights: Rights) -> bool
+pub fn may_read(rights: Rights) -> bool
     ensures { result ≡ reads rights }
 {
     rights.contains(Rights::R)
@@ -31,17 +31,25 @@ pub(crate) fn may_read(rights: Rights) -> bool
 
 /// Whether bytes with these rights may be written.
 #[tactic(auto, using(crate::proofs::Rights::write_tested))]
-pub(crate) fn may_write(rights: Rights) -> bool
+pub fn may_write(rights: Rights) -> bool
     ensures { result ≡ writes rights }
 {
     rights.contains(Rights::W)
 }
 
 /// Whether bytes with these rights may be executed.
-pub(crate) fn may_execute(rights: Rights) -> bool
+pub fn may_execute(rights: Rights) -> bool
     ensures { result ≡ executes rights }
 {
     rights.contains(Rights::X)
+}
+
+/// A segment that may be read, lent for as long as its memory stays unchanged.
+#[derive(Clone, Copy)]
+pub struct ReadableSegment<'a> {
+    pub start: u64,
+    pub bytes: &'a [u8],
+    pub rights: Rights,
 }
 
 /// A segment of an image whose bytes can change; contracts see it as the segment.
@@ -80,6 +88,20 @@ impl Part {
         ensures { result ≡ outline_of self.now }
     {
         (self.start, self.bytes.len() as u64, self.rights)
+    }
+
+    /// The whole segment, where it may be read.
+    pub fn readable(&self) -> Option<ReadableSegment<'_>>
+        ensures { MatchOption result (where_readable self.now ≡ None) (λ s. where_readable self.now ≡ Some (lent s)) }
+    {
+        if !may_read(self.rights) {
+            return None;
+        }
+        Some(ReadableSegment {
+            start: self.start,
+            bytes: self.bytes.as_slice(),
+            rights: self.rights,
+        })
     }
 
     /// What may be done with the bytes.

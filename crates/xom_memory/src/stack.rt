@@ -3,9 +3,9 @@
 ghost use Rattle.std.specs.Prelude.{◌≡◌, ◌-◌, ◌+◌, ◌*◌, ◌^◌, ◌<◌, ◌++◌, IfOk, IsTrue, take, drop, length, replicate};
 ghost use Rattle.machine_core.specs.Memory.{holds};
 ghost use Rattle.machine_core.specs.Data.{stack_bytes, stack_start, segment};
-ghost use Rattle.xom_memory.specs.Access.{outline_of};
+ghost use Rattle.xom_memory.specs.Access.{outline_of, lent};
 
-use crate::segment::is_within;
+use crate::segment::{ReadableSegment, is_within};
 use bitflags::Flags;
 use rd_num::width::NoMemory;
 use std::alloc::Global;
@@ -81,6 +81,17 @@ impl Stack {
             self.bytes.len() as u64,
             Rights::R.union(Rights::W),
         )
+    }
+
+    /// The whole stack, which may be read.
+    pub fn lent(&self) -> ReadableSegment<'_>
+        ensures { lent result ≡ segment stack_start self.now 6 }
+    {
+        ReadableSegment {
+            start: STACK_START,
+            bytes: self.bytes.as_slice(),
+            rights: Rights::R.union(Rights::W),
+        }
     }
 
     /// Whether the whole range of `len` bytes from the address `at` on is in the stack.

@@ -1,0 +1,31 @@
+#!/usr/bin/env bash
+# Two layouts of an object differ as files, and show one text before their first instruction, after each, and once they have stopped.
+set -u
+cd "$(dirname "$0")/.." || exit 1
+work=$(mktemp -d)
+trap 'rm -rf "$work"' EXIT
+
+fail() {
+  echo "$1"
+  exit 1
+}
+
+./read_main compile examples/square.ll --slot-seed 1 --reg-seed 2 >"$work/square.obj" || fail "square.ll is not compiled"
+for seed in 3 4; do
+  ./read_main lay "$work/square.obj" --layout-seed "$seed" >"$work/image-$seed" || fail "no image for seed $seed"
+done
+cmp -s "$work/image-3" "$work/image-4" && fail "two seeds give the same image"
+
+steps=0
+stopped=0
+while [ "$stopped" -lt 2 ]; do
+  for seed in 3 4; do
+    ./read_main show "$work/image-$seed" --steps "$steps" >"$work/text-$seed" || fail "nothing is shown for seed $seed after $steps"
+  done
+  cmp "$work/text-3" "$work/text-4" || fail "two layouts show different texts after $steps"
+  grep -q '^outcome going$' "$work/text-3" || stopped=$((stopped + 1))
+  steps=$((steps + 1))
+  [ "$steps" -lt 100 ] || fail "no stop within 100 instructions"
+done
+grep -q '^outcome ended 227$' "$work/text-3" || fail "another end: $(grep '^outcome' "$work/text-3")"
+echo "two layouts show one text at $steps places"
