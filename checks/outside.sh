@@ -1,5 +1,5 @@
 #!/usr/bin/env bash
-# Statuses that need a real outside: files that are missing, endless or no files, outputs that are full, closed or not read.
+# Statuses that need a real outside: files that are missing, endless or no files, outputs that are full, closed or not read, an input that can't be read.
 set -u
 cd "$(dirname "$0")/.." || exit 1
 failed=0
@@ -39,4 +39,22 @@ same "a closed output" $? "9 out"
 { sleep 0.2; compile examples/seven.ll; echo $? >"$line.status"; } | true
 same "an output that is not read" "$(cat "$line.status")" "9 out"
 rm -f "$line.status"
+
+# An image whose code takes a byte of the input to 0xBFFFFFF0.
+image=$(mktemp)
+trap 'rm -f "$line" "$image" "$image.out"' EXIT
+{
+  printf '\x7fELF\x02\x01\x01\0\0\0\0\0\0\0\0\0\x02\0\x3e\0\x01\0\0\0\0\0\0\x10\0\0\0\0\x40\0\0\0\0\0\0\0\0\0\0\0\0\0\0\0\0\0\0\0\x40\0\x38\0\x01\0\0\0\0\0\0\0'
+  printf '\x01\0\0\0\x01\0\0\0\0\x10\0\0\0\0\0\0\0\0\0\x10\0\0\0\0\0\0\0\x10\0\0\0\0\x16\0\0\0\0\0\0\0\x16\0\0\0\0\0\0\0\0\x10\0\0\0\0\0\0'
+  head -c 3976 /dev/zero
+  printf '\xbe\xf0\xff\xff\xbf\xba\x01\0\0\0\xbf\0\0\0\0\xb8\0\0\0\0\x0f\x05'
+} >"$image"
+for command in run show; do
+  ./read_main "$command" "$image" --steps 9 >"$image.out" 2>"$line" </
+  same "an input that can't be read, $command" $? "10 input"
+  [ ! -s "$image.out" ] || { echo "$command writes something"; failed=1; }
+done
+printf A | ./read_main show "$image" --steps 5 >"$image.out" 2>"$line"
+same "a byte of the input" $? "0 "
+grep -q '^00000000bffffff0 41000000000000000000000000000000$' "$image.out" || { echo "the byte is not shown"; failed=1; }
 exit "$failed"

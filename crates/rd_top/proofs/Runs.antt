@@ -1,8 +1,8 @@
 -- What the calls of a machine did, as the command tells it.
-use Rattle.std.proofs.Common.{◌≡◌, ℕ, ◌+◌, ◌<◌, ◌≤◌, List, [], ◌∷◌, ◌++◌, length, Option, Some, None, Err, refl, sym, ◌∙◌, ap, subst, inl, inr}
+use Rattle.std.proofs.Common.{◌≡◌, ℕ, ◌<◌, ◌≤◌, List, [], ◌∷◌, length, Option, Some, Err, sym, ap, subst, inl, inr}
 use Rattle.std.proofs.lemmas.List.{append-nil}
 use Rattle.behavior.specs.System.{iter}
-use Rattle.rd_io.specs.Outside.{Gets, Counts, IsPrefixOf}
+use Rattle.rd_io.specs.Outside.{Gets, IsPrefixOf}
 use Rattle.rd_io.specs.declared.RunFault.{RunFault}
 use Rattle.rd_io.specs.declared.RunFault.TheVariants as fault
 use Rattle.x86_core.specs.declared.image.Image.{Image}
@@ -16,7 +16,7 @@ use Rattle.elf_file.specs.Rules.{LoadsAs}
 use Rattle.rd_top.specs.declared.answer.Answer.{Answer}
 use Rattle.rd_top.specs.declared.answer.Answer.TheVariants as answer
 use Rattle.rd_top.specs.Told.{FilesTold, InputTold, OutTold, IsContent}
-use Rattle.rd_top.specs.Running.{stands_after, prints_next, TakesNext, Met, IsRun, CutByInput, CutByOutput, OfImage, RunOf, RunMeans, image_limit}
+use Rattle.rd_top.specs.Running.{stands_after, prints_next, TakesNext, Met, IsRun, CutByInput, CutByOutput, RunOf, RunMeans, image_limit}
 
 abbrev pub seen : InputTold → OutTold → Told
 seen input out = told input.left out.written out.total

@@ -1,5 +1,5 @@
 -- What a machine took and stands at after a run whose output nobody gets, as the command tells it.
-use Rattle.std.proofs.Common.{◌≡◌, ℕ, ◌+◌, ◌<◌, ◌≤◌, ◌⊎◌, List, [], length, Option, Some, None, Result, Ok, Err, refl, sym, ◌∙◌, ap, subst, inl, inr, arith}
+use Rattle.std.proofs.Common.{◌≡◌, ℕ, ◌<◌, List, [], length, Option, Some, Ok, Err, refl, ◌∙◌, ap, subst, inl, inr, arith}
 use Rattle.behavior.specs.System.{iter}
 use Rattle.rd_io.specs.Causes.{Rose, PutCaused}
 use Rattle.rd_io.specs.Outside.{Gets, GetsPart, Counts, CountsPart}
@@ -11,14 +11,14 @@ use Rattle.x86_core.specs.declared.image.Image.{Image}
 use Rattle.machine_core.specs.Machine.{machine_start, machine_step}
 use Rattle.machine_core.specs.Observation.{observe}
 use Rattle.xom_machine.specs.declared.machine.Machine.{Machine}
-use Rattle.xom_machine.specs.Standing.{state_of, Told, told, Stands}
+use Rattle.xom_machine.specs.Standing.{state_of, Stands}
 use Rattle.xom_machine.specs.Calls.{Took, Charged, CutOff, IsCut}
 use Rattle.watch_script.specs.ShowText.{text_of}
 use Rattle.elf_file.specs.Rules.{LoadsAs}
 use Rattle.rd_top.specs.declared.answer.Answer.{Answer}
 use Rattle.rd_top.specs.declared.answer.Answer.TheVariants as answer
 use Rattle.rd_top.specs.Told.{FilesTold, InputTold, OutTold, IsContent, Wrote, WrotePart}
-use Rattle.rd_top.specs.Running.{stands_after, image_limit, OfImage}
+use Rattle.rd_top.specs.Running.{stands_after, image_limit}
 use Rattle.rd_top.specs.Showing.{shown_after, HasTaken, StopsAtInput, StopsWithin, SeenOf, IsShown, IsShownPart, ShowOf, ShowMeans}
 use Rattle.rd_top.proofs.Runs.{seen, cut_by_input}
 

@@ -1,5 +1,5 @@
 -- What `run` does to the outside, answer by answer.
-use Rattle.std.specs.Prelude.{◌≡◌, ℕ, ◌+◌, ◌<◌, ◌≤◌, ◌⊎◌, List, [], ◌∷◌, ◌++◌, Option, Some, None, length}
+use Rattle.std.specs.Prelude.{◌≡◌, ℕ, ◌+◌, ◌<◌, ◌≤◌, ◌⊎◌, List, [], ◌∷◌, ◌++◌, Option, Some, length}
 use Rattle.behavior.specs.System.{iter}
 use Rattle.rd_io.specs.Outside.{Gets, Counts, IsPrefixOf}
 use Rattle.rd_io.specs.Causes.{Rose}
