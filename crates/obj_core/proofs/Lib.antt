@@ -1,3 +1,10 @@
 pub mod Cuts
 pub mod Stands
+pub mod Overlaid
+pub mod Pieces
+pub mod Inverse
+pub mod Orders
+pub mod Sizes
+pub mod Totals
+pub mod Looked
 pub mod Worked

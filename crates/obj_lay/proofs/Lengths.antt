@@ -14,10 +14,11 @@ use Rattle.obj_core.specs.declared.object.Link.{Link}
 use Rattle.obj_core.specs.declared.object.Slot.{Slot}
 use Rattle.obj_core.specs.declared.object.CodeAt.{CodeAt}
 use Rattle.obj_core.specs.Slots.{positions, slot_purpose}
-use Rattle.obj_lay.specs.Layout.{Piece, piece, pieces, placed, order, order_purpose, gap_purpose, inverse, place_of, linked, displacement, slot_in, up16, start_behind, starts_from, code_from, starts, code_base, code_bytes, trampoline, trampolines, slot_bytes, address}
-use Rattle.obj_lay.proofs.Overlaid.{overlaid_long}
-use Rattle.obj_lay.proofs.Pieces.{whole_or, piece_whole, pieces_as_many}
-use Rattle.obj_lay.proofs.Sizes.{code_len}
+use Rattle.obj_core.specs.Placement.{Piece, piece, pieces, placed, order, order_purpose, gap_purpose, inverse, place_of, displacement, slot_in, up16, start_behind, starts_from, starts, code_base, address}
+use Rattle.obj_lay.specs.Layout.{linked, code_from, code_bytes, trampoline, trampolines, slot_bytes}
+use Rattle.obj_core.proofs.Overlaid.{overlaid_long}
+use Rattle.obj_core.proofs.Pieces.{whole_or, piece_whole, pieces_as_many}
+use Rattle.obj_core.proofs.Sizes.{code_len}
 
 -- each slot has sixteen bytes
 slot_long : (code : CodeAt → ℕ) (at : ℕ) (s : Option Slot) → length (trampoline code at s) ≡ 16
@@ -47,9 +48,6 @@ linked_long at start (l ∷ ls) bytes =
     let d = displacement (slot_in at l.slot) (start + l.at + 4) in
     linked_long at start ls _ ∙ overlaid_long bytes l.at d
 
-abbrev pub piece_len : Piece → ℕ
-piece_len p = length p.bytes
-
 -- a gap has at most 15 + 31 * 16 bytes
 gap_small : (end word : ℕ) → start_behind end word - end ≤ 511
 gap_small end word = omega arith
@@ -65,40 +63,6 @@ code_long at words i end (p ∷ ps) =
     let front = length-append (replicate (start - end) 204) (linked at start p.links p.bytes ++ rest) in
     let behind = length-append (linked at start p.links p.bytes) rest in
     omega (arith, front, behind, length-replicate {A = ℕ} (start - end) 204, linked_long at start p.links p.bytes, gap_small end (words i), code_long at words (i + 1) (start + length p.bytes) ps, sum_by-cons piece_len p ps)
-
--- the lengths of functions by their numbers
-len_at : (n k : ℕ) (fs : List Func) → get_or (map (λ (f : Func). length f.bytes) fs) k 0 ≡ piece_len (whole_or n (slice_get fs k))
-len_at n k [] = refl
-len_at n zero (f ∷ fs) = refl
-len_at n (suc k) (f ∷ fs) = len_at n k fs
-
-all_lens : (fs : List Func) → map (λ (f : Func). length f.bytes) fs ≡ map (λ k. piece_len (piece fs k)) (range_with_len 0 (length fs))
-all_lens fs =
-    fill_by_all (λ k. piece_len (piece fs k)) (map (λ (f : Func). length f.bytes) fs) (length fs) 0 (length-map fs (λ (f : Func). length f.bytes))
-    (λ k h. len_at k k fs ∙ sym (ap piece_len (piece_whole fs k)))
-
-placed_sum : (fs : List Func) (ks : List ℕ) → sum_by piece_len (placed fs ks) ≡ sum_by (λ k. piece_len (piece fs k)) ks
-placed_sum fs [] = refl
-placed_sum fs (k ∷ ks) =
-    sum_by-cons piece_len (piece fs k) (placed fs ks) ∙ ap (λ n. piece_len (piece fs k) + n) (placed_sum fs ks) ∙ sym (sum_by-cons (λ j. piece_len (piece fs j)) k ks)
-
--- all pieces have as many bytes as all functions
-order_sum : (o : Object) (seed : ℕ) → sum_by piece_len (placed o.functions (order o seed)) ≡ code_len o.functions
-unfolding order
-order_sum o seed =
-    let fs = o.functions in
-    let lens = λ (k : ℕ). piece_len (piece fs k) in
-    let n = length (pieces fs) in
-    placed_sum fs (order o seed) ∙
-    sum_by-IsPermutation lens (range_with_len 0 n) (order o seed) (shuffled_permutes (keystream_word seed order_purpose 0) n) ∙
-    ap (λ m. sum_by lens (range_with_len 0 m)) (pieces_as_many fs) ∙
-    sym (sum-map lens (range_with_len 0 (length fs))) ∙
-    ap sum (sym (all_lens fs)) ∙
-    sum-map (λ (f : Func). length f.bytes) fs
-
-order_long : (o : Object) (seed : ℕ) → length (placed o.functions (order o seed)) ≡ length o.functions
-unfolding order
-order_long o seed = length-map (order o seed) (piece o.functions) ∙ shuffled_long (keystream_word seed order_purpose 0) (length (pieces o.functions)) ∙ pieces_as_many o.functions
 
 pub code_small : (o : Object) (seed : ℕ) → length (code_bytes o seed) ≤ code_len o.functions + 511 * length o.functions + 15
 unfolding code_bytes starts

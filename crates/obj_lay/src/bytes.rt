@@ -2,7 +2,7 @@
 
 ghost use Rattle.std.specs.Prelude.{◌≡◌, ◌+◌, ◌-◌, ◌%◌, ◌^◌, ◌<◌, ◌++◌, length, OnOk, slice_index, slice_set};
 ghost use Rattle.obj_core.specs.Slots.{slot_base};
-ghost use Rattle.obj_lay.specs.Layout.{filler, up16, displacement, overlaid, slot_in};
+ghost use Rattle.obj_core.specs.Placement.{filler, up16, displacement, overlaid, slot_in};
 
 use rd_num::bytes::put_u64_le;
 use rd_num::list::List;

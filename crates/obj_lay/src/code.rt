@@ -2,7 +2,8 @@
 
 ghost use Rattle.std.specs.Prelude.{ℕ, ◌≡◌, ◌+◌, ◌%◌, ◌^◌, ◌<◌, ◌≤◌, ◌++◌, length, take, drop, OnOk, IfOk};
 ghost use Rattle.rd_draw.specs.Draw.{keystream_word};
-ghost use Rattle.obj_lay.specs.Layout.{linked, piece, placed, code_base, gap_purpose, start_behind, starts_from, code_from, displacement, overlaid, slot_in};
+ghost use Rattle.obj_core.specs.Placement.{piece, placed, code_base, gap_purpose, start_behind, starts_from, displacement, overlaid, slot_in};
+ghost use Rattle.obj_lay.specs.Layout.{linked, code_from};
 
 use crate::bytes::{overlay, put_filler, round_up, slot_address, way};
 use obj_core::object::{Func, Link};

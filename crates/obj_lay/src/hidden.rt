@@ -1,7 +1,7 @@
 //! Addresses of code, which give no number.
 
 ghost use Rattle.std.specs.Prelude.{◌≡◌, ◌+◌, ◌%◌, ◌^◌, ◌<◌, ◌++◌, ◌∷◌, OnOk, Some};
-ghost use Rattle.obj_lay.specs.Layout.{displacement, address_by, address_in};
+ghost use Rattle.obj_core.specs.Placement.{displacement, address_by, address_in};
 
 use crate::bytes::{address_at, number_at, way};
 use obj_core::object::{CodeAt, Func};

@@ -5,7 +5,8 @@ ghost use Rattle.machine_core.specs.Data.{segment as segment_of};
 ghost use Rattle.obj_core.specs.Slots.{positions as positions_of};
 ghost use Rattle.obj_core.specs.WellFormed.{IsWellFormed};
 ghost use Rattle.elf_file.specs.Sound.{IsSound};
-ghost use Rattle.obj_lay.specs.Layout.{piece, order as order_of, starts as starts_of, code_base, code_bytes, slot_bytes, present, segments, layout};
+ghost use Rattle.obj_core.specs.Placement.{piece, order as order_of, starts as starts_of, code_base};
+ghost use Rattle.obj_lay.specs.Layout.{code_bytes, slot_bytes, present, segments, layout};
 
 use crate::bytes::{SLOT_BASE, slot_address};
 use crate::code::{Code, put_code};

@@ -1,7 +1,8 @@
 //! The slots: sixteen bytes each, in the order of their positions.
 
 ghost use Rattle.std.specs.Prelude.{◌≡◌, ◌+◌, ◌<◌, ◌^◌, ◌++◌, ◌∷◌, OnOk, IfOk, Some, slice_get};
-ghost use Rattle.obj_lay.specs.Layout.{address_in, start_of, jump, call, filler, trampoline, trampolines, displacement};
+ghost use Rattle.obj_core.specs.Placement.{address_in, start_of, filler, displacement};
+ghost use Rattle.obj_lay.specs.Layout.{jump, call, trampoline, trampolines};
 
 use crate::bytes::{put_filler, slot_address};
 use crate::hidden::{place, put_branch};

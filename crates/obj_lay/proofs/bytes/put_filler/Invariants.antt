@@ -1,5 +1,5 @@
 use Rattle.std.proofs.Common.{◌≡◌, ◌++◌}
-use Rattle.obj_lay.specs.Layout.{filler}
+use Rattle.obj_core.specs.Placement.{filler}
 use Rattle.obj_lay.proofs.bytes.put_filler.Given as goal
 
 abbrev pub invariant-loop : goal.invariant-loop

@@ -1,6 +1,6 @@
 use Rattle.std.proofs.Common.{◌∙◌, ap, sym, length}
-use Rattle.obj_lay.specs.Layout.{Piece}
-use Rattle.obj_lay.proofs.Pieces.{piece_some, piece_none}
+use Rattle.obj_core.specs.Placement.{Piece}
+use Rattle.obj_core.proofs.Pieces.{piece_some, piece_none}
 use Rattle.obj_lay.proofs.code.piece_len.Goals as goal
 
 pub returns-in-Some : goal.returns-in-Some

@@ -1,6 +1,7 @@
 use Rattle.std.proofs.Common.{◌≡◌, ◌++◌, ◌+◌, ◌*◌, ◌≤◌, drop}
 use Rattle.rd_draw.specs.Draw.{stream_key, keystream_word}
-use Rattle.obj_lay.specs.Layout.{gap_purpose, placed, starts_from, code_from, code_base}
+use Rattle.obj_core.specs.Placement.{gap_purpose, placed, starts_from, code_base}
+use Rattle.obj_lay.specs.Layout.{code_from}
 use Rattle.obj_lay.proofs.code.put_code.Given as goal
 
 -- what is made so far, with what the functions that are left give, is the whole

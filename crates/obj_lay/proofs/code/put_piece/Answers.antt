@@ -1,5 +1,5 @@
 use Rattle.std.proofs.Common.{rules}
-use Rattle.obj_lay.proofs.Pieces.{piece_some, piece_none}
+use Rattle.obj_core.proofs.Pieces.{piece_some, piece_none}
 use Rattle.obj_lay.proofs.code.put_piece.Goals as goal
 
 pub returns-in-Some : goal.returns-in-Some

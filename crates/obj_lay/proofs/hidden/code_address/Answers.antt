@@ -1,5 +1,5 @@
 use Rattle.std.proofs.Common.{refl}
-use Rattle.obj_lay.proofs.Pieces.{address_some, address_none}
+use Rattle.obj_core.proofs.Pieces.{address_some, address_none}
 use Rattle.obj_lay.proofs.hidden.code_address.Goals as goal
 
 pub returns-in-Some : goal.returns-in-Some

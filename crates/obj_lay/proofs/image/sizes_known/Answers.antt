@@ -1,4 +1,4 @@
-use Rattle.obj_lay.proofs.Sizes.{few_functions, few_slots, small_pieces}
+use Rattle.obj_core.proofs.Sizes.{few_functions, few_slots, small_pieces}
 use Rattle.obj_lay.proofs.image.sizes_known.Goals as goal
 
 pub returns-clause-functions : goal.returns-clause-functions

@@ -1,5 +1,6 @@
 use Rattle.std.proofs.Common.{◌≡◌, ◌++◌, drop}
-use Rattle.obj_lay.specs.Layout.{address_in, trampolines}
+use Rattle.obj_core.specs.Placement.{address_in}
+use Rattle.obj_lay.specs.Layout.{trampolines}
 use Rattle.obj_lay.proofs.slots.put_slots.Given as goal
 
 -- the slots so far, and those that are left, are all

@@ -1,6 +1,6 @@
 use Rattle.std.proofs.Common.{◌≡◌, ◌≤◌, length}
-use Rattle.obj_lay.proofs.Inverse.{Found}
-use Rattle.obj_lay.proofs.order.inverted.Given as goal
+use Rattle.obj_core.proofs.Inverse.{Found}
+use Rattle.obj_core.proofs.order.inverted.Given as goal
 
 -- the places of all numbers are known that stand from here on
 abbrev pub invariant-loop-i : goal.invariant-loop-i

@@ -8,8 +8,8 @@ use Rattle.std.proofs.lemmas.List.Sums.{sum-map, sum_by-cons}
 use Rattle.obj_core.specs.declared.object.Object.{Object}
 use Rattle.obj_core.specs.declared.object.Func.{Func}
 use Rattle.obj_core.specs.WellFormed.{IsWellFormed}
-use Rattle.obj_lay.specs.Layout.{piece}
-use Rattle.obj_lay.proofs.Pieces.{whole_or, piece_whole}
+use Rattle.obj_core.specs.Placement.{piece}
+use Rattle.obj_core.proofs.Pieces.{whole_or, piece_whole}
 
 -- all bytes of code
 abbrev pub code_len : List Func → ℕ

@@ -1,40 +1,17 @@
 //! Readable segments, which are made of plain bytes and addresses of slots alone.
 
-ghost use Rattle.std.specs.Prelude.{◌≡◌, ◌+◌, ◌*◌, ◌<◌, ◌^◌, ◌++◌, [], OnOk, OnErr, if◌then◌else◌};
+ghost use Rattle.std.specs.Prelude.{◌≡◌, ◌+◌, ◌*◌, ◌++◌, [], OnOk, OnErr, if◌then◌else◌};
 ghost use Rattle.rd_num.specs.Number.{le_bytes};
 ghost use Rattle.machine_core.specs.Data.{segment};
 ghost use Rattle.obj_core.specs.Slots.{slot_base};
 
-use crate::bytes::SLOT_BASE;
+use crate::address::SlotAddr;
 use bitflags::Flags;
 use rd_num::bytes::put_u64_le;
 use rd_num::list::List;
 use rd_num::width::NoMemory;
 use std::alloc::Global;
 use x86_core::image::{Rights, Segment};
-
-/// The address of a slot, by its position.
-#[derive(Clone, Copy)]
-pub struct SlotAddr {
-    position: u32,
-}
-
-impl SlotAddr {
-    /// The address of the slot at a position. Takes no memory.
-    pub fn at(position: u32) -> SlotAddr
-        requires { position < 2 ^ 20 }
-        ensures { result ≡ record { position = position } }
-    {
-        SlotAddr { position }
-    }
-
-    /// The address as a number. Takes no memory.
-    pub fn number(&self) -> u64
-        ensures { result ≡ slot_base + 16 * self.now.position }
-    {
-        SLOT_BASE + 16 * u64::from(self.position)
-    }
-}
 
 /// A readable segment that is being made: where it begins, and its bytes so far.
 #[derive(Drop)]

@@ -7,7 +7,7 @@ use Rattle.std.proofs.lemmas.List.{get_or_default}
 use Rattle.std.proofs.lemmas.Option.{slice_get-get_or}
 use Rattle.rd_draw.specs.Draw.{shuffled}
 use Rattle.rd_draw.proofs.Permuted.{shuffled_long, shuffled_below, shuffled_holds, shuffled_apart}
-use Rattle.obj_lay.specs.Layout.{place_of, inverse}
+use Rattle.obj_core.specs.Placement.{place_of, inverse}
 
 -- a number stands at its place
 pub record StandsAt (xs : List ℕ) (n : ℕ) : Type 0 where

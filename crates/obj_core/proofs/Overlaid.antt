@@ -3,7 +3,7 @@ use Rattle.std.proofs.Common.{◌≡◌, ℕ, ◌+◌, ◌-◌, ◌≤◌, List,
 use Rattle.std.specs.Prelude.{slice_set}
 use Rattle.std.proofs.Math.ListN.{take-append-drop}
 use Rattle.std.proofs.lemmas.List.{set-append_right, length-set, length-take, take_at, drop_at}
-use Rattle.obj_lay.specs.Layout.{overlaid}
+use Rattle.obj_core.specs.Placement.{overlaid}
 
 set_behind : (xs ys : List ℕ) (n k j b : ℕ) → length xs ≡ n → j ≡ n + k → slice_set (xs ++ ys) j b ≡ xs ++ slice_set ys k b
 set_behind xs ys n k j b e h =

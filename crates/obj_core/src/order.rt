@@ -1,7 +1,7 @@
 //! Orders of numbers, and where each number stands in them.
 
 ghost use Rattle.std.specs.Prelude.{◌≡◌, ◌<◌, ◌^◌, ◌+◌, slice_index, length, IfOk, replicate, slice_set};
-ghost use Rattle.obj_lay.specs.Layout.{inverse};
+ghost use Rattle.obj_core.specs.Placement.{inverse};
 
 use rd_num::list::List;
 use rd_num::width::NoMemory;

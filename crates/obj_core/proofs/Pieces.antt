@@ -5,7 +5,7 @@ use Rattle.std.proofs.lemmas.Bool.Decides.{nat_tests}
 use Rattle.rd_num.specs.Number.{le_bytes}
 use Rattle.obj_core.specs.declared.object.Func.{Func}
 use Rattle.obj_core.specs.declared.object.CodeAt.{CodeAt}
-use Rattle.obj_lay.specs.Layout.{Piece, whole, pieces_from, pieces, no_piece, or_no_piece, piece, address_from, address_in, address_by, displacement}
+use Rattle.obj_core.specs.Placement.{Piece, whole, pieces_from, pieces, no_piece, or_no_piece, piece, address_from, address_in, address_by, displacement}
 
 get_some : {T : Type 0} (xs : List T) (k : ℕ) (x : T) → k < length xs → x ≡ get_or xs k x → slice_get xs k ≡ Some x
 get_some [] k x h e = absurd (omega arith)

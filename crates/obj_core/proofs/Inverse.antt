@@ -7,7 +7,7 @@ use Rattle.std.proofs.lemmas.Bool.Decides.{nat_tests}
 use Rattle.std.proofs.lemmas.List.{get_or-replicate, get_or-set_other}
 use Rattle.std.proofs.lemmas.Grind.{get_or-set_at}
 use Rattle.std.proofs.lemmas.List.FromFn.{fill_by_all}
-use Rattle.obj_lay.specs.Layout.{place_of, inverse}
+use Rattle.obj_core.specs.Placement.{place_of, inverse}
 
 -- the places of all numbers are known that stand from place i on
 abbrev pub Found : List ℕ → ℕ → List ℕ → Type 0
