@@ -1,5 +1,7 @@
 pub mod Cuts
 pub mod Stands
+pub mod Kept
+pub mod Inside
 pub mod Overlaid
 pub mod Pieces
 pub mod Inverse
@@ -7,4 +9,5 @@ pub mod Orders
 pub mod Sizes
 pub mod Totals
 pub mod Looked
+pub mod Written
 pub mod Worked

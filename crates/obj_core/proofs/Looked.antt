@@ -12,7 +12,7 @@ use Rattle.obj_core.specs.declared.run.Run.{Run}
 use Rattle.obj_core.specs.declared.code.CodePlan.{CodePlan}
 use Rattle.obj_core.specs.Placement.{address, address_by, inverse, order, starts}
 use Rattle.obj_core.specs.Runs.{room, address_at, address_in_run, runs_from}
-use Rattle.obj_core.specs.Plans.{function_start, function_runs, IsPlan}
+use Rattle.obj_core.specs.Plans.{function_start, function_runs, planned, IsPlan}
 use Rattle.obj_core.proofs.Pieces.{address_whole}
 
 -- where a run ends
@@ -102,9 +102,9 @@ byte_is places starts c None = refl
 byte_is places starts c (Some f) = refl
 
 -- the address that a plan gives a byte is the layout's
-pub planned : (plan : CodePlan) (c : CodeAt) (o : Object) (seed : ℕ) → IsPlan plan o seed → address_in_run (slice_get plan.runs c.function) c.offset ≡ address o seed c
+pub planned_is : (plan : CodePlan) (c : CodeAt) (o : Object) (seed : ℕ) → IsPlan plan o seed → planned plan c ≡ address o seed c
 unfolding address function_runs
-planned plan c o seed is =
+planned_is plan c o seed is =
     let places = inverse (order o seed) in
     ap (λ rs. address_in_run (slice_get rs c.function) c.offset) is.runs ∙
     run_of (function_start o seed) 0 0 o.functions c.function c.function c.offset (omega arith) ∙

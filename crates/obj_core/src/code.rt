@@ -3,7 +3,7 @@
 //! An address of code is a `Hidden`. A plan makes it, and a builder fills it into a displacement of a
 //! segment that may be run alone; nothing else can be done with it.
 
-ghost use Rattle.std.specs.Prelude.{◌≡◌, ℕ, ◌+◌, ◌-◌, ◌*◌, ◌<◌, ◌≤◌, ◌^◌, [], ◌∷◌, length, IfOk, slice_get, slice_index, slice_set, Some};
+ghost use Rattle.std.specs.Prelude.{◌≡◌, ℕ, ◌+◌, ◌-◌, ◌*◌, ◌<◌, ◌≤◌, ◌^◌, [], ◌∷◌, length, IfOk, slice_get, slice_index, Some};
 ghost use Rattle.std.specs.List.{sum_by};
 ghost use Rattle.machine_core.specs.Data.{segment};
 ghost use Rattle.obj_core.specs.declared.object.Object.{Object};
@@ -11,9 +11,10 @@ ghost use Rattle.obj_core.specs.declared.object.Func.{Func};
 ghost use Rattle.obj_core.specs.Slots.{slot_base};
 ghost use Rattle.obj_core.specs.Placement.{filler, displacement, address};
 ghost use Rattle.obj_core.specs.Runs.{room, address_at, address_in_run, put_at, runs_from, slot_run};
-ghost use Rattle.obj_core.specs.Plans.{IsPlan};
+ghost use Rattle.obj_core.specs.Plans.{IsPlan, planned};
 
-use crate::address::{SLOT_BASE, SlotAddr, breakpoints, number_at, way};
+use crate::address::{SLOT_BASE, SlotAddr};
+use crate::bytes::{breakpoints, number_at, put_byte, way};
 use crate::checked::Checked;
 use crate::limits::{row_known, sizes_known};
 use crate::object::{CodeAt, Func};
@@ -69,7 +70,8 @@ impl CodePlan {
     /// The address that the layout gives a byte of a function, or 0 where the object has no such byte.
     /// Takes no memory.
     pub fn place(&self, at: &CodeAt) -> Hidden
-        ensures { (o : Object) (seed : ℕ) → IsPlan self.now o seed → result.address ≡ address o seed at.now }
+        ensures planned { result.address ≡ planned self.now at.now }
+        ensures layout { (o : Object) (seed : ℕ) → IsPlan self.now o seed → result.address ≡ address o seed at.now }
     {
         Hidden {
             address: self.address_of(at),
@@ -78,7 +80,7 @@ impl CodePlan {
 
     /// The number of that address. Takes no memory.
     fn address_of(&self, at: &CodeAt) -> u64
-        ensures { result ≡ address_in_run (slice_get self.now.runs at.now.function) at.now.offset }
+        ensures { result ≡ planned self.now at.now }
     {
         match self.runs.get(at.function as usize) {
             Some(run) => address_inside(run, at.offset),
@@ -233,13 +235,4 @@ fn address_by(run: &Run, at: u64) -> u64
     ensures low { result < 2 ^ 33 }
 {
     u64::from(run.start) + at.saturating_sub(u64::from(run.front))
-}
-
-/// Puts a byte over the one at an index, if there is one. Takes no memory.
-fn put_byte(all: &mut List<u8>, at: usize, byte: u8)
-    ensures { all.new ≡ slice_set all.old at byte }
-{
-    if at < all.len() {
-        all.set(at, byte);
-    }
 }

@@ -10,6 +10,7 @@
 #![tactic(auto)]
 
 pub mod address;
+mod bytes;
 pub mod checked;
 pub mod code;
 mod limits;

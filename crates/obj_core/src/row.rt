@@ -7,7 +7,7 @@ ghost use Rattle.obj_core.specs.declared.object.Func.{Func};
 ghost use Rattle.obj_core.specs.Placement.{Piece, piece, order as order_of, placed, code_base, gap_purpose, starts_from};
 ghost use Rattle.obj_core.specs.Plans.{end_from};
 
-use crate::address::round_up;
+use crate::bytes::round_up;
 use crate::object::{Func, Object};
 use rd_draw::{Draw, perm, shuffle_known};
 use rd_num::list::List;
