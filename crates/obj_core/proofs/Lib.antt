@@ -9,5 +9,6 @@ pub mod Orders
 pub mod Sizes
 pub mod Totals
 pub mod Looked
+pub mod Fronts
 pub mod Written
 pub mod Worked

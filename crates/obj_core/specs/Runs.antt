@@ -29,6 +29,6 @@ abbrev pub runs_from : (ℕ → ℕ) → ℕ → ℕ → List Func → List Run
 runs_from start n front [] = []
 runs_from start n front (f ∷ fs) = record { front = front; end = front + length f.bytes; start = start n } ∷ runs_from start (n + 1) (front + length f.bytes) fs
 
--- so many slots
+-- slots of so many bytes
 abbrev pub slot_run : ℕ → Run
-slot_run count = record { front = 0; end = 16 * count; start = slot_base }
+slot_run size = record { front = 0; end = size; start = slot_base }

@@ -133,7 +133,7 @@ pub struct CodeBuilder {
 impl CodeBuilder {
     /// A segment for the slots of an object, all breakpoints; places count from its start.
     pub fn for_slots(alloc: Global, o: &Checked) -> Result<CodeBuilder, NoMemory>
-        ensures { IfOk result (λ b. b ≡ record { start = slot_base; runs = slot_run (length o.now.object.slots) ∷ []; bytes = filler (16 * length o.now.object.slots) }) }
+        ensures { IfOk result (λ b. b ≡ record { start = slot_base; runs = slot_run (16 * length o.now.object.slots) ∷ []; bytes = filler (16 * length o.now.object.slots) }) }
     {
         let object = o.object();
         sizes_known(object);

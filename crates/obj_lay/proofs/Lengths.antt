@@ -1,27 +1,25 @@
 -- How many bytes slots and code have.
-use Rattle.std.proofs.Common.{◌≡◌, ℕ, zero, suc, ◌+◌, ◌-◌, ◌*◌, ◌≤◌, List, [], ◌∷◌, ◌++◌, length, map, get_or, refl, sym, ◌∙◌, ap, arith, length-append}
+use Rattle.std.proofs.Common.{◌≡◌, ℕ, ◌+◌, ◌-◌, ◌*◌, ◌≤◌, List, [], ◌∷◌, ◌++◌, length, refl, ◌∙◌, ap, arith, length-append}
 use Rattle.std.specs.Prelude.{Option, Some, None, slice_get, replicate}
-use Rattle.std.specs.List.{sum, sum_by, range_with_len}
-use Rattle.std.proofs.lemmas.List.{length-replicate, length-map}
-use Rattle.std.proofs.lemmas.List.FromFn.{length-map-range_with_len, fill_by_all}
-use Rattle.std.proofs.lemmas.List.Sums.{sum-map, sum_by-cons}
-use Rattle.std.proofs.lemmas.List.Sorted.{sum_by-IsPermutation}
+use Rattle.std.specs.List.{sum_by}
+use Rattle.std.proofs.lemmas.List.{length-replicate}
+use Rattle.std.proofs.lemmas.List.FromFn.{length-map-range_with_len}
+use Rattle.std.proofs.lemmas.List.Sums.{sum_by-cons}
 use Rattle.rd_draw.specs.Draw.{keystream_word}
-use Rattle.rd_draw.proofs.Permuted.{shuffled_permutes, shuffled_long}
+use Rattle.rd_draw.proofs.Permuted.{shuffled_long}
 use Rattle.obj_core.specs.declared.object.Object.{Object}
-use Rattle.obj_core.specs.declared.object.Func.{Func}
 use Rattle.obj_core.specs.declared.object.Link.{Link}
 use Rattle.obj_core.specs.declared.object.Slot.{Slot}
 use Rattle.obj_core.specs.declared.object.CodeAt.{CodeAt}
 use Rattle.obj_core.specs.Slots.{positions, slot_purpose}
-use Rattle.obj_core.specs.Placement.{Piece, piece, pieces, placed, order, order_purpose, gap_purpose, inverse, place_of, displacement, slot_in, up16, start_behind, starts_from, starts, code_base, address}
-use Rattle.obj_lay.specs.Layout.{linked, code_from, code_bytes, trampoline, trampolines, slot_bytes}
+use Rattle.obj_core.specs.Placement.{Piece, placed, order, gap_purpose, inverse, place_of, displacement, slot_in, up16, start_behind, starts_from, starts, code_base, address}
 use Rattle.obj_core.proofs.Overlaid.{overlaid_long}
-use Rattle.obj_core.proofs.Pieces.{whole_or, piece_whole, pieces_as_many}
 use Rattle.obj_core.proofs.Sizes.{code_len}
+use Rattle.obj_core.proofs.Totals.{piece_len, order_sum, order_long}
+use Rattle.obj_lay.specs.Layout.{linked, code_from, code_bytes, trampoline, trampolines, slot_bytes}
 
 -- each slot has sixteen bytes
-slot_long : (code : CodeAt → ℕ) (at : ℕ) (s : Option Slot) → length (trampoline code at s) ≡ 16
+pub slot_long : (code : CodeAt → ℕ) (at : ℕ) (s : Option Slot) → length (trampoline code at s) ≡ 16
 slot_long code at None = refl
 slot_long code at (Some (Slot.Entry target)) = refl
 slot_long code at (Some (Slot.Jump target)) = refl
@@ -29,7 +27,7 @@ slot_long code at (Some (Slot.Call target back)) = refl
 slot_long code at (Some (Slot.Indirect back)) = refl
 slot_long code at (Some (Slot.System back)) = refl
 
-slots_long : (code : CodeAt → ℕ) (at : List ℕ) (slots : List Slot) (ks : List ℕ) → length (trampolines code at slots ks) ≡ 16 * length ks
+pub slots_long : (code : CodeAt → ℕ) (at : List ℕ) (slots : List Slot) (ks : List ℕ) → length (trampolines code at slots ks) ≡ 16 * length ks
 slots_long code at slots [] = refl
 slots_long code at slots (k ∷ ks) =
     length-append (trampoline code (slot_in at k) (slice_get slots k)) (trampolines code at slots ks) ∙
@@ -42,7 +40,7 @@ length-slot_bytes o seed =
     ap (λ n. 16 * n) (length-map-range_with_len (place_of (positions o)) 0 (length (positions o)) ∙ shuffled_long (keystream_word o.slot_seed slot_purpose 0) (length o.slots))
 
 -- links change no length
-linked_long : (at : List ℕ) (start : ℕ) (ls : List Link) (bytes : List ℕ) → length (linked at start ls bytes) ≡ length bytes
+pub linked_long : (at : List ℕ) (start : ℕ) (ls : List Link) (bytes : List ℕ) → length (linked at start ls bytes) ≡ length bytes
 linked_long at start [] bytes = refl
 linked_long at start (l ∷ ls) bytes =
     let d = displacement (slot_in at l.slot) (start + l.at + 4) in

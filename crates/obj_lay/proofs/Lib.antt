@@ -1,8 +1,8 @@
-pub mod Overlaid
-pub mod Pieces
-pub mod Inverse
-pub mod Sizes
 pub mod Shown
 pub mod Lengths
 pub mod Sound
+pub mod Growing
+pub mod Written
+pub mod Slotting
+pub mod Laid
 pub mod Worked

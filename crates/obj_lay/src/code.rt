@@ -1,6 +1,7 @@
 //! Functions where a plan has them, with the displacements to the slots that their links name.
 
 ghost use Rattle.std.specs.Prelude.{ℕ, ◌≡◌, ◌+◌, ◌-◌, ◌<◌, ◌≤◌, ◌^◌, length, All, IfOk, slice_get, slice_index};
+ghost use Rattle.std.specs.List.{sum_by};
 ghost use Rattle.machine_core.specs.Data.{segment};
 ghost use Rattle.obj_core.specs.declared.object.Func.{Func};
 ghost use Rattle.obj_core.specs.declared.object.Link.{Link};
@@ -14,36 +15,48 @@ ghost use Rattle.obj_lay.specs.Layout.{linked, code_bytes};
 use obj_core::address::SlotAddr;
 use obj_core::checked::Checked;
 use obj_core::code::{CodeBuilder, CodePlan};
-use obj_core::object::{Func, Object};
+use obj_core::object::Func;
 use rd_num::width::NoMemory;
 use std::alloc::Global;
 use x86_core::image::Segment;
 
-/// The segment of all code, each function written where the plan has it.
-pub fn code_segment(
+/// Where code stands, and the segment of it.
+#[derive(Drop)]
+pub struct Code {
+    pub plan: CodePlan,
+    pub segment: Segment,
+}
+
+/// All code of an object for a layout seed, each function written where the plan has it.
+pub fn code_of(
     alloc: Global,
     o: &Checked,
-    plan: &CodePlan,
     positions: &[u32],
     layout_seed: u64,
-) -> Result<Segment, NoMemory>
-    requires plan { IsPlan plan.now o.now.object layout_seed }
+) -> Result<Code, NoMemory>
+    requires little { sum_by (λ (f : Func). length f.bytes) o.now.object.functions ≤ 67108864 }
     requires positions { positions.now ≡ positions_of o.now.object }
     requires below { (k : ℕ) → slice_index positions.now k < 2 ^ 20 }
-    ensures { IfOk result (λ s. s ≡ segment (code_base layout_seed) (code_bytes o.now.object layout_seed) 1) }
+    ensures plan { IfOk result (λ c. IsPlan c.plan o.now.object layout_seed) }
+    ensures segment { IfOk result (λ c. c.segment ≡ segment (code_base layout_seed) (code_bytes o.now.object layout_seed) 1) }
 {
+    let plan = CodePlan::new(alloc, o, layout_seed)?;
     let functions = o.object().functions.as_slice();
-    let mut builder = CodeBuilder::for_code(alloc, plan)?;
+    let mut builder = CodeBuilder::for_code(alloc, &plan)?;
     let mut front = 0;
     for i in 0..functions.len() {
         put_function(&mut builder, front, &functions[i], positions);
         front += functions[i].bytes.len() as u32;
     }
-    Ok(builder.finish())
+    Ok(Code {
+        plan,
+        segment: builder.finish(),
+    })
 }
 
 /// Puts a function whose bytes stand from a place on, and the displacements of its links. Takes no memory.
 fn put_function(builder: &mut CodeBuilder, front: u32, function: &Func, positions: &[u32])
+    requires small { front + length function.now.bytes ≤ 67108864 }
     requires room { front + length function.now.bytes ≤ room builder.old.runs }
     requires together { (p : ℕ) → p < length function.now.bytes → address_at builder.old.runs (front + p) ≡ address_at builder.old.runs front + p }
     requires low { builder.old.start ≤ address_at builder.old.runs front }

@@ -1,17 +1,18 @@
 //! The image of an object: slots, data and code, each in a segment of its own.
 
 ghost use Rattle.std.specs.Prelude.{ℕ, ◌≡◌, ◌++◌, ◌<◌, ◌≤◌, ◌^◌, length, OnOk, IfOk, slice_index, if◌then◌else◌};
+ghost use Rattle.std.specs.List.{sum_by};
 ghost use Rattle.machine_core.specs.Data.{segment as segment_of};
+ghost use Rattle.obj_core.specs.declared.object.Func.{Func};
 ghost use Rattle.obj_core.specs.Slots.{positions as positions_of};
 ghost use Rattle.obj_core.specs.WellFormed.{IsWellFormed};
 ghost use Rattle.elf_file.specs.Sound.{IsSound};
 ghost use Rattle.obj_lay.specs.Layout.{present, layout};
 
-use crate::code::{code_segment, position};
+use crate::code::{code_of, position};
 use crate::slots::slot_segment;
 use obj_core::address::SlotAddr;
 use obj_core::checked::Checked;
-use obj_core::code::CodePlan;
 use obj_core::object::Object;
 use obj_core::readable::ReadBuilder;
 use rd_draw::{perm, shuffle_known};
@@ -40,10 +41,9 @@ pub fn lay(alloc: Global, o: &Checked, layout_seed: u64) -> Result<Image, NoMemo
     sizes_known(object);
     sound_known(object, layout_seed);
     let positions = slot_positions(alloc, object)?;
-    let plan = CodePlan::new(alloc, o, layout_seed)?;
-    let slots = slot_segment(alloc, o, &plan, positions.as_slice())?;
-    let code = code_segment(alloc, o, &plan, positions.as_slice(), layout_seed)?;
-    let segments = four_segments(alloc, object, slots, code)?;
+    let code = code_of(alloc, o, positions.as_slice(), layout_seed)?;
+    let slots = slot_segment(alloc, o, &code.plan, positions.as_slice())?;
+    let segments = four_segments(alloc, object, slots, code.segment)?;
     let entry = SlotAddr::at(position(positions.as_slice(), 0)).number();
     Ok(Image { entry, segments })
 }
@@ -54,10 +54,11 @@ fn sound_known(o: &Object, layout_seed: u64)
     ensures { IsSound (layout o.now layout_seed) }
 {}
 
-/// Makes it known to a proof how many slots a well-formed object has at most.
+/// Makes it known to a proof how large a well-formed object is at most.
 fn sizes_known(o: &Object)
     requires { ∥ IsWellFormed o.now ∥₁ }
-    ensures { length o.now.slots ≤ 1048576 }
+    ensures slots { length o.now.slots ≤ 1048576 }
+    ensures code { sum_by (λ (f : Func). length f.bytes) o.now.functions ≤ 67108864 }
 {}
 
 /// The segments of an image, in the order of their addresses, without the empty ones.

@@ -36,11 +36,10 @@ pub fn slot_segment(
 
 /// Puts a slot at a place where breakpoints are. Takes no memory.
 fn put_slot(builder: &mut CodeBuilder, plan: &CodePlan, at: u32, slot: &Slot)
-    ghost count: { ℕ }
     requires start { builder.old.start ≡ slot_base }
-    requires runs { builder.old.runs ≡ slot_run count ∷ [] }
-    requires long { length builder.old.bytes ≡ 16 * count }
-    requires inside { at + 16 ≤ 16 * count }
+    requires runs { builder.old.runs ≡ slot_run (length builder.old.bytes) ∷ [] }
+    requires small { length builder.old.bytes ≤ 16777216 }
+    requires inside { at + 16 ≤ length builder.old.bytes }
     requires blank { builder.old.bytes ≡ overlaid builder.old.bytes at (filler 16) }
     ensures { builder.new ≡ record builder.old { bytes = overlaid builder.old.bytes at (trampoline (planned plan.now) (slot_base + at) (Some slot.now)) } }
 {
@@ -64,10 +63,10 @@ fn put_slot(builder: &mut CodeBuilder, plan: &CodePlan, at: u32, slot: &Slot)
 
 /// Puts an opcode and the displacement to a byte of code. Takes no memory.
 fn put_branch(builder: &mut CodeBuilder, plan: &CodePlan, at: u32, opcode: u8, to: &CodeAt)
-    ghost count: { ℕ }
     requires start { builder.old.start ≡ slot_base }
-    requires runs { builder.old.runs ≡ slot_run count ∷ [] }
-    requires inside { at + 5 ≤ 16 * count }
+    requires runs { builder.old.runs ≡ slot_run (length builder.old.bytes) ∷ [] }
+    requires small { length builder.old.bytes ≤ 16777216 }
+    requires inside { at + 5 ≤ length builder.old.bytes }
     ensures { builder.new ≡ record builder.old { bytes = overlaid builder.old.bytes at (opcode ∷ displacement (planned plan.now to.now) (slot_base + at + 5)) } }
 {
     builder.bytes(at, &[opcode]);
