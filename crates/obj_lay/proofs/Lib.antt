@@ -5,4 +5,5 @@ pub mod Growing
 pub mod Written
 pub mod Slotting
 pub mod Laid
+pub mod Made
 pub mod Worked

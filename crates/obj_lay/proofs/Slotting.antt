@@ -8,11 +8,14 @@ use Rattle.rd_draw.proofs.Permuted.{shuffled_long}
 use Rattle.obj_core.specs.declared.object.Object.{Object}
 use Rattle.obj_core.specs.declared.object.Slot.{Slot}
 use Rattle.obj_core.specs.declared.object.CodeAt.{CodeAt}
+use Rattle.obj_core.specs.declared.code.CodePlan.{CodePlan}
 use Rattle.obj_core.specs.Slots.{slot_base, slot_purpose, positions}
-use Rattle.obj_core.specs.Placement.{filler, overlaid, slot_in, place_of, inverse}
+use Rattle.obj_core.specs.Placement.{filler, overlaid, slot_in, place_of, inverse, start_of, address}
+use Rattle.obj_core.specs.Plans.{planned, IsPlan}
+use Rattle.obj_core.proofs.Looked.{planned_is}
 use Rattle.obj_core.proofs.Overlaid.{overlaid_behind, overlaid_first}
 use Rattle.obj_core.proofs.Orders.{StandsAt, shuffled_stands, place_again, index_below, inverse_index, inverse_long}
-use Rattle.obj_lay.specs.Layout.{trampoline, trampolines}
+use Rattle.obj_lay.specs.Layout.{jump, call, trampoline, trampolines, slot_bytes}
 use Rattle.obj_lay.proofs.Lengths.{slot_long, slots_long}
 
 -- the first slots
@@ -170,3 +173,27 @@ slots_first o code at slots at_is =
 
 pub slots_last : (code : CodeAt → ℕ) (at : List ℕ) (slots all : List Slot) (n : ℕ) → slots ≡ all → length slots ≤ n → trampolines code at (so_far slots n) (inverse at) ≡ trampolines code at all (inverse at)
 slots_last code at slots all n e h = ap (λ ss. trampolines code at ss (inverse at)) (so_far_all slots n h ∙ e)
+
+-- the same slots where code has the same addresses
+slot_same : (code way : CodeAt → ℕ) → ((c : CodeAt) → code c ≡ way c) → (start : ℕ) (s : Option Slot) → trampoline code start s ≡ trampoline way start s
+slot_same code way h start None = refl
+slot_same code way h start (Some (Slot.Entry target)) = ap (λ to. jump to (start + 5) ++ filler 11) (h (start_of target))
+slot_same code way h start (Some (Slot.Jump target)) = ap (λ to. jump to (start + 5) ++ filler 11) (h (start_of target))
+slot_same code way h start (Some (Slot.Call target back)) =
+    ap (λ to. call to (start + 5) ++ (jump (code back) (start + 10) ++ filler 6)) (h (start_of target)) ∙
+    ap (λ to. call (way (start_of target)) (start + 5) ++ (jump to (start + 10) ++ filler 6)) (h back)
+slot_same code way h start (Some (Slot.Indirect back)) = ap (λ to. (0x90 ∷ 0x90 ∷ 0x41 ∷ 0xFF ∷ 0xD3 ∷ []) ++ (jump to (start + 10) ++ filler 6)) (h back)
+slot_same code way h start (Some (Slot.System back)) = ap (λ to. (0x0F ∷ 0x05 ∷ 0x90 ∷ 0x90 ∷ 0x90 ∷ []) ++ (jump to (start + 10) ++ filler 6)) (h back)
+
+pub slots_same : (code way : CodeAt → ℕ) → ((c : CodeAt) → code c ≡ way c) → (at : List ℕ) (slots : List Slot) (ks : List ℕ) → trampolines code at slots ks ≡ trampolines way at slots ks
+slots_same code way h at slots [] = refl
+slots_same code way h at slots (k ∷ ks) =
+    ap (λ xs. xs ++ trampolines code at slots ks) (slot_same code way h (slot_in at k) (slice_get slots k)) ∙
+    ap (λ xs. trampoline way (slot_in at k) (slice_get slots k) ++ xs) (slots_same code way h at slots ks)
+
+-- the slots of a plan are the layout's
+pub planned_slots : (plan : CodePlan) (o : Object) (seed : ℕ) (at : List ℕ) → IsPlan plan o seed → at ≡ positions o → trampolines (planned plan) at o.slots (inverse at) ≡ slot_bytes o seed
+unfolding slot_bytes
+planned_slots plan o seed at is same =
+    slots_same (planned plan) (address o seed) (λ c. planned_is plan c o seed is) at o.slots (inverse at) ∙
+    ap (λ a. trampolines (address o seed) a o.slots (inverse a)) same

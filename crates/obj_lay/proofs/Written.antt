@@ -1,6 +1,7 @@
 -- What is put into a segment of slots or code, as bytes that are put over others.
-use Rattle.std.proofs.Common.{◌≡◌, ℕ, ◌+◌, ◌-◌, ◌*◌, ◌<◌, ◌≤◌, List, [], ◌∷◌, ◌++◌, length, refl, sym, ◌∙◌, ap, if◌then◌else◌, arith, append_assoc, length-append}
-use Rattle.std.specs.Prelude.{nat_lt}
+use Rattle.std.proofs.Common.{◌≡◌, ℕ, ◌+◌, ◌-◌, ◌*◌, ◌<◌, ◌≤◌, List, [], ◌∷◌, ◌++◌, length, drop, get_or, refl, sym, subst, add-one, ◌∙◌, ap, if◌then◌else◌, arith, append_assoc, length-append}
+use Rattle.std.specs.Prelude.{nat_lt, slice_index}
+use Rattle.std.proofs.Math.Seq.{drop-cons}
 use Rattle.std.proofs.lemmas.Bool.{lt-ltb}
 use Rattle.std.proofs.lemmas.List.{length-replicate, replicate-append-replicate}
 use Rattle.obj_core.specs.declared.object.Link.{Link}
@@ -37,6 +38,35 @@ filled_more at start old off l ls links bytes all new f within inside e =
 
 pub filled_all : (at : List ℕ) (start : ℕ) (old : List ℕ) (off : ℕ) (links : List Link) (bytes all : List ℕ) → Filled at start old off [] links bytes all → all ≡ overlaid old off (linked at start links bytes)
 filled_all at start old off links bytes all f = f.is ∙ ap (overlaid old off) f.rest
+
+-- one link more is filled in
+pub link_put : (at : List ℕ) (base : ℕ) (runs : List Run) (old : List ℕ) (front : ℕ) (links items : List Link) (bytes all new : List ℕ) (i : ℕ) (d : Link) (base_now : ℕ) (runs_now : List Run) (p : ℕ)
+    → items ≡ links → i < length items → Filled at (address_at runs front) old (address_at runs front - base) (drop i links) links bytes all
+    → base ≤ address_at runs front → ((k : ℕ) → k < length bytes → address_at runs (front + k) ≡ address_at runs front + k)
+    → address_at runs front - base + length bytes ≤ length old → (get_or items i d).at + 4 ≤ length bytes
+    → base_now ≡ base → runs_now ≡ runs → p ≡ slice_index at (get_or items i d).slot
+    → new ≡ put_at runs_now base_now all (front + (get_or items i d).at) (displacement (slot_base + 16 * p) (address_at runs_now (front + (get_or items i d).at + 3) + 1))
+    → Filled at (address_at runs front) old (address_at runs front - base) (drop (i + 1) links) links bytes new
+link_put at base runs old front links items bytes all new i d base_now runs_now p same lt f low together within inside base_is runs_are p_is new_is =
+    let l = get_or items i d in
+    let a = address_at runs front in
+    let left : drop i links ≡ l ∷ drop (i + 1) links = ap (drop i) (sym same) ∙ rw add-one (drop-cons items i d lt) ∙ ap (λ ls. l ∷ drop (i + 1) ls) same in
+    let way = displacement (slot_in at l.slot) (a + l.at + 4) in
+    let three : front + (l.at + 3) ≡ front + l.at + 3 = omega arith in
+    let four : a + (l.at + 3) + 1 ≡ a + l.at + 4 = omega arith in
+    let end : address_at runs (front + l.at + 3) + 1 ≡ a + l.at + 4 = ap (λ k. address_at runs k + 1) (sym three) ∙ ap (λ n. n + 1) (together (l.at + 3) (omega (arith, inside))) ∙ four in
+    let each : (k : ℕ) → k < 4 → address_at runs (front + l.at + k) ≡ a + l.at + k =
+    λ k h. let first : front + l.at + k ≡ front + (l.at + k) = omega arith in let last : a + (l.at + k) ≡ a + l.at + k = omega arith in ap (address_at runs) first ∙ together (l.at + k) (omega (arith, inside, h)) ∙ last in
+    let far : a + l.at - base ≡ a - base + l.at = omega (arith, low) in
+    let put : new ≡ overlaid all (a - base + l.at) way =
+    new_is ∙
+    ap (λ n. put_at runs_now n all (front + l.at) (displacement (slot_base + 16 * p) (address_at runs_now (front + l.at + 3) + 1))) base_is ∙
+    ap (λ rs. put_at rs base all (front + l.at) (displacement (slot_base + 16 * p) (address_at rs (front + l.at + 3) + 1))) runs_are ∙
+    ap (λ n. put_at runs base all (front + l.at) (displacement (slot_base + 16 * n) (address_at runs (front + l.at + 3) + 1))) p_is ∙
+    ap (λ n. put_at runs base all (front + l.at) (displacement (slot_in at l.slot) n)) end ∙
+    put_together runs base (a + l.at) all (front + l.at) way (omega (arith, low)) each ∙
+    ap (λ n. overlaid all n way) far in
+    filled_more at a old (a - base) l (drop (i + 1) links) links bytes all new (subst (λ ls. Filled at a old (a - base) ls links bytes all) left f) within inside put
 
 -- bytes that are put over breakpoints, with the breakpoints that stay
 on_blank : (all xs : List ℕ) (at : ℕ) → all ≡ overlaid all at (filler 16) → at + 16 ≤ length all → length xs ≤ 16 → overlaid all at xs ≡ overlaid all at (xs ++ filler (16 - length xs))
@@ -90,3 +120,12 @@ put_slots size all at xs h =
     let same : slot_base + at - slot_base ≡ at = omega arith in
     put_together (slot_run size ∷ []) slot_base (slot_base + at) all at xs (omega arith) (λ p lt. slot_address size (at + p) (omega (arith, h, lt)) ∙ omega arith) ∙
     ap (λ k. overlaid all k xs) same
+
+-- five bytes that are put into slots
+pub plain_put : (b : CodeBuilder) (at : ℕ) (xs : List ℕ) → b.start ≡ slot_base → b.runs ≡ slot_run (length b.bytes) ∷ [] → at + 16 ≤ length b.bytes → length xs ≡ 5
+    → with_bytes b (put_at b.runs b.start b.bytes at xs) ≡ with_bytes b (overlaid b.bytes at xs)
+plain_put b at xs e r h five =
+    ap (with_bytes b) (
+    ap (λ n. put_at b.runs n b.bytes at xs) e ∙
+    ap (λ rs. put_at rs slot_base b.bytes at xs) r ∙
+    put_slots (length b.bytes) b.bytes at xs (omega (arith, h, five)))

@@ -45,8 +45,9 @@ pub fn code_of(
     let mut builder = CodeBuilder::for_code(alloc, &plan)?;
     let mut front = 0;
     for i in 0..functions.len() {
-        put_function(&mut builder, front, &functions[i], positions);
-        front += functions[i].bytes.len() as u32;
+        let function = &functions[i];
+        put_function(&mut builder, front, function, positions);
+        front += function.bytes.len() as u32;
     }
     Ok(Code {
         plan,
