@@ -12,3 +12,4 @@ pub mod Looked
 pub mod Fronts
 pub mod Written
 pub mod Worked
+pub mod SmallWell

@@ -7,3 +7,4 @@ pub mod SymbolicMachine
 pub mod Placement
 pub mod Runs
 pub mod Plans
+pub mod Small

@@ -20,3 +20,5 @@ pub mod readable;
 mod row;
 mod run;
 mod runs;
+#[cfg(test)]
+mod tests;
