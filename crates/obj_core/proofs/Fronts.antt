@@ -1,7 +1,6 @@
 -- Where functions begin among the bytes of all, and the addresses of their bytes by the runs.
 use Rattle.std.proofs.Common.{◌≡◌, ℕ, zero, suc, ◌+◌, ◌-◌, ◌<◌, ◌≤◌, List, [], ◌∷◌, length, Some, true, false, refl, ◌∙◌, ap, if◌then◌else◌, arith}
-use Rattle.std.specs.Prelude.{slice_get, nat_lt, max}
-use Rattle.std.specs.List.{sum_by}
+use Rattle.std.specs.Prelude.{slice_get, nat_lt}
 use Rattle.std.proofs.lemmas.Bool.Decides.{nat_tests}
 use Rattle.std.proofs.lemmas.List.Sums.{sum_by-cons}
 use Rattle.obj_core.specs.declared.object.Func.{Func}

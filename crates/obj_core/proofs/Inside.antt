@@ -1,17 +1,16 @@
 -- Functions of a well-formed object have bytes, and their links lie inside them.
 use Rattle.std.proofs.Common.{◌≡◌, ℕ, zero, suc, ◌+◌, ◌<◌, ◌≤◌, Bool, true, false, ◌&&◌, List, [], ◌∷◌, length, get_or, Option, Some, None, refl, subst, inl, inr, if◌then◌else◌, arith, length-append, ap}
-use Rattle.std.specs.Prelude.{nat_eq, slice_get, All}
+use Rattle.std.specs.Prelude.{nat_eq, slice_get}
 use Rattle.std.proofs.Math.Logic.{∥∥₁_elim}
 use Rattle.std.proofs.Math.Bridge.{le_prop}
 use Rattle.std.proofs.lemmas.Bool.{eqb-true, and_parts, or_cases}
-use Rattle.std.proofs.lemmas.List.Elements.{All-cons}
 use Rattle.x86_core.specs.declared.instr.Instr.{Instr}
 use Rattle.x86_core.specs.Encoding.{encoding}
 use Rattle.x86_core.proofs.Laws.{some_bytes}
 use Rattle.obj_core.specs.declared.object.Object.{Object}
 use Rattle.obj_core.specs.declared.object.Func.{Func}
 use Rattle.obj_core.specs.declared.object.Link.{Link}
-use Rattle.obj_core.specs.Cut.{AreCuts, IsCut, Found, found, found_from, spelled, size_of}
+use Rattle.obj_core.specs.Cut.{AreCuts, IsCut, found, found_from, spelled, size_of}
 use Rattle.obj_core.specs.WellFormed.{IsWellFormed, fills_zero, is_zero, displacement, is_good_link, bad_links}
 use Rattle.obj_core.proofs.Kept.{function_keeps}
 

@@ -1,6 +1,6 @@
 -- Runs, looked up by place and by number.
-use Rattle.std.proofs.Common.{◌≡◌, ℕ, zero, suc, ◌+◌, ◌-◌, ◌<◌, ◌≤◌, Bool, true, false, List, [], ◌∷◌, ◌++◌, drop, append-nil, length, get_or, refl, sym, ◌∙◌, ap, subst, leb, leb-true, if◌then◌else◌, arith}
-use Rattle.std.specs.Prelude.{Option, Some, None, slice_get, slice_index, nat_lt, max}
+use Rattle.std.proofs.Common.{◌≡◌, ℕ, zero, suc, ◌+◌, ◌-◌, ◌<◌, ◌≤◌, true, false, List, [], ◌∷◌, ◌++◌, drop, append-nil, length, get_or, refl, sym, ◌∙◌, ap, subst, leb, leb-true, if◌then◌else◌, arith}
+use Rattle.std.specs.Prelude.{Option, Some, None, slice_get, slice_index, nat_lt}
 use Rattle.std.specs.List.Sorted.{IsNonDecreasingBy, IsPartitionPoint}
 use Rattle.std.proofs.Math.Seq.{drop-length}
 use Rattle.std.proofs.lemmas.Bool.{lt-ltb, leb-false}

@@ -1,5 +1,5 @@
 -- Where bytes stand that are counted through a row of runs, and how bytes are put there.
-use Rattle.std.specs.Prelude.{ℕ, ◌+◌, ◌-◌, ◌*◌, max, nat_lt, if◌then◌else◌, List, [], ◌∷◌, length, Option, Some, None, slice_set}
+use Rattle.std.specs.Prelude.{ℕ, ◌+◌, ◌-◌, max, nat_lt, if◌then◌else◌, List, [], ◌∷◌, length, Option, Some, None, slice_set}
 use Rattle.obj_core.specs.declared.object.Func.{Func}
 use Rattle.obj_core.specs.declared.run.Run.{Run}
 use Rattle.obj_core.specs.Slots.{slot_base}

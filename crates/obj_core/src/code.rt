@@ -191,8 +191,7 @@ impl CodeBuilder {
         requires { at + 4 ≤ room self.old.runs }
         ensures { self.new ≡ record self.old { bytes = put_at self.old.runs self.old.start self.old.bytes at (displacement to.now.address (address_at self.old.runs (at + 3) + 1)) } }
     {
-        let end = self.address(u64::from(at) + 3) + 1;
-        let bytes = way(to.address, end);
+        let bytes = way(to.address, self.behind(at));
         self.bytes(at, &bytes);
     }
 
@@ -201,8 +200,7 @@ impl CodeBuilder {
         requires { at + 4 ≤ room self.old.runs }
         ensures { self.new ≡ record self.old { bytes = put_at self.old.runs self.old.start self.old.bytes at (displacement (slot_base + 16 * to.now.position) (address_at self.old.runs (at + 3) + 1)) } }
     {
-        let end = self.address(u64::from(at) + 3) + 1;
-        let bytes = way(to.number(), end);
+        let bytes = way(to.number(), self.behind(at));
         self.bytes(at, &bytes);
     }
 
@@ -215,6 +213,14 @@ impl CodeBuilder {
             bytes: self.bytes,
             rights: Rights::from_bits_retain(EXECUTE),
         }
+    }
+
+    /// The address behind four bytes at a place. Takes no memory.
+    fn behind(&self, at: u32) -> u64
+        requires { at + 4 ≤ room self.now.runs }
+        ensures { result ≡ address_at self.now.runs (at + 3) + 1 }
+    {
+        self.address(u64::from(at) + 3) + 1
     }
 
     /// The address of the byte at a place. Takes no memory.

@@ -1,15 +1,15 @@
 -- Where the functions of an object are written.
-use Rattle.std.proofs.Common.{◌≡◌, ℕ, zero, suc, ◌+◌, ◌-◌, ◌<◌, ◌≤◌, List, [], ◌∷◌, length, get_or, Some, refl, sym, ◌∙◌, ap, subst, arith}
+use Rattle.std.proofs.Common.{◌≡◌, ℕ, suc, ◌+◌, ◌-◌, ◌<◌, ◌≤◌, List, [], ◌∷◌, length, get_or, Some, refl, sym, ◌∙◌, ap, subst, arith}
 use Rattle.std.specs.Prelude.{slice_get, slice_index}
 use Rattle.std.proofs.lemmas.Option.{slice_get_within, slice_get_read}
-use Rattle.rd_draw.specs.Draw.{keystream_word, shuffled}
+use Rattle.rd_draw.specs.Draw.{keystream_word}
 use Rattle.rd_draw.proofs.Permuted.{shuffled_long, shuffled_apart}
 use Rattle.obj_core.specs.declared.object.Object.{Object}
 use Rattle.obj_core.specs.declared.object.Func.{Func}
 use Rattle.obj_core.specs.declared.run.Run.{Run}
 use Rattle.obj_core.specs.declared.code.CodePlan.{CodePlan}
 use Rattle.obj_core.specs.Slots.{positions}
-use Rattle.obj_core.specs.Placement.{Piece, filler, overlaid, piece, pieces, order, order_purpose, gap_purpose, place_of, inverse, code_base, placed, starts}
+use Rattle.obj_core.specs.Placement.{Piece, filler, overlaid, piece, pieces, order, order_purpose, gap_purpose, place_of, code_base, placed, starts}
 use Rattle.obj_core.specs.Runs.{room, address_at}
 use Rattle.obj_core.specs.Plans.{function_start, function_runs, code_size, IsPlan}
 use Rattle.obj_core.proofs.Pieces.{whole_or, piece_whole, pieces_as_many}

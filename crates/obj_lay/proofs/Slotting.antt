@@ -1,5 +1,5 @@
 -- Slots while they are written: those of the first numbers, and breakpoints in the place of the others.
-use Rattle.std.proofs.Common.{◌≡◌, ℕ, zero, suc, ◌+◌, ◌-◌, ◌*◌, ◌<◌, ◌≤◌, List, [], ◌∷◌, ◌++◌, length, Option, Some, None, refl, sym, subst, get_or, ◌∙◌, ap, arith}
+use Rattle.std.proofs.Common.{◌≡◌, ℕ, zero, suc, ◌+◌, ◌*◌, ◌<◌, ◌≤◌, List, [], ◌∷◌, ◌++◌, length, Option, Some, None, refl, sym, subst, get_or, ◌∙◌, ap, arith}
 use Rattle.std.specs.Prelude.{slice_get, slice_index}
 use Rattle.std.proofs.lemmas.List.{replicate-append-replicate}
 use Rattle.std.proofs.lemmas.Option.{slice_get_read}
@@ -14,7 +14,7 @@ use Rattle.obj_core.specs.Placement.{filler, overlaid, slot_in, place_of, invers
 use Rattle.obj_core.specs.Plans.{planned, IsPlan}
 use Rattle.obj_core.proofs.Looked.{planned_is}
 use Rattle.obj_core.proofs.Overlaid.{overlaid_behind, overlaid_first}
-use Rattle.obj_core.proofs.Orders.{StandsAt, shuffled_stands, place_again, index_below, inverse_index, inverse_long}
+use Rattle.obj_core.proofs.Orders.{shuffled_stands, place_again, index_below, inverse_index, inverse_long}
 use Rattle.obj_lay.specs.Layout.{jump, call, trampoline, trampolines, slot_bytes}
 use Rattle.obj_lay.proofs.Lengths.{slot_long, slots_long}
 

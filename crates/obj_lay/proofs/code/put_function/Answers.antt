@@ -1,4 +1,4 @@
-use Rattle.std.proofs.Common.{◌≡◌, ◌+◌, ◌-◌, ◌∙◌, drop, rules, ap, refl}
+use Rattle.std.proofs.Common.{◌-◌, ◌∙◌, rules, ap}
 use Rattle.obj_core.specs.declared.code.CodeBuilder.{CodeBuilder}
 use Rattle.obj_core.specs.Runs.{address_at, put_at}
 use Rattle.obj_core.proofs.Written.{put_together}

@@ -1,4 +1,4 @@
-use Rattle.std.proofs.Common.{◌≡◌, ◌+◌, [], ◌∷◌, ◌∙◌, ap, refl}
+use Rattle.std.proofs.Common.{◌+◌, [], ◌∷◌, ◌∙◌, ap, refl}
 use Rattle.obj_core.specs.declared.object.CodeAt.{CodeAt}
 use Rattle.obj_core.specs.declared.code.CodeBuilder.{CodeBuilder}
 use Rattle.obj_core.specs.Slots.{slot_base}
