@@ -1,3 +1,15 @@
 pub mod Cuts
 pub mod Stands
+pub mod Kept
+pub mod Inside
+pub mod Overlaid
+pub mod Pieces
+pub mod Inverse
+pub mod Orders
+pub mod Sizes
+pub mod Totals
+pub mod Looked
+pub mod Fronts
+pub mod Written
 pub mod Worked
+pub mod SmallWell

@@ -21,8 +21,10 @@ use Rattle.obj_core.specs.SymbolicMachine.{link_before, target}
 use Rattle.obj_core.specs.WellFormed.{displacement, is_zero, is_linked, goes_well, IsWellFormed}
 use Rattle.obj_lockstep.specs.Placed.{IsAt, IsAtTo, HasInstr}
 use Rattle.obj_lockstep.specs.Places.{is_code_place, CodeBytes}
-use Rattle.obj_lockstep.proofs.Rules.{function_of_cut, KeepsRules, function_keeps}
-use Rattle.obj_lay.specs.Layout.{linked, slot_in, code_base, code_bytes, slot_bytes, address, displacement as displacement_bytes}
+use Rattle.obj_core.proofs.Kept.{KeepsRules, function_keeps}
+use Rattle.obj_lockstep.proofs.Rules.{function_of_cut}
+use Rattle.obj_core.specs.Placement.{slot_in, code_base, address, displacement as displacement_bytes}
+use Rattle.obj_lay.specs.Layout.{linked, code_bytes, slot_bytes}
 use Rattle.obj_hidden.proofs.Instrs.{IsIn, lies, Front, front, apart, which_starts, each_in, branches_well, zero_is}
 use Rattle.obj_hidden.proofs.Numbers.{between, between_leads, between_fits, displacement_between, local_leads}
 use Rattle.obj_hidden.proofs.Linked.{link_good, unlinked_stays, jump_leads, test_leads}

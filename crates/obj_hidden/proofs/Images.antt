@@ -18,7 +18,8 @@ use Rattle.obj_lockstep.specs.Placed.{Placed, IsImageOf}
 use Rattle.obj_lockstep.specs.Places.{is_step_place, IsLaid}
 use Rattle.obj_lockstep.proofs.Closed.{laid_placed}
 use Rattle.obj_lockstep.proofs.Images.{image_shows, image_agrees, image_preserves}
-use Rattle.obj_lay.specs.Layout.{layout, code_base, code_bytes, slot_bytes}
+use Rattle.obj_core.specs.Placement.{code_base}
+use Rattle.obj_lay.specs.Layout.{layout, code_bytes, slot_bytes}
 use Rattle.obj_hidden.proofs.Executable.{executable, all_code, all_data, all_hidden}
 use Rattle.obj_hidden.proofs.Functions.{exec, at_place, code_laid, neighbours}
 use Rattle.obj_hidden.proofs.SlotsStand.{slot_laid}

@@ -1,7 +1,6 @@
 pub mod Instrs
 pub mod Numbers
 pub mod Linked
-pub mod Order
 pub mod Standing
 pub mod Executable
 pub mod Places

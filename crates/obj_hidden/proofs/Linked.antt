@@ -12,7 +12,8 @@ use Rattle.obj_core.specs.Cut.{Found, found, size_of}
 use Rattle.obj_core.specs.SymbolicMachine.{link_before}
 use Rattle.obj_core.specs.WellFormed.{fills_zero, is_good_link, bad_links}
 use Rattle.obj_lockstep.proofs.Starts.{other_empty}
-use Rattle.obj_lay.specs.Layout.{displacement, overlaid, slot_in, linked}
+use Rattle.obj_core.specs.Placement.{displacement, overlaid, slot_in}
+use Rattle.obj_lay.specs.Layout.{linked}
 use Rattle.obj_hidden.proofs.Instrs.{IsIn, Front, apart, FillsZero, which_fills, IsZeroBranch, zero_branch}
 
 -- what is put before an offset is not seen from there

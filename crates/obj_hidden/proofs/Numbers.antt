@@ -5,7 +5,7 @@ use Rattle.std.proofs.lemmas.Bool.{leb-true, leb-false}
 use Rattle.rd_num.specs.Number.{le_bytes}
 use Rattle.x86_core.specs.Arithmetic.{moved}
 use Rattle.x86_core.specs.Encoding.{number32, IsNumber32}
-use Rattle.obj_lay.specs.Layout.{displacement}
+use Rattle.obj_core.specs.Placement.{displacement}
 
 -- the way from an address to another
 abbrev pub between : ℕ → ℕ → ℤ

@@ -14,9 +14,10 @@ use Rattle.obj_core.specs.declared.object.CodeAt.{CodeAt}
 use Rattle.obj_core.specs.declared.object.Place.{Place}
 use Rattle.obj_core.specs.Slots.{slot_start, slot_purpose, positions}
 use Rattle.obj_core.specs.WellFormed.{AreFew}
-use Rattle.obj_lay.specs.Layout.{order_purpose, gap_purpose, Piece, whole, pieces, piece, order, inverse, place_of, code_base, placed, starts_from, starts, code_from, code_bytes, linked, address}
-use Rattle.obj_lay.proofs.Pieces.{pieces_as_many}
-use Rattle.obj_hidden.proofs.Order.{StandsAt, shuffled_stands, place_again, index_below, inverse_index, inverse_get}
+use Rattle.obj_core.specs.Placement.{order_purpose, gap_purpose, Piece, whole, pieces, piece, order, inverse, place_of, code_base, placed, starts_from, starts, address}
+use Rattle.obj_lay.specs.Layout.{code_from, code_bytes, linked}
+use Rattle.obj_core.proofs.Pieces.{pieces_as_many}
+use Rattle.obj_core.proofs.Orders.{StandsAt, shuffled_stands, place_again, index_below, inverse_index, inverse_get}
 use Rattle.obj_hidden.proofs.Standing.{piece_stands, piece_below, piece_is, size, sizes_of, sizes_mapped, address_known}
 
 module _ (o : Object) (seed : ℕ) where

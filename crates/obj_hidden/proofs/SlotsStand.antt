@@ -19,8 +19,10 @@ use Rattle.obj_core.specs.WellFormed.{is_start, is_good_slot, IsWellFormed}
 use Rattle.obj_lockstep.specs.Placed.{IsAt, IsAtTo}
 use Rattle.obj_lockstep.specs.Places.{is_code_place, SlotBytes}
 use Rattle.obj_lockstep.proofs.Starts.{is_start_code}
-use Rattle.obj_lockstep.proofs.Rules.{function_starts, slot_keeps}
-use Rattle.obj_lay.specs.Layout.{filler, displacement, jump, start_of, trampoline, code_base, code_bytes, slot_bytes, address}
+use Rattle.obj_core.proofs.Kept.{slot_keeps}
+use Rattle.obj_lockstep.proofs.Rules.{function_starts}
+use Rattle.obj_core.specs.Placement.{filler, displacement, start_of, code_base, address}
+use Rattle.obj_lay.specs.Layout.{jump, trampoline, code_bytes, slot_bytes}
 use Rattle.obj_hidden.proofs.Instrs.{Front}
 use Rattle.obj_hidden.proofs.Numbers.{between, between_leads, between_fits, displacement_between}
 use Rattle.obj_hidden.proofs.Executable.{in_slots}

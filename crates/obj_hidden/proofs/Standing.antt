@@ -8,9 +8,10 @@ use Rattle.std.proofs.lemmas.List.Sums.{sum_by-cons}
 use Rattle.obj_core.specs.declared.object.Func.{Func}
 use Rattle.obj_core.specs.declared.object.Link.{Link}
 use Rattle.obj_core.specs.declared.object.CodeAt.{CodeAt}
-use Rattle.obj_lay.specs.Layout.{Piece, whole, piece, filler, displacement, overlaid, slot_in, linked, start_behind, starts_from, code_from, address_in, address_by}
-use Rattle.obj_lay.proofs.Overlaid.{overlaid_long}
-use Rattle.obj_lay.proofs.Pieces.{whole_or, piece_whole, address_whole}
+use Rattle.obj_core.specs.Placement.{Piece, whole, piece, filler, displacement, overlaid, slot_in, start_behind, starts_from, address_in, address_by}
+use Rattle.obj_lay.specs.Layout.{linked, code_from}
+use Rattle.obj_core.proofs.Overlaid.{overlaid_long}
+use Rattle.obj_core.proofs.Pieces.{whole_or, piece_whole, address_whole}
 use Rattle.obj_hidden.proofs.Instrs.{drop_behind}
 
 -- links leave the length

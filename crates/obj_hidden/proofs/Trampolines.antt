@@ -5,9 +5,10 @@ use Rattle.obj_core.specs.declared.object.Object.{Object}
 use Rattle.obj_core.specs.declared.object.Slot.{Slot}
 use Rattle.obj_core.specs.declared.object.CodeAt.{CodeAt}
 use Rattle.obj_core.specs.Slots.{slot_base, slot_start, positions}
-use Rattle.obj_lay.specs.Layout.{slot_in, trampoline, trampolines, inverse, slot_bytes, address}
+use Rattle.obj_core.specs.Placement.{slot_in, inverse, address}
+use Rattle.obj_lay.specs.Layout.{trampoline, trampolines, slot_bytes}
 use Rattle.obj_hidden.proofs.Instrs.{drop_behind}
-use Rattle.obj_hidden.proofs.Order.{inverse_long}
+use Rattle.obj_core.proofs.Orders.{inverse_long}
 use Rattle.obj_hidden.proofs.Places.{positions_long, slot_place}
 
 -- each slot takes sixteen bytes

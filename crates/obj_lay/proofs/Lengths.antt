@@ -1,26 +1,25 @@
 -- How many bytes slots and code have.
-use Rattle.std.proofs.Common.{◌≡◌, ℕ, zero, suc, ◌+◌, ◌-◌, ◌*◌, ◌≤◌, List, [], ◌∷◌, ◌++◌, length, map, get_or, refl, sym, ◌∙◌, ap, arith, length-append}
+use Rattle.std.proofs.Common.{◌≡◌, ℕ, ◌+◌, ◌-◌, ◌*◌, ◌≤◌, List, [], ◌∷◌, ◌++◌, length, refl, ◌∙◌, ap, arith, length-append}
 use Rattle.std.specs.Prelude.{Option, Some, None, slice_get, replicate}
-use Rattle.std.specs.List.{sum, sum_by, range_with_len}
-use Rattle.std.proofs.lemmas.List.{length-replicate, length-map}
-use Rattle.std.proofs.lemmas.List.FromFn.{length-map-range_with_len, fill_by_all}
-use Rattle.std.proofs.lemmas.List.Sums.{sum-map, sum_by-cons}
-use Rattle.std.proofs.lemmas.List.Sorted.{sum_by-IsPermutation}
+use Rattle.std.specs.List.{sum_by}
+use Rattle.std.proofs.lemmas.List.{length-replicate}
+use Rattle.std.proofs.lemmas.List.FromFn.{length-map-range_with_len}
+use Rattle.std.proofs.lemmas.List.Sums.{sum_by-cons}
 use Rattle.rd_draw.specs.Draw.{keystream_word}
-use Rattle.rd_draw.proofs.Permuted.{shuffled_permutes, shuffled_long}
+use Rattle.rd_draw.proofs.Permuted.{shuffled_long}
 use Rattle.obj_core.specs.declared.object.Object.{Object}
-use Rattle.obj_core.specs.declared.object.Func.{Func}
 use Rattle.obj_core.specs.declared.object.Link.{Link}
 use Rattle.obj_core.specs.declared.object.Slot.{Slot}
 use Rattle.obj_core.specs.declared.object.CodeAt.{CodeAt}
 use Rattle.obj_core.specs.Slots.{positions, slot_purpose}
-use Rattle.obj_lay.specs.Layout.{Piece, piece, pieces, placed, order, order_purpose, gap_purpose, inverse, place_of, linked, displacement, slot_in, up16, start_behind, starts_from, code_from, starts, code_base, code_bytes, trampoline, trampolines, slot_bytes, address}
-use Rattle.obj_lay.proofs.Overlaid.{overlaid_long}
-use Rattle.obj_lay.proofs.Pieces.{whole_or, piece_whole, pieces_as_many}
-use Rattle.obj_lay.proofs.Sizes.{code_len}
+use Rattle.obj_core.specs.Placement.{Piece, placed, order, gap_purpose, inverse, place_of, displacement, slot_in, up16, start_behind, starts_from, starts, code_base, address}
+use Rattle.obj_core.proofs.Overlaid.{overlaid_long}
+use Rattle.obj_core.proofs.Sizes.{code_len}
+use Rattle.obj_core.proofs.Totals.{piece_len, order_sum, order_long}
+use Rattle.obj_lay.specs.Layout.{linked, code_from, code_bytes, trampoline, trampolines, slot_bytes}
 
 -- each slot has sixteen bytes
-slot_long : (code : CodeAt → ℕ) (at : ℕ) (s : Option Slot) → length (trampoline code at s) ≡ 16
+pub slot_long : (code : CodeAt → ℕ) (at : ℕ) (s : Option Slot) → length (trampoline code at s) ≡ 16
 slot_long code at None = refl
 slot_long code at (Some (Slot.Entry target)) = refl
 slot_long code at (Some (Slot.Jump target)) = refl
@@ -28,7 +27,7 @@ slot_long code at (Some (Slot.Call target back)) = refl
 slot_long code at (Some (Slot.Indirect back)) = refl
 slot_long code at (Some (Slot.System back)) = refl
 
-slots_long : (code : CodeAt → ℕ) (at : List ℕ) (slots : List Slot) (ks : List ℕ) → length (trampolines code at slots ks) ≡ 16 * length ks
+pub slots_long : (code : CodeAt → ℕ) (at : List ℕ) (slots : List Slot) (ks : List ℕ) → length (trampolines code at slots ks) ≡ 16 * length ks
 slots_long code at slots [] = refl
 slots_long code at slots (k ∷ ks) =
     length-append (trampoline code (slot_in at k) (slice_get slots k)) (trampolines code at slots ks) ∙
@@ -41,14 +40,11 @@ length-slot_bytes o seed =
     ap (λ n. 16 * n) (length-map-range_with_len (place_of (positions o)) 0 (length (positions o)) ∙ shuffled_long (keystream_word o.slot_seed slot_purpose 0) (length o.slots))
 
 -- links change no length
-linked_long : (at : List ℕ) (start : ℕ) (ls : List Link) (bytes : List ℕ) → length (linked at start ls bytes) ≡ length bytes
+pub linked_long : (at : List ℕ) (start : ℕ) (ls : List Link) (bytes : List ℕ) → length (linked at start ls bytes) ≡ length bytes
 linked_long at start [] bytes = refl
 linked_long at start (l ∷ ls) bytes =
     let d = displacement (slot_in at l.slot) (start + l.at + 4) in
     linked_long at start ls _ ∙ overlaid_long bytes l.at d
-
-abbrev pub piece_len : Piece → ℕ
-piece_len p = length p.bytes
 
 -- a gap has at most 15 + 31 * 16 bytes
 gap_small : (end word : ℕ) → start_behind end word - end ≤ 511
@@ -65,40 +61,6 @@ code_long at words i end (p ∷ ps) =
     let front = length-append (replicate (start - end) 204) (linked at start p.links p.bytes ++ rest) in
     let behind = length-append (linked at start p.links p.bytes) rest in
     omega (arith, front, behind, length-replicate {A = ℕ} (start - end) 204, linked_long at start p.links p.bytes, gap_small end (words i), code_long at words (i + 1) (start + length p.bytes) ps, sum_by-cons piece_len p ps)
-
--- the lengths of functions by their numbers
-len_at : (n k : ℕ) (fs : List Func) → get_or (map (λ (f : Func). length f.bytes) fs) k 0 ≡ piece_len (whole_or n (slice_get fs k))
-len_at n k [] = refl
-len_at n zero (f ∷ fs) = refl
-len_at n (suc k) (f ∷ fs) = len_at n k fs
-
-all_lens : (fs : List Func) → map (λ (f : Func). length f.bytes) fs ≡ map (λ k. piece_len (piece fs k)) (range_with_len 0 (length fs))
-all_lens fs =
-    fill_by_all (λ k. piece_len (piece fs k)) (map (λ (f : Func). length f.bytes) fs) (length fs) 0 (length-map fs (λ (f : Func). length f.bytes))
-    (λ k h. len_at k k fs ∙ sym (ap piece_len (piece_whole fs k)))
-
-placed_sum : (fs : List Func) (ks : List ℕ) → sum_by piece_len (placed fs ks) ≡ sum_by (λ k. piece_len (piece fs k)) ks
-placed_sum fs [] = refl
-placed_sum fs (k ∷ ks) =
-    sum_by-cons piece_len (piece fs k) (placed fs ks) ∙ ap (λ n. piece_len (piece fs k) + n) (placed_sum fs ks) ∙ sym (sum_by-cons (λ j. piece_len (piece fs j)) k ks)
-
--- all pieces have as many bytes as all functions
-order_sum : (o : Object) (seed : ℕ) → sum_by piece_len (placed o.functions (order o seed)) ≡ code_len o.functions
-unfolding order
-order_sum o seed =
-    let fs = o.functions in
-    let lens = λ (k : ℕ). piece_len (piece fs k) in
-    let n = length (pieces fs) in
-    placed_sum fs (order o seed) ∙
-    sum_by-IsPermutation lens (range_with_len 0 n) (order o seed) (shuffled_permutes (keystream_word seed order_purpose 0) n) ∙
-    ap (λ m. sum_by lens (range_with_len 0 m)) (pieces_as_many fs) ∙
-    sym (sum-map lens (range_with_len 0 (length fs))) ∙
-    ap sum (sym (all_lens fs)) ∙
-    sum-map (λ (f : Func). length f.bytes) fs
-
-order_long : (o : Object) (seed : ℕ) → length (placed o.functions (order o seed)) ≡ length o.functions
-unfolding order
-order_long o seed = length-map (order o seed) (piece o.functions) ∙ shuffled_long (keystream_word seed order_purpose 0) (length (pieces o.functions)) ∙ pieces_as_many o.functions
 
 pub code_small : (o : Object) (seed : ℕ) → length (code_bytes o seed) ≤ code_len o.functions + 511 * length o.functions + 15
 unfolding code_bytes starts

@@ -1,8 +1,9 @@
-pub mod Overlaid
-pub mod Pieces
-pub mod Inverse
-pub mod Sizes
 pub mod Shown
 pub mod Lengths
 pub mod Sound
+pub mod Growing
+pub mod Written
+pub mod Slotting
+pub mod Laid
+pub mod Made
 pub mod Worked

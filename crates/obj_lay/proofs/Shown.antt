@@ -5,7 +5,8 @@ use Rattle.machine_core.specs.Data.{ro_start, rw_start}
 use Rattle.machine_core.specs.Memory.{data_of}
 use Rattle.obj_core.specs.declared.object.Object.{Object}
 use Rattle.obj_core.specs.Slots.{slot_base}
-use Rattle.obj_lay.specs.Layout.{present, layout, slot_bytes, code_bytes, code_base}
+use Rattle.obj_core.specs.Placement.{code_base}
+use Rattle.obj_lay.specs.Layout.{present, layout, slot_bytes, code_bytes}
 
 -- a segment that may be run alone is not shown
 run_hidden : (start : ℕ) (bytes : List ℕ) (others : List Segment) → data_of (present start bytes 1 ++ others) ≡ data_of others

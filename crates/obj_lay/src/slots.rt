@@ -1,139 +1,79 @@
-//! The slots: sixteen bytes each, in the order of their positions.
+//! The slots: sixteen bytes each, every one at its position.
 
-ghost use Rattle.std.specs.Prelude.{◌≡◌, ◌+◌, ◌<◌, ◌^◌, ◌++◌, ◌∷◌, OnOk, IfOk, Some, slice_get};
-ghost use Rattle.obj_lay.specs.Layout.{address_in, start_of, jump, call, filler, trampoline, trampolines, displacement};
+ghost use Rattle.std.specs.Prelude.{ℕ, ◌≡◌, ◌+◌, ◌*◌, ◌<◌, ◌≤◌, [], ◌∷◌, length, IfOk, Some};
+ghost use Rattle.machine_core.specs.Data.{segment};
+ghost use Rattle.obj_core.specs.Slots.{slot_base, positions as positions_of};
+ghost use Rattle.obj_core.specs.Placement.{inverse, filler, start_of, displacement, overlaid};
+ghost use Rattle.obj_core.specs.Runs.{slot_run};
+ghost use Rattle.obj_core.specs.Plans.{planned};
+ghost use Rattle.obj_lay.specs.Layout.{jump, trampoline, trampolines};
 
-use crate::bytes::{put_filler, slot_address};
-use crate::hidden::{place, put_branch};
-use obj_core::object::{CodeAt, Func, Slot};
-use rd_num::list::List;
+use obj_core::checked::Checked;
+use obj_core::code::{CodeBuilder, CodePlan};
+use obj_core::object::{CodeAt, Slot};
 use rd_num::width::NoMemory;
 use std::alloc::Global;
+use x86_core::image::Segment;
 
-/// The bytes of slots of these numbers, one behind the other.
-pub fn put_slots(
+/// The segment of all slots.
+pub fn slot_segment(
     alloc: Global,
-    functions: &[Func],
-    places: &[u32],
-    starts: &[u64],
+    o: &Checked,
+    plan: &CodePlan,
     positions: &[u32],
-    slots: &List<Slot>,
-    order: &[u32],
-) -> Result<List<u8>, NoMemory>
-    ensures { IfOk result (λ all. all ≡ trampolines (address_in functions.now places.now starts.now) positions.now slots.now order.now) }
+) -> Result<Segment, NoMemory>
+    requires few { length o.now.object.slots ≤ 1048576 }
+    requires positions { positions.now ≡ positions_of o.now.object }
+    ensures { IfOk result (λ s. s ≡ segment slot_base (trampolines (planned plan.now) positions.now o.now.object.slots (inverse positions.now)) 1) }
 {
-    let mut all = List::new(alloc);
-    for number in order {
-        let at = slot_address(positions, *number);
-        put_numbered(&mut all, functions, places, starts, at, slots, *number)?;
+    let slots = o.object().slots.as_slice();
+    let mut builder = CodeBuilder::for_slots(alloc, o)?;
+    for i in 0..slots.len() {
+        put_slot(&mut builder, plan, 16 * positions[i], &slots[i]);
     }
-    Ok(all)
+    Ok(builder.finish())
 }
 
-/// The bytes of the slot of a number at an address, or breakpoints where there is none.
-fn put_numbered(
-    all: &mut List<u8>,
-    functions: &[Func],
-    places: &[u32],
-    starts: &[u64],
-    at: u64,
-    slots: &List<Slot>,
-    number: u32,
-) -> Result<(), NoMemory>
-    requires { at < 2 ^ 40 }
-    ensures { OnOk result (all.new ≡ all.old ++ trampoline (address_in functions.now places.now starts.now) at (slice_get slots.now number)) }
-{
-    match slots.get(number as usize) {
-        Some(slot) => put_slot(all, functions, places, starts, at, slot),
-        None => put_filler(all, 16),
-    }
-}
-
-/// The bytes of a slot at an address.
-fn put_slot(
-    all: &mut List<u8>,
-    functions: &[Func],
-    places: &[u32],
-    starts: &[u64],
-    at: u64,
-    slot: &Slot,
-) -> Result<(), NoMemory>
-    requires { at < 2 ^ 40 }
-    ensures { OnOk result (all.new ≡ all.old ++ trampoline (address_in functions.now places.now starts.now) at (Some slot.now)) }
+/// Puts a slot at a place where breakpoints are. Takes no memory.
+fn put_slot(builder: &mut CodeBuilder, plan: &CodePlan, at: u32, slot: &Slot)
+    requires start { builder.old.start ≡ slot_base }
+    requires runs { builder.old.runs ≡ slot_run (length builder.old.bytes) ∷ [] }
+    requires small { length builder.old.bytes ≤ 16777216 }
+    requires inside { at + 16 ≤ length builder.old.bytes }
+    requires blank { builder.old.bytes ≡ overlaid builder.old.bytes at (filler 16) }
+    ensures { builder.new ≡ record builder.old { bytes = overlaid builder.old.bytes at (trampoline (planned plan.now) (slot_base + at) (Some slot.now)) } }
 {
     match slot {
-        Slot::Entry { target } => put_entry(all, functions, places, starts, at, *target),
-        Slot::Jump { target } => put_entry(all, functions, places, starts, at, *target),
+        Slot::Entry { target } => put_branch(builder, plan, at, 0xE9, &start(*target)),
+        Slot::Jump { target } => put_branch(builder, plan, at, 0xE9, &start(*target)),
         Slot::Call { target, back } => {
-            let to = start(*target);
-            put_way(all, 0xE8, functions, places, starts, &to, at + 5)?;
-            put_back(all, functions, places, starts, at, back)
+            put_branch(builder, plan, at, 0xE8, &start(*target));
+            put_branch(builder, plan, at + 5, 0xE9, back);
         }
         Slot::Indirect { back } => {
-            all.append(&[0x90, 0x90, 0x41, 0xFF, 0xD3])?;
-            put_back(all, functions, places, starts, at, back)
+            builder.bytes(at, &[0x90, 0x90, 0x41, 0xFF, 0xD3]);
+            put_branch(builder, plan, at + 5, 0xE9, back);
         }
         Slot::System { back } => {
-            all.append(&[0x0F, 0x05, 0x90, 0x90, 0x90])?;
-            put_back(all, functions, places, starts, at, back)
+            builder.bytes(at, &[0x0F, 0x05, 0x90, 0x90, 0x90]);
+            put_branch(builder, plan, at + 5, 0xE9, back);
         }
     }
 }
 
-/// A jump to the start of a function, and breakpoints.
-fn put_entry(
-    all: &mut List<u8>,
-    functions: &[Func],
-    places: &[u32],
-    starts: &[u64],
-    at: u64,
-    target: u32,
-) -> Result<(), NoMemory>
-    requires { at < 2 ^ 40 }
-    ensures { OnOk result (all.new ≡ all.old ++ (jump (address_in functions.now places.now starts.now (start_of target)) (at + 5) ++ filler 11)) }
+/// Puts an opcode and the displacement to a byte of code. Takes no memory.
+fn put_branch(builder: &mut CodeBuilder, plan: &CodePlan, at: u32, opcode: u8, to: &CodeAt)
+    requires start { builder.old.start ≡ slot_base }
+    requires runs { builder.old.runs ≡ slot_run (length builder.old.bytes) ∷ [] }
+    requires small { length builder.old.bytes ≤ 16777216 }
+    requires inside { at + 5 ≤ length builder.old.bytes }
+    ensures { builder.new ≡ record builder.old { bytes = overlaid builder.old.bytes at (opcode ∷ displacement (planned plan.now to.now) (slot_base + at + 5)) } }
 {
-    let to = start(target);
-    put_way(all, 0xE9, functions, places, starts, &to, at + 5)?;
-    put_filler(all, 11)?;
-    Ok(())
+    builder.bytes(at, &[opcode]);
+    builder.branch(at + 1, &plan.place(to));
 }
 
-/// A jump to the way back, five bytes behind the start of a slot, and breakpoints.
-fn put_back(
-    all: &mut List<u8>,
-    functions: &[Func],
-    places: &[u32],
-    starts: &[u64],
-    at: u64,
-    back: &CodeAt,
-) -> Result<(), NoMemory>
-    requires { at < 2 ^ 40 }
-    ensures { OnOk result (all.new ≡ all.old ++ (jump (address_in functions.now places.now starts.now back.now) (at + 10) ++ filler 6)) }
-{
-    put_way(all, 0xE9, functions, places, starts, back, at + 10)?;
-    put_filler(all, 6)?;
-    Ok(())
-}
-
-/// Puts an opcode and the displacement to a byte of a function at the end.
-#[tactic(auto, using(crate::proofs::Pieces::displacement_again))]
-fn put_way(
-    all: &mut List<u8>,
-    opcode: u8,
-    functions: &[Func],
-    places: &[u32],
-    starts: &[u64],
-    to: &CodeAt,
-    end: u64,
-) -> Result<(), NoMemory>
-    requires { end < 2 ^ 41 }
-    ensures { OnOk result (all.new ≡ all.old ++ opcode ∷ displacement (address_in functions.now places.now starts.now to.now) end) }
-{
-    let address = place(functions, places, starts, to);
-    put_branch(all, opcode, &address, end)
-}
-
-/// The first byte of a function. Takes no memory.
+/// The start of a function. Takes no memory.
 fn start(function: u32) -> CodeAt
     ensures { result ≡ start_of function }
 {

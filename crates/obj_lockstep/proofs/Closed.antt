@@ -25,7 +25,8 @@ use Rattle.obj_core.proofs.Cuts.{spelled-append, each_right}
 use Rattle.obj_lockstep.specs.Placed.{IsAt, IsAtTo, HasInstr, Leads, FallsThrough, CodeStands, Idles, SlotStands, HasSlot, Placed}
 use Rattle.obj_lockstep.specs.Places.{is_code_place, is_slot_place, is_step_place, CodeBytes, SlotBytes, IsLaid}
 use Rattle.obj_lockstep.proofs.Starts.{is_start_code, IsIn, start_is_in, none_of_slots, branch_goes, goes_on, next_start}
-use Rattle.obj_lockstep.proofs.Rules.{function_of_cut, function_starts, LinkSays, link_says, function_keeps, slot_keeps}
+use Rattle.obj_core.proofs.Kept.{function_keeps, slot_keeps}
+use Rattle.obj_lockstep.proofs.Rules.{function_of_cut, function_starts, LinkSays, link_says}
 
 -- both places of a slot that a word may name
 slot_both : (ss : List Slot) (k : ℕ) → k < length ss → (is_slot_place (slice_get ss k) 0 ≡ true) × (is_slot_place (slice_get ss k) 5 ≡ true)

@@ -28,7 +28,8 @@ use Rattle.obj_lockstep.specs.Placed.{IsAt, IsAtTo, HasInstr, IsImageOf}
 use Rattle.obj_lockstep.specs.Places.{is_code_place, is_step_place, CodeBytes, IsLaid}
 use Rattle.obj_lockstep.specs.Filled.{patched_all, to_slot, IsFilledIn, IsFilled}
 use Rattle.obj_lockstep.proofs.Starts.{IsIn, start_is_in, branch_goes}
-use Rattle.obj_lockstep.proofs.Rules.{function_of_cut, LinkSays, link_says, function_keeps}
+use Rattle.obj_core.proofs.Kept.{function_keeps}
+use Rattle.obj_lockstep.proofs.Rules.{function_of_cut, LinkSays, link_says}
 use Rattle.obj_lockstep.proofs.Closed.{slot_fits, bytes_from, instr_from, laid_placed}
 use Rattle.obj_lockstep.proofs.Filling.{redirected, size_some}
 use Rattle.obj_lockstep.proofs.Filled.{Behind, filled, filled_one, patched_spelled, filled_instrs, filled_behind, FilledBy, filled_says, links_branch}

@@ -1,56 +1,15 @@
--- What an object without a violation has at one function and at one slot.
-use Rattle.std.proofs.Common.{◌≡◌, ℕ, zero, suc, ◌+◌, ◌<◌, Bool, true, false, ◌||◌, List, [], ◌∷◌, ◌++◌, length, Option, Some, None, refl, ◌∙◌, ap, subst, if◌then◌else◌, arith}
+-- What cuts and links say of one function.
+use Rattle.std.proofs.Common.{◌≡◌, ℕ, zero, suc, ◌+◌, ◌<◌, Bool, true, false, ◌||◌, List, [], ◌∷◌, length, Option, Some, None, refl, ◌∙◌, ap, subst, if◌then◌else◌, arith}
 use Rattle.std.specs.Prelude.{nat_eq, nat_lt, slice_get}
 use Rattle.std.proofs.lemmas.Bool.{ltb-true, and_parts}
 use Rattle.x86_core.specs.declared.instr.Instr.{Instr}
-use Rattle.obj_core.specs.declared.object.Object.{Object}
 use Rattle.obj_core.specs.declared.object.Func.{Func}
 use Rattle.obj_core.specs.declared.object.Link.{Link}
-use Rattle.obj_core.specs.declared.object.Slot.{Slot}
-use Rattle.obj_core.specs.Cut.{IsCut, AreCuts, Found, found}
-use Rattle.obj_core.specs.WellFormed.{forbidden_in, fills_zero, is_good_link, bad_links, is_linked, bad_branches, open_end, is_good_slot, OfSlot, Violation, or_else, at_least_offset, in_functions, in_slots, violation}
+use Rattle.obj_core.specs.Cut.{IsCut, AreCuts, Found}
+use Rattle.obj_core.specs.WellFormed.{fills_zero, is_good_link, bad_links, is_linked}
 use Rattle.obj_core.specs.SymbolicMachine.{link_before}
 use Rattle.obj_lockstep.specs.Places.{is_code_place}
 use Rattle.obj_lockstep.proofs.Starts.{other_empty}
-
--- where neither of two fails, each holds
-neither : (v w : Option Violation) → or_else v w ≡ None → (v ≡ None) × (w ≡ None)
-neither None w h = (refl, h)
-neither (Some v) w h = absurd (cc)
-
--- a rule that holds has no offsets where it fails
-no_offset : (rule n : ℕ) (xs : List ℕ) → at_least_offset rule n xs ≡ None → xs ≡ []
-no_offset rule n [] h = refl
-no_offset rule n (x ∷ xs) h = absurd (cc)
-
--- two lists that are empty together
-no_more : (xs ys : List ℕ) → xs ++ ys ≡ [] → (xs ≡ []) × (ys ≡ [])
-no_more [] ys h = (refl, h)
-no_more (x ∷ xs) ys h = absurd (cc)
-
--- a rule on functions holds of each
-holds_at : (rule : ℕ) (fails : Func → List Instr → List ℕ) (n : ℕ) (fs : List Func) (cuts : List (List Instr)) → in_functions rule (λ m f cut. fails f cut) n fs cuts ≡ None → (k : ℕ) (f : Func) (cut : List Instr) → slice_get fs k ≡ Some f → slice_get cuts k ≡ Some cut → fails f cut ≡ []
-holds_at rule fails n [] cuts h k f cut e d = absurd (cc)
-holds_at rule fails n (g ∷ fs) [] h k f cut e d = absurd (cc)
-holds_at rule fails n (g ∷ fs) (c ∷ cuts) h zero f cut e d =
-    let here = no_offset rule n (fails g c) (neither (at_least_offset rule n (fails g c)) _ h).0 in
-    let first : g ≡ f = cc in
-    let second : c ≡ cut = cc in
-    subst (λ x. fails f x ≡ []) second (subst (λ x. fails x c ≡ []) first here)
-holds_at rule fails n (g ∷ fs) (c ∷ cuts) h (suc k) f cut e d = holds_at rule fails (n + 1) fs cuts (neither (at_least_offset rule n (fails g c)) _ h).1 k f cut e d
-
--- a slot that passes
-passes_by : (rule k : ℕ) (s : Slot) (rest : Option Violation) (t : Bool) → (if t then rest else Some (record { rule = rule; spot = OfSlot k; offset = 0 })) ≡ None → (t ≡ true) × (rest ≡ None)
-passes_by rule k s rest true h = (refl, h)
-passes_by rule k s rest false h = absurd (cc)
-
--- a rule on slots holds of each
-slot_passes : (rule : ℕ) (passes : Slot → Bool) (n : ℕ) (ss : List Slot) → in_slots rule (λ m s. passes s) n ss ≡ None → (k : ℕ) (s : Slot) → slice_get ss k ≡ Some s → passes s ≡ true
-slot_passes rule passes n [] h k s e = absurd (cc)
-slot_passes rule passes n (t ∷ ss) h zero s e =
-    let first : t ≡ s = cc in
-    subst (λ x. passes x ≡ true) first (passes_by rule n t _ (passes t) h).0
-slot_passes rule passes n (t ∷ ss) h (suc k) s e = slot_passes rule passes (n + 1) ss (passes_by rule n t _ (passes t) h).1 k s e
 
 -- a function and its cut have one number
 pub record HasCut (fs : List Func) (n : ℕ) (cut : List Instr) : Type 0 where
@@ -105,32 +64,3 @@ link_says before xs slots [] h e = refl
 link_says before xs slots (l ∷ ls) h e =
     let x = other_empty (is_good_link before xs slots l) l.at _ _ h in
     link_by slots l ls e (link_slot before xs slots l x.0) (link_says (Some l.at) xs slots ls x.1 e) (nat_eq (l.at + 4) e) refl
-
--- the rules on one function
-pub record KeepsRules (slots : ℕ) (f : Func) (cut : List Instr) : Type 0 where
-  pub own : forbidden_in (found cut) ≡ []
-  pub links : bad_links None (found cut) slots f.links ≡ []
-  pub branches : bad_branches f.links (found cut) (found cut) ≡ []
-  pub ends : open_end (found cut) ≡ []
-
-module _ (o : Object) (cuts : List (List Instr)) (kept : violation o cuts ≡ None) where
-  pub function_keeps : (n : ℕ) (f : Func) (cut : List Instr) → slice_get o.functions n ≡ Some f → slice_get cuts n ≡ Some cut → KeepsRules (length o.slots) f cut
-  function_keeps n f cut e d =
-      let x = neither (in_functions 3 (λ m g c. forbidden_in (found c)) 0 o.functions cuts) _ kept in
-      let y = neither (in_functions 4 (λ m g c. bad_links None (found c) (length o.slots) g.links ++ bad_branches g.links (found c) (found c)) 0 o.functions cuts) _ x.1 in
-      let z = neither (in_functions 5 (λ m g c. open_end (found c)) 0 o.functions cuts) _ y.1 in
-      let both = no_more _ _ (holds_at 4 (λ g c. bad_links None (found c) (length o.slots) g.links ++ bad_branches g.links (found c) (found c)) 0 o.functions cuts y.0 n f cut e d) in
-      record {
-        own = holds_at 3 (λ g c. forbidden_in (found c)) 0 o.functions cuts x.0 n f cut e d;
-        links = both.0;
-        branches = both.1;
-        ends = holds_at 5 (λ g c. open_end (found c)) 0 o.functions cuts z.0 n f cut e d;
-      }
-
-  pub slot_keeps : (k : ℕ) (s : Slot) → slice_get o.slots k ≡ Some s → is_good_slot cuts s ≡ true
-  slot_keeps k s e =
-      let x = neither (in_functions 3 (λ m g c. forbidden_in (found c)) 0 o.functions cuts) _ kept in
-      let y = neither (in_functions 4 (λ m g c. bad_links None (found c) (length o.slots) g.links ++ bad_branches g.links (found c) (found c)) 0 o.functions cuts) _ x.1 in
-      let z = neither (in_functions 5 (λ m g c. open_end (found c)) 0 o.functions cuts) _ y.1 in
-      let w = neither (in_slots 6 (λ m t. is_good_slot cuts t) 0 o.slots) _ z.1 in
-      slot_passes 6 (is_good_slot cuts) 0 o.slots w.0 k s e

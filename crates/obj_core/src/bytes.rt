@@ -1,0 +1,55 @@
+//! Bytes and numbers that segments are made of.
+
+ghost use Rattle.std.specs.Prelude.{◌≡◌, ◌<◌, ◌^◌, slice_index, slice_set, IfOk};
+ghost use Rattle.obj_core.specs.Placement.{filler, up16, displacement};
+
+use rd_num::bytes::put_u64_le;
+use rd_num::list::List;
+use rd_num::width::NoMemory;
+use std::alloc::Global;
+
+/// The four bytes of a displacement from the end of an instruction. Takes no memory.
+pub fn way(to: u64, from: u64) -> [u8; 4]
+    ensures { result ≡ displacement to from }
+{
+    let bytes = put_u64_le(to.wrapping_sub(from));
+    [bytes[0], bytes[1], bytes[2], bytes[3]]
+}
+
+/// The least multiple of 16 that is not below a number. Takes no memory.
+pub fn round_up(n: u32) -> u32
+    requires { n < 2 ^ 31 }
+    ensures { result ≡ up16 n }
+{
+    (n + 15) / 16 * 16
+}
+
+/// The number at an index, or 0. Takes no memory.
+pub fn number_at(numbers: &[u32], at: usize) -> u32
+    ensures { result ≡ slice_index numbers.now at }
+{
+    match numbers.get(at) {
+        Some(n) => *n,
+        None => 0,
+    }
+}
+
+/// So many breakpoints.
+pub fn breakpoints(alloc: Global, count: u32) -> Result<List<u8>, NoMemory>
+    ensures { IfOk result (λ all. all ≡ filler count) }
+{
+    let mut all = List::new(alloc);
+    for _ in 0..count {
+        all.add(0xCC)?;
+    }
+    Ok(all)
+}
+
+/// Puts a byte over the one at an index, if there is one. Takes no memory.
+pub fn put_byte(all: &mut List<u8>, at: usize, byte: u8)
+    ensures { all.new ≡ slice_set all.old at byte }
+{
+    if at < all.len() {
+        all.set(at, byte);
+    }
+}

@@ -1,0 +1,24 @@
+//! How large a well-formed object is at most, made known to proofs.
+
+ghost use Rattle.std.specs.Prelude.{ℕ, ◌≡◌, ◌≤◌, length};
+ghost use Rattle.std.specs.List.{sum_by};
+ghost use Rattle.obj_core.specs.declared.object.Func.{Func};
+ghost use Rattle.obj_core.specs.Placement.{Piece, piece, placed, order};
+ghost use Rattle.obj_core.specs.WellFormed.{IsWellFormed};
+
+use crate::object::Object;
+
+/// Makes it known to a proof how large a well-formed object is at most.
+pub fn sizes_known(o: &Object)
+    requires { ∥ IsWellFormed o.now ∥₁ }
+    ensures functions { length o.now.functions ≤ 4112 }
+    ensures slots { length o.now.slots ≤ 1048576 }
+    ensures small { (k : ℕ) → length (piece o.now.functions k).bytes ≤ 67108864 }
+    ensures code { sum_by (λ (f : Func). length f.bytes) o.now.functions ≤ 67108864 }
+{}
+
+/// Makes it known to a proof that the functions in their order are as large. Takes no memory.
+pub fn row_known(o: &Object, layout_seed: u64)
+    requires { ∥ IsWellFormed o.now ∥₁ }
+    ensures { sum_by (λ (p : Piece). length p.bytes) (placed o.now.functions (order o.now layout_seed)) ≤ 67108864 }
+{}

@@ -1,0 +1,70 @@
+//! A row of runs, looked up by place.
+
+ghost use Rattle.std.specs.Prelude.{◌≡◌, ◌+◌, ◌-◌, ◌<◌, ◌≤◌, ◌^◌, ℕ, length, IfOk, slice_get};
+ghost use Rattle.std.specs.Option.{option_copied};
+ghost use Rattle.std.specs.List.Sorted.{IsNonDecreasingBy};
+ghost use Rattle.obj_core.specs.declared.run.Run.{Run};
+ghost use Rattle.obj_core.specs.Runs.{room, address_at};
+
+use crate::run::Run;
+use rd_num::copied::copy_list;
+use rd_num::list::List;
+use rd_num::width::NoMemory;
+use std::alloc::Global;
+use std::marker::Model;
+
+/// Runs one behind the other.
+#[derive(Drop)]
+pub struct Runs {
+    kept: List<Run>,
+}
+
+impl Model for Runs {
+    ghost use Rattle.std.specs.Prelude.{List as Row};
+    ghost use Rattle.std.specs.List.Sorted.{IsNonDecreasingBy};
+    ghost use Rattle.obj_core.specs.declared.run.Run.{Run};
+
+    ghost Value = { Row Run };
+
+    ghost view = { λ r. r.kept };
+
+    ghost invariant = { λ r. IsNonDecreasingBy (λ (one : Run). one.end) r.kept };
+}
+
+impl Runs {
+    /// Keeps runs that are one behind the other. Takes no memory.
+    pub fn new(kept: List<Run>) -> Runs
+        requires { IsNonDecreasingBy (λ (one : Run). one.end) kept }
+        ensures { result ≡ kept }
+    {
+        Runs { kept }
+    }
+
+    /// The run of a number. Takes no memory.
+    pub fn get(&self, number: usize) -> Option<&Run>
+        ensures { option_copied result ≡ slice_get self.now number }
+    {
+        self.kept.get(number)
+    }
+
+    /// The same runs again.
+    pub fn copied(&self, alloc: Global) -> Result<Runs, NoMemory>
+        ensures { IfOk result (λ all. all ≡ self.now) }
+    {
+        let kept = copy_list(alloc, self.kept.as_slice())?;
+        Ok(Runs { kept })
+    }
+
+    /// The run that holds a place: it tells the address of each place from there to its end. Takes no memory.
+    pub fn find(&self, at: u64) -> Run
+        requires { at < room self.now }
+        ensures ahead { at < result.end }
+        ensures addresses { (p : ℕ) → at ≤ p → p < result.end → address_at self.now p ≡ result.start + (p - result.front) }
+    {
+        let number = self
+            .kept
+            .as_slice()
+            .partition_point(|run| u64::from(run.end) <= at);
+        self.kept.as_slice()[number]
+    }
+}
