@@ -27,7 +27,7 @@ one_row (i ∷ is) (j ∷ js) h k e =
     let q = one_row is js h.1 k.1 (same_rest i j (spelled is) (spelled js) p e) in
     ap (λ (x : Instr). x ∷ is) p ∙ ap (λ (xs : List Instr). j ∷ xs) q
 
-one_cut : (bytes : List ℕ) (is js : List Instr) → IsCut bytes is → IsCut bytes js → is ≡ js
+pub one_cut : (bytes : List ℕ) (is js : List Instr) → IsCut bytes is → IsCut bytes js → is ≡ js
 one_cut bytes is js h k = one_row is js h.instructions k.instructions (h.whole ∙ sym k.whole)
 
 cuts_once : (fs : List Func) (xs ys : List (List Instr)) → AreCuts fs xs → AreCuts fs ys → xs ≡ ys
