@@ -1,12 +1,14 @@
 -- The first function in which a rule fails.
-use Rattle.std.proofs.Common.{◌≡◌, ℕ, zero, suc, ◌+◌, ◌<◌, List, [], ◌∷◌, length, drop, get_or, min, Option, None, Some, refl, sym, ◌∙◌, ap, subst, arith}
+use Rattle.std.proofs.Common.{◌≡◌, ℕ, zero, suc, ◌+◌, ◌<◌, ◌≤◌, false, List, [], ◌∷◌, length, drop, get_or, min, Option, None, Some, refl, sym, ◌∙◌, ap, subst, arith}
 use Rattle.std.proofs.lemmas.List.{drop_more}
 use Rattle.x86_core.specs.declared.instr.Instr.{Instr}
 use Rattle.obj_core.specs.declared.object.Func.{Func}
-use Rattle.obj_core.specs.WellFormed.{Violation, Function, or_else, at_least_offset, least_from, in_functions}
-use Rattle.obj_check.specs.declared.cut.Cut.{Cut}
-use Rattle.obj_check.specs.Pieces.{instrs, IsCutUp, AreCutUp, cuts_of}
+use Rattle.obj_core.specs.WellFormed.{Violation, Function, or_else, at_least_offset, least_from, in_functions, is_start}
+use Rattle.obj_check.specs.declared.notes.Cut.{Cut}
+use Rattle.obj_check.specs.Pieces.{cut_of}
+use Rattle.obj_check.specs.Cuts.{IsCutUp, AreCutUp, cuts_of}
 use Rattle.obj_check.specs.Least.{least_with}
+use Rattle.obj_check.specs.Marked.{marked}
 
 pub same_lengths : (fs : List Func) (cs : List Cut) → AreCutUp fs cs → length cs ≡ length fs
 same_lengths [] [] h = refl
@@ -27,6 +29,18 @@ cut_at fs cs n f c h lt ef ec =
     let one = subst (λ (g : Func). IsCutUp g.bytes (get_or cs n c)) (sym ef) k in
     subst (IsCutUp f.bytes) (sym ec) one
 
+-- where the instruction starts is noted at the function's number
+pub start_at : (fs : List Func) (cs : List Cut) (n off : ℕ) (c : Cut) → AreCutUp fs cs → n < length cs → c ≡ get_or cs n c → marked c.starts off ≡ is_start (cuts_of fs) (record { function = n; offset = off })
+start_at [] cs n off c h lt e = absurd (let same = same_lengths [] cs h in omega arith)
+start_at (f ∷ fs) [] n off c h lt e = absurd h
+start_at (f ∷ fs) (d ∷ cs) zero off c h lt e = ap (λ (x : Cut). marked x.starts off) e ∙ h.0.notes.starts off
+start_at (f ∷ fs) (d ∷ cs) (suc n) off c h lt e = start_at fs cs n off c h.1 (omega arith) e
+
+pub start_past : (fs : List Func) (n off : ℕ) → length fs ≤ n → false ≡ is_start (cuts_of fs) (record { function = n; offset = off })
+start_past [] n off h = refl
+start_past (f ∷ fs) zero off h = absurd (omega arith)
+start_past (f ∷ fs) (suc n) off h = start_past fs n off (omega arith)
+
 least_some : (m : ℕ) (ms : List ℕ) → least_with (Some m) ms ≡ Some (least_from m ms)
 least_some m [] = refl
 least_some m (n ∷ ms) = least_some (min m n) ms
@@ -41,10 +55,9 @@ told_at rule n [] = refl
 told_at rule n (m ∷ ms) = ap (at_function rule n) (sym (least_some m ms))
 
 -- one function, and the functions behind it
-pub first_more : (rule : ℕ) (fails : ℕ → Func → List Instr → List ℕ) (n : ℕ) (fs : List Func) (cs : List Cut) (f : Func) (c : Cut) → n < length fs → n < length cs → f ≡ get_or fs n f → c ≡ get_or cs n c →
-    in_functions rule fails n (drop n fs) (cuts_of (drop n cs)) ≡ or_else (at_function rule n (least_with None (fails n f (instrs c.pieces)))) (in_functions rule fails (n + 1) (drop (n + 1) fs) (cuts_of (drop (n + 1) cs)))
-first_more rule fails n fs cs f c h k ef ec =
-    let rest = in_functions rule fails (n + 1) (drop (n + 1) fs) (cuts_of (drop (n + 1) cs)) in
-    ap (λ (gs : List Func). in_functions rule fails n gs (cuts_of (drop n cs))) (drop_more fs n f h ∙ ap (λ (g : Func). g ∷ drop (n + 1) fs) (sym ef)) ∙
-    ap (λ (ds : List Cut). in_functions rule fails n (f ∷ drop (n + 1) fs) (cuts_of ds)) (drop_more cs n c k ∙ ap (λ (d : Cut). d ∷ drop (n + 1) cs) (sym ec)) ∙
-    ap (λ (v : Option Violation). or_else v rest) (told_at rule n (fails n f (instrs c.pieces)))
+pub first_more : (rule : ℕ) (fails : ℕ → Func → List Instr → List ℕ) (n : ℕ) (fs : List Func) (f : Func) → n < length fs → f ≡ get_or fs n f →
+    in_functions rule fails n (drop n fs) (cuts_of (drop n fs)) ≡ or_else (at_function rule n (least_with None (fails n f (cut_of f.bytes)))) (in_functions rule fails (n + 1) (drop (n + 1) fs) (cuts_of (drop (n + 1) fs)))
+first_more rule fails n fs f h e =
+    let rest = in_functions rule fails (n + 1) (drop (n + 1) fs) (cuts_of (drop (n + 1) fs)) in
+    ap (λ (gs : List Func). in_functions rule fails n gs (cuts_of gs)) (drop_more fs n f h ∙ ap (λ (g : Func). g ∷ drop (n + 1) fs) (sym e)) ∙
+    ap (λ (v : Option Violation). or_else v rest) (told_at rule n (fails n f (cut_of f.bytes)))

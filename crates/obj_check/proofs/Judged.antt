@@ -1,28 +1,22 @@
 -- What is known of an object once its functions are cut.
-use Rattle.std.proofs.Common.{◌≡◌, ℕ, List, [], ◌∷◌, Option, Some, None, refl, sym, inl, inr}
+use Rattle.std.proofs.Common.{◌≡◌, ℕ, List, Option, Some, None, refl, sym, inl, inr}
 use Rattle.x86_core.specs.declared.instr.Instr.{Instr}
 use Rattle.obj_core.specs.declared.object.Object.{Object}
 use Rattle.obj_core.specs.declared.object.Slot.{Slot}
 use Rattle.obj_core.specs.declared.object.Func.{Func}
-use Rattle.obj_core.specs.Object.{Each, IsObject}
+use Rattle.obj_core.specs.Object.{IsObject}
 use Rattle.obj_core.specs.WellFormed.{AreFew, Violation, IsFirstStuck, or_else, in_slots, in_functions, is_good_slot, agrees_with, zero_unless, is_saved_well, violation}
-use Rattle.obj_check.specs.declared.cut.Cut.{Cut}
+use Rattle.obj_check.specs.declared.notes.Cut.{Cut}
 use Rattle.obj_check.specs.declared.fault.Broken.{Broken}
 use Rattle.obj_check.specs.declared.fault.ShapeSpot.{ShapeSpot}
-use Rattle.obj_check.specs.Pieces.{StartsKnown, AreCutUp, cuts_of}
+use Rattle.obj_check.specs.Cuts.{AreCutUp, cuts_of}
 use Rattle.obj_check.specs.Least.{told_of}
 use Rattle.obj_check.specs.Told.{later_violation, Judges}
 use Rattle.obj_check.proofs.Cuts.{are_cuts}
 
-pub all_known : (fs : List Func) (cs : List Cut) → AreCutUp fs cs → Each StartsKnown cs
-all_known [] [] h = tt
-all_known [] (c ∷ cs) h = absurd h
-all_known (f ∷ fs) [] h = absurd h
-all_known (f ∷ fs) (c ∷ cs) h = (h.0.starts, all_known fs cs h.1)
-
-pub judged : (o : Object) (cs : List Cut) (r : Option Broken) → IsObject o → AreFew o → AreCutUp o.functions cs → told_of r ≡ violation o (cuts_of cs) → Judges o r
-judged o cs None object few cut e = record { object = object; few = few; cuts = cuts_of cs; cut = are_cuts o.functions cs cut; kept = sym e }
-judged o cs (Some b) object few cut e = inr (inr (few, (cuts_of cs, (are_cuts o.functions cs cut, sym e))))
+pub judged : (o : Object) (cs : List Cut) (r : Option Broken) → IsObject o → AreFew o → AreCutUp o.functions cs → told_of r ≡ violation o (cuts_of o.functions) → Judges o r
+judged o cs None object few cut e = record { object = object; few = few; cuts = cuts_of o.functions; cut = are_cuts o.functions cs cut; kept = sym e }
+judged o cs (Some b) object few cut e = inr (inr (few, (cuts_of o.functions, (are_cuts o.functions cs cut, sym e))))
 
 pub judged_stuck : (o : Object) (n off : ℕ) → AreFew o → IsFirstStuck o.functions n off → Judges o (Some (record { rule = 2; spot = ShapeSpot.Function n; offset = off }))
 judged_stuck o n off few stuck = inr (inl (n, off, (refl, few, stuck)))

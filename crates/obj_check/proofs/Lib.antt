@@ -1,7 +1,9 @@
+pub mod Marking
 pub mod Rows
-pub mod Cuts
-pub mod Ends
 pub mod Tables
+pub mod Noting
+pub mod Walk
+pub mod Cuts
 pub mod Functions
 pub mod Colors
 pub mod Judged

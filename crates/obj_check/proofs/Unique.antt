@@ -1,5 +1,5 @@
 -- Bytes are cut in one way, so an object with a violation is not well formed.
-use Rattle.std.proofs.Common.{◌≡◌, ℕ, ◌≤◌, List, [], ◌∷◌, ◌++◌, length, Some, None, refl, sym, ◌∙◌, ap, subst, inl, inr, ◌⊎◌, append_assoc, arith}
+use Rattle.std.proofs.Common.{◌≡◌, ℕ, ◌≤◌, List, [], ◌∷◌, ◌++◌, length, Some, None, refl, sym, ◌∙◌, ap, subst, inl, inr, append_assoc, arith}
 use Rattle.std.proofs.lemmas.List.{append_cancel_left}
 use Rattle.x86_core.specs.declared.instr.Instr.{Instr}
 use Rattle.x86_core.specs.Encoding.{encoding, IsInstr}
@@ -9,13 +9,13 @@ use Rattle.obj_core.specs.declared.object.Object.{Object}
 use Rattle.obj_core.specs.declared.object.Func.{Func}
 use Rattle.obj_core.specs.Object.{Each}
 use Rattle.obj_core.specs.Cut.{spelled, IsCut, AreCuts}
-use Rattle.obj_core.specs.WellFormed.{AreFew, IsWellFormed, IsStuck, IsFirstViolation, Violation, violation}
+use Rattle.obj_core.specs.WellFormed.{IsWellFormed, IsStuck, IsFirstViolation, Violation, violation}
 use Rattle.obj_check.proofs.Rows.{nothing_begins}
 
-same_first : (i j : Instr) (xs ys : List ℕ) → IsInstr i → IsInstr j → encoding i ++ xs ≡ encoding j ++ ys → i ≡ j
+pub same_first : (i j : Instr) (xs ys : List ℕ) → IsInstr i → IsInstr j → encoding i ++ xs ≡ encoding j ++ ys → i ≡ j
 same_first i j xs ys h k e = let one = sym (decode_back i xs h) ∙ ap decode e ∙ decode_back j ys k in cc
 
-same_rest : (i j : Instr) (xs ys : List ℕ) → i ≡ j → encoding i ++ xs ≡ encoding j ++ ys → xs ≡ ys
+pub same_rest : (i j : Instr) (xs ys : List ℕ) → i ≡ j → encoding i ++ xs ≡ encoding j ++ ys → xs ≡ ys
 same_rest i j xs ys p e = append_cancel_left (encoding i) xs ys (e ∙ ap (λ (k : Instr). encoding k ++ ys) (sym p))
 
 one_row : (is js : List Instr) → Each IsInstr is → Each IsInstr js → spelled is ≡ spelled js → is ≡ js
@@ -27,7 +27,7 @@ one_row (i ∷ is) (j ∷ js) h k e =
     let q = one_row is js h.1 k.1 (same_rest i j (spelled is) (spelled js) p e) in
     ap (λ (x : Instr). x ∷ is) p ∙ ap (λ (xs : List Instr). j ∷ xs) q
 
-one_cut : (bytes : List ℕ) (is js : List Instr) → IsCut bytes is → IsCut bytes js → is ≡ js
+pub one_cut : (bytes : List ℕ) (is js : List Instr) → IsCut bytes is → IsCut bytes js → is ≡ js
 one_cut bytes is js h k = one_row is js h.instructions k.instructions (h.whole ∙ sym k.whole)
 
 cuts_once : (fs : List Func) (xs ys : List (List Instr)) → AreCuts fs xs → AreCuts fs ys → xs ≡ ys

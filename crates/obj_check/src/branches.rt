@@ -1,22 +1,22 @@
 //! The rule of branches: links stand in order at displacements of 0 and name slots, and every other
 //! branch goes to the start of an instruction.
 
-ghost use Rattle.std.specs.Prelude.{◌≡◌, ◌++◌, ◌+◌, ◌≤◌, ℕ, None, IfOk, length};
+ghost use Rattle.std.specs.Prelude.{◌≡◌, ◌++◌, ◌+◌, ◌≤◌, ◌||◌, if◌then◌else◌, None, IfOk, length};
 ghost use Rattle.x86_core.specs.Arithmetic.{moved};
 ghost use Rattle.obj_core.specs.Cut.{found};
-ghost use Rattle.obj_core.specs.WellFormed.{displacement, is_zero, fills_zero, is_good_link, bad_links, is_linked, goes_well, bad_branches};
-ghost use Rattle.obj_check.specs.Pieces.{instrs, marked, Marks, StartsKnown, IsCutUp};
-ghost use Rattle.obj_check.specs.Least.{least_with};
-ghost use Rattle.obj_check.specs.Failing.{zero_ends, bad_goals};
+ghost use Rattle.obj_core.specs.WellFormed.{displacement, is_good_link, bad_links, is_linked, goes_well, bad_branches};
+ghost use Rattle.obj_check.specs.Pieces.{cut_of};
+ghost use Rattle.obj_check.specs.Cuts.{IsCutUp};
+ghost use Rattle.obj_check.specs.Least.{lesser_of, least_with};
+ghost use Rattle.obj_check.specs.Failing.{MarksBelow};
 
-use crate::code::lesser;
-use crate::cut::{Cut, Piece, has_start};
-use crate::marks::{blank, is_marked, mark};
+use crate::asked::displacement;
+use crate::marks::{Table, blank, is_marked, mark};
+use crate::notes::{Cut, lesser};
+use crate::piece::{Piece, piece_at};
 use obj_core::object::{Func, Link};
-use rd_num::list::List;
 use rd_num::width::NoMemory;
 use std::alloc::Global;
-use x86_core::instr::Instr;
 
 /// The least offset of a link or a branch that the rule doesn't allow.
 pub fn first_bad_branch(
@@ -27,55 +27,19 @@ pub fn first_bad_branch(
 ) -> Result<Option<u32>, NoMemory>
     requires cut { IsCutUp function.now.bytes cut.now }
     requires few { length function.now.bytes ≤ 67108864 }
-    ensures { IfOk result (λ r. r ≡ least_with None (bad_links None (found (instrs cut.now.pieces)) slots function.now.links ++ bad_branches function.now.links (found (instrs cut.now.pieces)) (found (instrs cut.now.pieces)))) }
+    ensures { IfOk result (λ r. r ≡ least_with None (bad_links None (found (cut_of function.now.bytes)) slots function.now.links ++ bad_branches function.now.links (found (cut_of function.now.bytes)) (found (cut_of function.now.bytes)))) }
 {
-    let links = function.links.as_slice();
-    let size = function.bytes.len();
-    let zeros = zeros_of(alloc, size + 1, cut.pieces.as_slice())?;
-    let linked = linked_of(alloc, size + 1, links)?;
-    let least = first_bad_link(cut, &zeros, slots, links);
-    Ok(first_bad_goal(cut, &linked, least))
-}
-
-/// The displacement of a branch.
-fn displacement(instr: &Instr) -> Option<i32>
-    ensures { result ≡ displacement instr.now }
-{
-    match *instr {
-        Instr::Jcc(_, by) => Some(by),
-        Instr::Jmp(by) => Some(by),
-        _ => None,
-    }
-}
-
-/// Whether an instruction is a branch with displacement 0.
-fn is_zero_branch(instr: &Instr) -> bool
-    ensures { result ≡ is_zero (displacement instr.now) }
-{
-    match displacement(instr) {
-        Some(by) => by == 0,
-        None => false,
-    }
-}
-
-/// The places at which a branch with displacement 0 ends.
-fn zeros_of(alloc: Global, size: usize, pieces: &[Piece]) -> Result<List<bool>, NoMemory>
-    ensures { IfOk result (λ t. Marks size t (zero_ends pieces.now)) }
-{
-    let mut zeros = blank(alloc, size)?;
-    for piece in pieces {
-        if is_zero_branch(&piece.instr) {
-            mark(&mut zeros, piece.end as usize);
-        }
-    }
-    Ok(zeros)
+    let linked = linked_of(alloc, function)?;
+    let least = first_bad_link(function, cut, slots);
+    Ok(first_bad_goal(function, cut, &linked, least))
 }
 
 /// The places at which the four bytes of a link end.
-fn linked_of(alloc: Global, size: usize, links: &[Link]) -> Result<List<bool>, NoMemory>
-    ensures { IfOk result (λ t. Marks size t (is_linked links.now)) }
+fn linked_of(alloc: Global, function: &Func) -> Result<Table, NoMemory>
+    ensures { IfOk result (λ t. MarksBelow (length function.now.bytes + 1) t (is_linked function.now.links)) }
 {
-    let mut linked = blank(alloc, size)?;
+    let mut linked = blank(alloc, function.bytes.len())?;
+    let links = function.links.as_slice();
     for link in links {
         mark(&mut linked, link.at as usize + 4);
     }
@@ -83,17 +47,11 @@ fn linked_of(alloc: Global, size: usize, links: &[Link]) -> Result<List<bool>, N
 }
 
 /// Whether a link stands behind the one before it, at a displacement of 0, and names a slot.
-fn is_good_link(
-    cut: &Cut,
-    zeros: &List<bool>,
-    slots: usize,
-    before: Option<u32>,
-    link: Link,
-) -> bool
-    requires { (k : ℕ) → marked zeros.now (k + 4) ≡ fills_zero (found (instrs cut.now.pieces)) k }
-    ensures { result ≡ is_good_link before (found (instrs cut.now.pieces)) slots link }
+fn is_good_link(function: &Func, cut: &Cut, slots: usize, before: Option<u32>, link: Link) -> bool
+    requires { IsCutUp function.now.bytes cut.now }
+    ensures { result ≡ is_good_link before (found (cut_of function.now.bytes)) slots link }
 {
-    let fills = is_marked(zeros, link.at as usize + 4) && (link.slot as usize) < slots;
+    let fills = is_marked(&cut.zeros, link.at as usize + 4) && (link.slot as usize) < slots;
     match before {
         None => fills,
         Some(last) => last < link.at && fills,
@@ -101,14 +59,15 @@ fn is_good_link(
 }
 
 /// The least place of a link that isn't good.
-fn first_bad_link(cut: &Cut, zeros: &List<bool>, slots: usize, links: &[Link]) -> Option<u32>
-    requires { (k : ℕ) → marked zeros.now (k + 4) ≡ fills_zero (found (instrs cut.now.pieces)) k }
-    ensures { result ≡ least_with None (bad_links None (found (instrs cut.now.pieces)) slots links.now) }
+fn first_bad_link(function: &Func, cut: &Cut, slots: usize) -> Option<u32>
+    requires { IsCutUp function.now.bytes cut.now }
+    ensures { result ≡ least_with None (bad_links None (found (cut_of function.now.bytes)) slots function.now.links) }
 {
     let mut least = None;
     let mut before = None;
+    let links = function.links.as_slice();
     for link in links {
-        if !is_good_link(cut, zeros, slots, before, *link) {
+        if !is_good_link(function, cut, slots, before, *link) {
             least = lesser(least, link.at);
         }
         before = Some(link.at);
@@ -117,13 +76,13 @@ fn first_bad_link(cut: &Cut, zeros: &List<bool>, slots: usize, links: &[Link]) -
 }
 
 /// Whether an instruction is no branch, or goes to the start of an instruction.
-fn goes_well(cut: &Cut, piece: &Piece) -> bool
-    requires { StartsKnown cut.now }
-    ensures { result ≡ goes_well (found (instrs cut.now.pieces)) piece.now.end (displacement piece.now.instr) }
+fn goes_well(function: &Func, cut: &Cut, piece: &Piece) -> bool
+    requires { IsCutUp function.now.bytes cut.now }
+    ensures { result ≡ goes_well (found (cut_of function.now.bytes)) piece.now.end (displacement piece.now.instr) }
 {
     match displacement(&piece.instr) {
         None => true,
-        Some(by) => has_start(cut, moved_by(piece.end, by) as usize),
+        Some(by) => is_marked(&cut.starts, moved_by(piece.end, by) as usize),
     }
 }
 
@@ -134,17 +93,39 @@ fn moved_by(place: u32, by: i32) -> u64
     (place as u64).wrapping_add_signed(by as i64)
 }
 
-/// The least of an offset and those of branches that have no link and go to no instruction.
-fn first_bad_goal(cut: &Cut, linked: &List<bool>, before: Option<u32>) -> Option<u32>
-    requires { StartsKnown cut.now }
-    ensures { result ≡ least_with before (bad_goals linked.now (found (instrs cut.now.pieces)) cut.now.pieces) }
+/// The least of an offset and that of an instruction that has no link and goes to no instruction.
+fn with_goal(
+    function: &Func,
+    cut: &Cut,
+    linked: &Table,
+    least: Option<u32>,
+    piece: &Piece,
+) -> Option<u32>
+    requires cut { IsCutUp function.now.bytes cut.now }
+    requires linked { MarksBelow (length function.now.bytes + 1) linked.now (is_linked function.now.links) }
+    requires inside { piece.now.end ≤ length function.now.bytes }
+    ensures { result ≡ (if is_linked function.now.links piece.now.end || goes_well (found (cut_of function.now.bytes)) piece.now.end (displacement piece.now.instr) then least else lesser_of least piece.now.at) }
 {
+    if is_marked(linked, piece.end as usize) || goes_well(function, cut, piece) {
+        least
+    } else {
+        lesser(least, piece.at)
+    }
+}
+
+/// The least of an offset and those of branches that have no link and go to no instruction.
+fn first_bad_goal(function: &Func, cut: &Cut, linked: &Table, before: Option<u32>) -> Option<u32>
+    requires cut { IsCutUp function.now.bytes cut.now }
+    requires few { length function.now.bytes ≤ 67108864 }
+    requires linked { MarksBelow (length function.now.bytes + 1) linked.now (is_linked function.now.links) }
+    ensures { result ≡ least_with before (bad_branches function.now.links (found (cut_of function.now.bytes)) (found (cut_of function.now.bytes))) }
+{
+    let bytes = function.bytes.as_slice();
     let mut least = before;
-    let pieces = cut.pieces.as_slice();
-    for piece in pieces {
-        if !is_marked(linked, piece.end as usize) && !goes_well(cut, piece) {
-            least = lesser(least, piece.at);
-        }
+    let mut at = 0;
+    while let Some(piece) = piece_at(bytes, at) {
+        least = with_goal(function, cut, linked, least, &piece);
+        at = piece.end as usize;
     }
     least
 }

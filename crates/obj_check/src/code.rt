@@ -1,19 +1,19 @@
 //! The rules of code: the first function in which a rule fails, and the least offset there.
 
 ghost use Rattle.std.specs.Prelude.{◌≡◌, ◌≤◌, None, IfOk, length};
-ghost use Rattle.obj_core.specs.WellFormed.{AreFew, is_slots_own, is_end, forbidden_in, open_end, in_functions};
-ghost use Rattle.obj_check.specs.Pieces.{seen_all, instrs, IsCutUp, AreCutUp, cuts_of};
-ghost use Rattle.obj_check.specs.Least.{least_with, lesser_of, told_of};
+ghost use Rattle.obj_core.specs.WellFormed.{AreFew, in_functions};
+ghost use Rattle.obj_check.specs.Pieces.{cut_of};
+ghost use Rattle.obj_check.specs.Cuts.{IsCutUp, AreCutUp, cuts_of};
+ghost use Rattle.obj_check.specs.Least.{least_with, told_of};
 ghost use Rattle.obj_check.specs.Failing.{rule_number, failing};
 
 use crate::branches::first_bad_branch;
-use crate::cut::{Cut, Piece};
 use crate::fault::{Broken, ShapeSpot};
+use crate::notes::Cut;
 use crate::saved::is_saved_well;
 use obj_core::object::{Func, Object};
 use rd_num::width::NoMemory;
 use std::alloc::Global;
-use x86_core::instr::Instr;
 
 /// A rule that speaks of functions one by one.
 #[derive(Clone, Copy)]
@@ -26,16 +26,6 @@ pub enum CodeRule {
     Ends,
     /// A saved function begins with its test and its pushes, and uses the registers of the first colours.
     Saved,
-}
-
-/// The lesser of an offset and those before it.
-pub fn lesser(least: Option<u32>, offset: u32) -> Option<u32>
-    ensures { result ≡ lesser_of least offset }
-{
-    match least {
-        None => Some(offset),
-        Some(before) => Some(before.min(offset)),
-    }
 }
 
 /// The number of a rule.
@@ -59,7 +49,7 @@ pub fn first_in_functions(
 ) -> Result<Option<Broken>, NoMemory>
     requires cut { AreCutUp o.now.functions cuts.now }
     requires few { AreFew o.now }
-    ensures { IfOk result (λ r. told_of r ≡ in_functions (rule_number rule) (failing rule o.now) 0 o.now.functions (cuts_of cuts.now)) }
+    ensures { IfOk result (λ r. told_of r ≡ in_functions (rule_number rule) (failing rule o.now) 0 o.now.functions (cuts_of o.now.functions)) }
 {
     let functions = o.functions.as_slice();
     for (n, function) in functions.iter().enumerate() {
@@ -88,64 +78,18 @@ fn first_in_function(
 ) -> Result<Option<u32>, NoMemory>
     requires cut { IsCutUp function.now.bytes cut.now }
     requires few { length function.now.bytes ≤ 67108864 }
-    ensures { IfOk result (λ r. r ≡ least_with None (failing rule o.now n function.now (instrs cut.now.pieces))) }
+    ensures { IfOk result (λ r. r ≡ least_with None (failing rule o.now n function.now (cut_of function.now.bytes))) }
 {
-    let pieces = cut.pieces.as_slice();
     match rule {
-        CodeRule::Transfers => Ok(first_transfer(pieces)),
+        CodeRule::Transfers => Ok(cut.transfer),
         CodeRule::Branches => first_bad_branch(alloc, o.slots.len(), function, cut),
-        CodeRule::Ends => Ok(open_end(pieces)),
+        CodeRule::Ends => Ok(cut.last_open),
         CodeRule::Saved => {
-            if is_saved_well(alloc, o.reg_seed, n, function, pieces)? {
+            if is_saved_well(alloc, o.reg_seed, n, function, cut)? {
                 Ok(None)
             } else {
                 Ok(Some(0))
             }
         }
     }
-}
-
-/// Whether an instruction is one that only a slot may have.
-fn is_slots_own(instr: &Instr) -> bool
-    ensures { result ≡ is_slots_own instr.now }
-{
-    matches!(instr, Instr::Call(_) | Instr::CallR11 | Instr::Syscall)
-}
-
-/// The least offset of a transfer that only a slot may make.
-fn first_transfer(pieces: &[Piece]) -> Option<u32>
-    ensures { result ≡ least_with None (forbidden_in (seen_all pieces.now)) }
-{
-    let mut least = None;
-    for piece in pieces {
-        if is_slots_own(&piece.instr) {
-            least = lesser(least, piece.at);
-        }
-    }
-    least
-}
-
-/// Whether an instruction may be a function's last one.
-fn is_end(instr: &Instr) -> bool
-    ensures { result ≡ is_end instr.now }
-{
-    matches!(
-        instr,
-        Instr::Jmp(_) | Instr::JmpR11 | Instr::Ret | Instr::Ud2 | Instr::Int3
-    )
-}
-
-/// The offset of the last instruction where it lets the next byte run.
-fn open_end(pieces: &[Piece]) -> Option<u32>
-    ensures { result ≡ least_with None (open_end (seen_all pieces.now)) }
-{
-    let mut open = None;
-    for piece in pieces {
-        open = if is_end(&piece.instr) {
-            None
-        } else {
-            Some(piece.at)
-        };
-    }
-    open
 }

@@ -9,10 +9,11 @@
 ghost use Rattle.std.specs.Prelude.{◌≡◌, IfOk, IfErr};
 ghost use Rattle.obj_core.specs.Object.{IsObject};
 ghost use Rattle.obj_core.specs.WellFormed.{AreFew, IsWellFormed, violation};
-ghost use Rattle.obj_check.specs.Pieces.{AreCutUp, cuts_of};
+ghost use Rattle.obj_check.specs.Cuts.{AreCutUp, cuts_of};
 ghost use Rattle.obj_check.specs.Least.{told_of};
 ghost use Rattle.obj_check.specs.Told.{later_violation, Judges, Explains};
 
+mod asked;
 mod branches;
 mod code;
 mod cut;
@@ -20,15 +21,18 @@ pub mod fault;
 mod few;
 pub mod law;
 mod marks;
+mod notes;
+mod piece;
 mod saved;
 mod slots;
 #[cfg(test)]
 mod tests;
 
 use code::{CodeRule, first_in_functions};
-use cut::{Cut, Cuts, cut_all};
+use cut::{Cuts, cut_all};
 use fault::{Broken, Refused, ShapeFault, ShapeSpot};
 use few::is_few;
+use notes::Cut;
 use obj_core::checked::Checked;
 use obj_core::object::Object;
 use rd_num::width::NoMemory;
@@ -90,7 +94,7 @@ fn first_broken(alloc: Global, o: &Object) -> Result<Option<Broken>, NoMemory>
 fn first_in_cuts(alloc: Global, o: &Object, cuts: &[Cut]) -> Result<Option<Broken>, NoMemory>
     requires cut { AreCutUp o.now.functions cuts.now }
     requires few { AreFew o.now }
-    ensures { IfOk result (λ r. told_of r ≡ violation o.now (cuts_of cuts.now)) }
+    ensures { IfOk result (λ r. told_of r ≡ violation o.now (cuts_of o.now.functions)) }
 {
     if let Some(broken) = first_in_functions(alloc, CodeRule::Transfers, o, cuts)? {
         return Ok(Some(broken));
@@ -105,14 +109,12 @@ fn first_in_cuts(alloc: Global, o: &Object, cuts: &[Cut]) -> Result<Option<Broke
 }
 
 /// The first of rules 6 to 8 that fails.
-#[tactic(auto, using(crate::proofs::Judged::all_known))]
 fn first_in_rest(alloc: Global, o: &Object, cuts: &[Cut]) -> Result<Option<Broken>, NoMemory>
     requires cut { AreCutUp o.now.functions cuts.now }
     requires few { AreFew o.now }
-    ensures { IfOk result (λ r. told_of r ≡ later_violation o.now (cuts_of cuts.now)) }
+    ensures { IfOk result (λ r. told_of r ≡ later_violation o.now (cuts_of o.now.functions)) }
 {
-    let slots = o.slots.as_slice();
-    match first_bad_slot(cuts, slots) {
+    match first_bad_slot(o.functions.as_slice(), cuts, o.slots.as_slice()) {
         Some(broken) => Ok(Some(broken)),
         None => first_in_functions(alloc, CodeRule::Saved, o, cuts),
     }

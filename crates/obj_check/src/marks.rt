@@ -1,36 +1,63 @@
-//! Tables that mark places.
+//! Tables that mark places, a bit for each.
 
-ghost use Rattle.std.specs.Prelude.{◌≡◌, ℕ, ◌<◌, ◌||◌, false, nat_eq, replicate, IfOk, length};
-ghost use Rattle.obj_check.specs.Pieces.{marked};
+ghost use Rattle.std.specs.Prelude.{◌≡◌, ℕ, ◌<◌, ◌≤◌, ◌||◌, false, nat_eq, IfOk};
+ghost use Rattle.obj_check.specs.Marked.{is_set, room, marked};
 
 use rd_num::list::List;
 use rd_num::width::NoMemory;
 use std::alloc::Global;
 
-/// A table of a size with no mark.
-pub fn blank(alloc: Global, size: usize) -> Result<List<bool>, NoMemory>
-    ensures { IfOk result (λ t. t ≡ replicate size false) }
-{
-    let mut table = List::new(alloc);
-    for _ in 0..size {
-        table.add(false)?;
-    }
-    Ok(table)
+/// Marks at places below a bound, in words of 64.
+#[derive(Drop)]
+pub struct Table {
+    words: List<u64>,
 }
 
-/// Marks a place of a table, and nothing where the place is past its end.
-pub fn mark(table: &mut List<bool>, place: usize)
-    ensures long { length table.new ≡ length table.old }
-    ensures marks { (k : ℕ) → k < length table.old → marked table.new k ≡ (nat_eq place k || marked table.old k) }
+/// A table with no mark, for the places up to a size.
+pub fn blank(alloc: Global, size: usize) -> Result<Table, NoMemory>
+    ensures room { IfOk result (λ t. size < room t) }
+    ensures none { IfOk result (λ t. (k : ℕ) → marked t k ≡ false) }
 {
-    if place < table.len() {
-        table.set(place, true);
+    let mut words = List::new(alloc);
+    for _ in 0..size / 64 + 1 {
+        words.add(0)?;
+    }
+    Ok(Table { words })
+}
+
+/// A word with a bit set.
+fn with_bit(word: u64, bit: u32) -> u64
+    requires { bit < 64 }
+    ensures { (i : ℕ) → is_set result i ≡ (nat_eq bit i || is_set word i) }
+{
+    word | 1 << bit
+}
+
+/// Whether a bit of a word is set.
+fn has_bit(word: u64, bit: u32) -> bool
+    requires { bit < 64 }
+    ensures { result ≡ is_set word bit }
+{
+    (word >> bit) & 1 == 1
+}
+
+/// Marks a place, and nothing where the table has no room for it.
+pub fn mark(table: &mut Table, place: usize)
+    ensures room { room table.new ≡ room table.old }
+    ensures marks { place < room table.old → (k : ℕ) → marked table.new k ≡ (nat_eq place k || marked table.old k) }
+    ensures past { room table.old ≤ place → table.new ≡ table.old }
+{
+    let at = place / 64;
+    if at < table.words.len() {
+        let word = with_bit(table.words.as_slice()[at], (place % 64) as u32);
+        table.words.set(at, word);
     }
 }
 
-/// Whether a place is marked, which none is past the table's end.
-pub fn is_marked(table: &List<bool>, place: usize) -> bool
+/// Whether a place is marked, which none is that a table has no room for.
+pub fn is_marked(table: &Table, place: usize) -> bool
     ensures { result ≡ marked table.now place }
 {
-    place < table.len() && table.as_slice()[place]
+    let at = place / 64;
+    at < table.words.len() && has_bit(table.words.as_slice()[at], (place % 64) as u32)
 }

@@ -1,15 +1,15 @@
 //! The rule of saved registers: how a saved function begins, and which of the five it uses.
 
-ghost use Rattle.std.specs.Prelude.{◌≡◌, ◌++◌, ◌<◌, ◌&&◌, nat_eq, nat_lt, if◌then◌else◌, false, slice_index, List as Row, [], map, IfOk, OnOk, All, length};
-ghost use Rattle.x86_core.specs.Registers.{number_of};
+ghost use Rattle.std.specs.Prelude.{◌≡◌, ◌++◌, ◌<◌, ◌&&◌, nat_lt, slice_index, IfOk, OnOk, length};
 ghost use Rattle.obj_core.specs.Cut.{spelled};
-ghost use Rattle.obj_core.specs.Slots.{name_purpose, push_purpose};
-ghost use Rattle.obj_core.specs.Saved.{saved_register, five_of, pushes, prologue, begins_with, registers_of, is_push_or_pop, is_among, occurs, one_if, count_in, agree, are_first_colors};
+ghost use Rattle.obj_core.specs.Saved.{saved_register, five_of, prologue, begins_with, one_if, agree, are_first_colors};
 ghost use Rattle.obj_core.specs.WellFormed.{is_saved_well};
-ghost use Rattle.obj_check.specs.Pieces.{instrs};
-ghost use Rattle.obj_check.specs.Orders.{pushes_in, are_colored};
+ghost use Rattle.obj_check.specs.Pieces.{cut_of};
+ghost use Rattle.obj_check.specs.Cuts.{IsCutUp};
+ghost use Rattle.obj_check.specs.Orders.{pushes_in, used_in, count_used, are_colored};
 
-use crate::cut::Piece;
+use crate::marks::{Table, is_marked};
+use crate::notes::Cut;
 use obj_core::object::{Func, FuncKind};
 use rd_draw::{perm, shuffle_known};
 use rd_num::list::List;
@@ -25,37 +25,44 @@ pub fn is_saved_well(
     reg_seed: u64,
     n: u32,
     function: &Func,
-    pieces: &[Piece],
+    cut: &Cut,
 ) -> Result<bool, NoMemory>
-    ensures { IfOk result (λ r. r ≡ is_saved_well reg_seed n function.now (instrs pieces.now)) }
+    requires { IsCutUp function.now.bytes cut.now }
+    ensures { IfOk result (λ r. r ≡ is_saved_well reg_seed n function.now (cut_of function.now.bytes)) }
 {
     match function.kind {
         FuncKind::Plain => Ok(true),
-        FuncKind::Saved => is_saved(alloc, reg_seed, n, function.bytes.as_slice(), pieces),
+        FuncKind::Saved => is_saved(alloc, reg_seed, n, function, cut),
     }
 }
 
-/// Whether bytes begin as those of a saved function, and its instructions use the registers of the
-/// first colours.
+/// Whether a function begins as a saved one, and its instructions use the registers of the first
+/// colours.
 fn is_saved(
     alloc: Global,
     reg_seed: u64,
     n: u32,
-    bytes: &[u8],
-    pieces: &[Piece],
+    function: &Func,
+    cut: &Cut,
 ) -> Result<bool, NoMemory>
-    ensures { IfOk result (λ r. r ≡ (begins_with (prologue reg_seed n) bytes.now && are_first_colors reg_seed n (instrs pieces.now))) }
+    requires { IsCutUp function.now.bytes cut.now }
+    ensures { IfOk result (λ r. r ≡ (begins_with (prologue reg_seed n) function.now.bytes && are_first_colors reg_seed n (cut_of function.now.bytes))) }
 {
     let front = prologue(alloc, reg_seed, n)?;
     let names = five(alloc, reg_seed, 3, n)?;
-    Ok(begins_and_uses(front.as_slice(), names.as_slice(), bytes, pieces))
+    Ok(begins_and_uses(
+        front.as_slice(),
+        names.as_slice(),
+        function.bytes.as_slice(),
+        &cut.registers,
+    ))
 }
 
-fn begins_and_uses(front: &[u8], names: &[u32], bytes: &[u8], pieces: &[Piece]) -> bool
+fn begins_and_uses(front: &[u8], names: &[u32], bytes: &[u8], registers: &Table) -> bool
     requires { length names.now ≡ 5 }
-    ensures { result ≡ (begins_with front.now bytes.now && are_colored names.now (instrs pieces.now)) }
+    ensures { result ≡ (begins_with front.now bytes.now && are_colored names.now (used_in registers.now)) }
 {
-    begins_with(front, bytes) && are_colored(names, pieces)
+    begins_with(front, bytes) && are_colored(names, registers)
 }
 
 /// The five places of saved registers, in the order that a seed draws for a function.
@@ -110,92 +117,46 @@ fn begins_with(front: &[u8], bytes: &[u8]) -> bool
     front.len() <= bytes.len() && front == &bytes[..front.len()]
 }
 
-/// Whether two registers are one.
-fn is_same(a: Reg, b: Reg) -> bool
-    ensures { result ≡ nat_eq (number_of a) (number_of b) }
+/// Whether the saved register of a place is used.
+fn is_used(place: u32, registers: &Table) -> bool
+    ensures { result ≡ used_in registers.now (saved_register place) }
 {
-    number(a) == number(b)
+    is_marked(registers, number(saved_register(place)) as usize)
 }
 
-/// Whether a register is an operand of an instruction, or the base of its memory operand.
-fn is_operand(reg: Reg, instr: &Instr) -> bool
-    ensures { result ≡ is_among reg (registers_of instr.now) }
+/// 1 where the saved register of a place is used, else 0.
+fn one_if_used(place: u32, registers: &Table) -> u32
+    ensures { result ≡ one_if (used_in registers.now (saved_register place)) }
 {
-    match *instr {
-        Instr::Mov(_, d, s)
-        | Instr::Alu(_, _, d, s)
-        | Instr::Imul(_, d, s)
-        | Instr::Widen(_, d, s)
-        | Instr::Cmov(_, d, s) => is_same(reg, d) || is_same(reg, s),
-        Instr::Load(_, d, m) | Instr::Lea(d, m) => is_same(reg, d) || is_same(reg, m.base),
-        Instr::Store(_, m, s) => is_same(reg, m.base) || is_same(reg, s),
-        Instr::MovImm64(r, _)
-        | Instr::MovImm32(r, _)
-        | Instr::AluImm(_, _, r, _)
-        | Instr::Shift(_, _, r)
-        | Instr::Div(_, _, r)
-        | Instr::Push(r)
-        | Instr::Pop(r)
-        | Instr::SetCond(_, r) => is_same(reg, r),
-        _ => false,
-    }
+    if is_used(place, registers) { 1 } else { 0 }
 }
 
-fn is_push_or_pop(instr: &Instr) -> bool
-    ensures { result ≡ is_push_or_pop instr.now }
+/// How many of the five are used.
+fn count_used(registers: &Table) -> u32
+    ensures { result ≡ count_used (used_in registers.now) }
 {
-    matches!(instr, Instr::Push(_) | Instr::Pop(_))
+    one_if_used(0, registers)
+        + (one_if_used(1, registers)
+            + (one_if_used(2, registers) + (one_if_used(3, registers) + one_if_used(4, registers))))
 }
 
-/// Whether a register occurs in an instruction other than a push or a pop.
-fn occurs(reg: Reg, pieces: &[Piece]) -> bool
-    ensures { result ≡ occurs reg (instrs pieces.now) }
-{
-    for piece in pieces {
-        if !is_push_or_pop(&piece.instr) && is_operand(reg, &piece.instr) {
-            return true;
-        }
-    }
-    false
-}
-
-/// 1 where the saved register of a place occurs, else 0.
-fn one_if_used(place: u32, pieces: &[Piece]) -> u32
-    ensures { result ≡ one_if (occurs (saved_register place) (instrs pieces.now)) }
-{
-    if occurs(saved_register(place), pieces) {
-        1
-    } else {
-        0
-    }
-}
-
-/// How many of the five occur.
-fn count_in(pieces: &[Piece]) -> u32
-    ensures { result ≡ count_in (instrs pieces.now) }
-{
-    one_if_used(0, pieces)
-        + (one_if_used(1, pieces)
-            + (one_if_used(2, pieces) + (one_if_used(3, pieces) + one_if_used(4, pieces))))
-}
-
-/// Whether those of the five that occur are the first ones of an order.
-fn are_colored(order: &[u32], pieces: &[Piece]) -> bool
+/// Whether those of the five that are used are the first ones of an order.
+fn are_colored(order: &[u32], registers: &Table) -> bool
     requires { length order.now ≡ 5 }
-    ensures { result ≡ are_colored order.now (instrs pieces.now) }
+    ensures { result ≡ are_colored order.now (used_in registers.now) }
 {
-    let count = count_in(pieces);
-    is_colored(order, 0, count, pieces)
-        && is_colored(order, 1, count, pieces)
-        && is_colored(order, 2, count, pieces)
-        && is_colored(order, 3, count, pieces)
-        && is_colored(order, 4, count, pieces)
+    let count = count_used(registers);
+    is_colored(order, 0, count, registers)
+        && is_colored(order, 1, count, registers)
+        && is_colored(order, 2, count, registers)
+        && is_colored(order, 3, count, registers)
+        && is_colored(order, 4, count, registers)
 }
 
-/// Whether a colour's register occurs exactly where the colour is below a number.
-fn is_colored(order: &[u32], color: usize, count: u32, pieces: &[Piece]) -> bool
+/// Whether a colour's register is used exactly where the colour is below a number.
+fn is_colored(order: &[u32], color: usize, count: u32, registers: &Table) -> bool
     requires { color < length order.now }
-    ensures { result ≡ agree (occurs (saved_register (slice_index order.now color)) (instrs pieces.now)) (nat_lt color count) }
+    ensures { result ≡ agree (used_in registers.now (saved_register (slice_index order.now color))) (nat_lt color count) }
 {
-    occurs(saved_register(order[color]), pieces) == (color < count as usize)
+    is_used(order[color], registers) == (color < count as usize)
 }

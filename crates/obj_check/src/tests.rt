@@ -48,7 +48,7 @@ fn told(alloc: Global, bytes: &[u8]) -> Option<ShapeFault> {
 
 #[test]
 fn tells_the_first_rule_that_fails(rt: HostRuntime) {
-    let rows: [(&[u8], &[u32], Option<(u8, ShapeSpot, u32)>); 9] = [
+    let rows: [(&[u8], &[u32], Option<(u8, ShapeSpot, u32)>); 12] = [
         (&[0x0F, 0x0B], &[0], None),
         (&[], &[0], Some((1, ShapeSpot::Whole, 0))),
         (&[0x0F, 0x0B], &[], Some((1, ShapeSpot::Whole, 0))),
@@ -67,7 +67,18 @@ fn tells_the_first_rule_that_fails(rt: HostRuntime) {
             &[0],
             Some((4, ShapeSpot::Function(0), 2)),
         ),
+        (&[0xE9, 0xFB, 0xFF, 0xFF, 0xFF], &[0], None),
+        (
+            &[0x90, 0xE8, 0, 0, 0, 0, 0x0F, 0x0B],
+            &[0],
+            Some((3, ShapeSpot::Function(0), 1)),
+        ),
         (&[0x90], &[0], Some((5, ShapeSpot::Function(0), 0))),
+        (
+            &[0x0F, 0x0B, 0x0F, 0x84, 0xFA, 0xFF, 0xFF, 0xFF],
+            &[0],
+            Some((5, ShapeSpot::Function(0), 2)),
+        ),
         (&[0x0F, 0x0B], &[1], Some((6, ShapeSpot::Slot(0), 0))),
         (&[0x0F, 0x0B], &[0, 0], Some((7, ShapeSpot::Slot(1), 0))),
     ];

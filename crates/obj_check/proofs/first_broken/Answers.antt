@@ -1,7 +1,6 @@
-use Rattle.std.proofs.Common.{List, ap, ◌∙◌, subst, rules}
-use Rattle.obj_core.specs.WellFormed.{AreFew, violation}
-use Rattle.obj_check.specs.declared.cut.Cut.{Cut}
-use Rattle.obj_check.specs.Pieces.{AreAllRight, cuts_of}
+use Rattle.std.proofs.Common.{subst, rules}
+use Rattle.obj_core.specs.WellFormed.{AreFew}
+use Rattle.obj_check.specs.Cuts.{AreAllRight}
 use Rattle.obj_check.proofs.Judged.{judged}
 use Rattle.obj_check.proofs.first_broken.Goals as goal
 
@@ -10,5 +9,4 @@ pub returns-in_ok-broken-in-All : goal.returns-in_ok-broken-in-All
 returns-in_ok-broken-in-All c =
     let few : AreFew c.args.o.now = search rules in
     let right = subst (AreAllRight c.args.o.now.functions) c.in-All.is c.in_ok-cuts.ensures in
-    let told = c.in_ok-broken-in-All.ensures ∙ ap (λ (cs : List Cut). violation c.args.o.now (cuts_of cs)) c.as_slice.ensures in
-    judged c.args.o.now c.in-All.cuts c.in_ok-broken-in-All.broken c.requires few right told
+    judged c.args.o.now c.in-All.cuts c.in_ok-broken-in-All.broken c.requires few right c.in_ok-broken-in-All.ensures

@@ -1,7 +1,7 @@
-use Rattle.std.proofs.Common.{◌≡◌, ◌+◌, ◌<◌, ℕ, length, drop, refl, ap, sym, ◌∙◌, subst, arith, List, Option, Some}
+use Rattle.std.proofs.Common.{◌≡◌, ◌+◌, ℕ, length, drop, refl, ap, sym, ◌∙◌, subst, arith, List, Option, Some}
 use Rattle.obj_core.specs.declared.object.Func.{Func}
 use Rattle.obj_core.specs.WellFormed.{Violation, Function, or_else, in_functions}
-use Rattle.obj_check.specs.Pieces.{AreCutUp, cuts_of}
+use Rattle.obj_check.specs.Cuts.{AreCutUp, cuts_of}
 use Rattle.obj_check.specs.Failing.{rule_number, failing}
 use Rattle.obj_check.proofs.Cuts.{one_bounded}
 use Rattle.obj_check.proofs.Functions.{same_lengths, cut_at, at_function, first_more}
@@ -27,31 +27,23 @@ first_in_function-requires-clause-few c =
 pub returns-in-Some : goal.returns-in-Some
 returns-in-Some c =
     let fs = c.as_slice-functions.result.now in
-    let cs = c.args.cuts.now in
     let n = c.loop-n.n in
     let rule = rule_number c.args.rule in
     let fails = failing c.args.rule c.args.o.now in
-    let a = same_lengths c.args.o.now.functions cs c.requires.cut in
-    let b : length fs ≡ length c.args.o.now.functions = ap length c.as_slice-functions.ensures in
-    let below : n < length fs = omega arith in
-    let rest = in_functions rule fails (n + 1) (drop (n + 1) fs) (cuts_of (drop (n + 1) cs)) in
-    let step = first_more rule fails n fs cs c.index-functions-n.result c.index-cuts-n.result below (omega arith) c.index-functions-n.is c.index-cuts-n.is in
+    let rest = in_functions rule fails (n + 1) (drop (n + 1) fs) (cuts_of (drop (n + 1) fs)) in
+    let step = first_more rule fails n fs c.index-functions-n.result (omega arith) c.index-functions-n.is in
     ap (λ (k : ℕ). let v : Violation = record { rule = k; spot = Function n; offset = c.in-Some.offset } in Some v) c.number.ensures ∙
     sym (ap (λ (o : Option ℕ). or_else (at_function rule n o) rest) (sym c.in_ok-first_in_function.ensures ∙ c.in-Some.is)) ∙
-    sym step ∙ c.loop-n.invariant ∙ ap (λ (gs : List Func). in_functions rule fails 0 gs (cuts_of cs)) c.as_slice-functions.ensures
+    sym step ∙ c.loop-n.invariant ∙ ap (λ (gs : List Func). in_functions rule fails 0 gs (cuts_of gs)) c.as_slice-functions.ensures
 
 -- this one passes too
 pub loop-n-preserved : goal.loop-n-preserved
 loop-n-preserved c =
     let fs = c.as_slice-functions.result.now in
-    let cs = c.args.cuts.now in
     let n = c.loop-n.n in
     let rule = rule_number c.args.rule in
     let fails = failing c.args.rule c.args.o.now in
-    let a = same_lengths c.args.o.now.functions cs c.requires.cut in
-    let b : length fs ≡ length c.args.o.now.functions = ap length c.as_slice-functions.ensures in
-    let below : n < length fs = omega arith in
-    let rest = in_functions rule fails (n + 1) (drop (n + 1) fs) (cuts_of (drop (n + 1) cs)) in
-    let step = first_more rule fails n fs cs c.index-functions-n.result c.index-cuts-n.result below (omega arith) c.index-functions-n.is c.index-cuts-n.is in
+    let rest = in_functions rule fails (n + 1) (drop (n + 1) fs) (cuts_of (drop (n + 1) fs)) in
+    let step = first_more rule fails n fs c.index-functions-n.result (omega arith) c.index-functions-n.is in
     sym (ap (λ (o : Option ℕ). or_else (at_function rule n o) rest) (sym c.in_ok-first_in_function.ensures ∙ c.in-None.is)) ∙
     sym step ∙ c.loop-n.invariant

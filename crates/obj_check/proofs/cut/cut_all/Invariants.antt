@@ -1,5 +1,5 @@
 use Rattle.std.proofs.Common.{take}
-use Rattle.obj_check.specs.Pieces.{AreCutUp}
+use Rattle.obj_check.specs.Cuts.{AreCutUp}
 use Rattle.obj_check.proofs.cut.cut_all.Given as goal
 
 -- the functions so far are cut
