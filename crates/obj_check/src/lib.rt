@@ -3,7 +3,12 @@
 //! Eight rules are asked in order: sizes (`few`), whole instructions (`cut`), transfers and ends
 //! (`code`), branches and links (`branches`), the goals of slots and the entry (`slots`), and saved
 //! registers (`saved`). The first rule that fails is told, with the first function or slot in which it
-//! fails and the least offset there. Time and memory are linear in the object.
+//! fails and the least offset there.
+//!
+//! Code is decoded twice: by `cut`, which notes what the rules ask (`notes`), and by `branches`, when
+//! all starts are known. No instruction is kept: where one starts is a bit of a table (`marks`). Time
+//! is linear in the object; memory is two bits a byte of code, and a third for the function whose
+//! branches are looked at.
 #![tactic(auto)]
 
 ghost use Rattle.std.specs.Prelude.{◌≡◌, IfOk, IfErr};
