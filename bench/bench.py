@@ -12,6 +12,8 @@ import sys
 import tempfile
 import time
 
+import verifier
+
 HERE = os.path.dirname(os.path.abspath(__file__))
 PROGRAM = os.path.join(HERE, "..", "crates", "read_main", "out", "read_main")
 SEEDS = ["--slot-seed", "1", "--reg-seed", "2"]
@@ -129,7 +131,8 @@ def main():
         bench.compile_and_lay()
         bench.big_objects()
         bench.machine()
-    return 0
+    print()
+    return verifier.main()
 
 
 if __name__ == "__main__":

@@ -1,4 +1,4 @@
-"""How `lay` and the verifier grow: costs of an object four times as large over those of the smaller one, in one run.
+"""A part of bench.py: how `lay` and the verifier grow: costs of an object four times as large over those of the smaller one, in one run.
 
 Near 4 or less is linear. What the verifier costs is told by an object whose last function breaks the last rule of code,
 less one that breaks the first rule before any code is looked at; what decoding alone costs, by one that has no
@@ -85,11 +85,7 @@ class Bench:
         print(f"{name:<10} {size:>9} {lay:12.2f} {verified[1] / verified[0]:12.2f} {share}", flush=True)
 
 
-def main():
-    if not os.path.exists(PROGRAM):
-        print("left out: the program is not built")
-        return 0
-    times = int(sys.argv[1]) if len(sys.argv) > 1 else 9
+def main(times=9):
     print("ratios     n         lay 4n / n   verify 4n/n   verify / decode, at 4n")
     with tempfile.TemporaryDirectory() as work:
         bench = Bench(work, times)
@@ -100,6 +96,3 @@ def main():
         bench.row("slots", of_slots, 2**18, False)
     return 0
 
-
-if __name__ == "__main__":
-    sys.exit(main())
