@@ -1,1 +1,6 @@
+pub mod Grown
 pub mod Lines
+pub mod Parting
+pub mod Scripts
+pub mod Spelling
+pub mod Watches

@@ -1,14 +1,25 @@
-//! What an observer sees of a machine, as a text: registers, flags, outcome and readable memory.
+//! What an observer sees of a machine: as a text, and by the reads of a script with their replies.
 //!
-//! `show` has the call, `state` the lines of registers, flags and outcome, `memory` those of segments,
-//! and `digits` numbers and bytes as digits. The text stands in `specs/ShowText.antt`, over what
-//! `machine_core`, `specs/Observation.antt`, says is seen; docs/command-line.md shows one. Addresses,
-//! words and bytes are in lower-case hexadecimal, lengths are decimal and count bytes.
+//! `show` has the text of registers, flags, outcome and readable memory, `state` and `memory` its lines.
+//! `parse` reads a script, `line` a line of it and `fields` its parts; `event` and `script` have the types.
+//! `watch` makes the reads in one run, and `report_text` writes the `report` on them. `digits` has numbers
+//! and bytes as digits. Texts stand in `specs/ShowText.antt` and `specs/Report.antt`, scripts in
+//! `specs/Script.antt`, over what `machine_core`, `specs/Observation.antt`, says is seen;
+//! docs/command-line.md shows them. Addresses, words and bytes are in lower-case hexadecimal, lengths are
+//! decimal and count bytes.
 #![tactic(auto)]
 
 mod digits;
+pub mod event;
+mod fields;
+mod line;
 mod memory;
+pub mod parse;
+pub mod report;
+pub mod report_text;
+pub mod script;
 pub mod show;
 mod state;
 #[cfg(test)]
 mod tests;
+pub mod watch;

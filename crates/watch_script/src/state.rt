@@ -103,7 +103,7 @@ pub(crate) fn put_flags(text: &mut List<u8>, flags: &Flags) -> Result<(), NoMemo
 }
 
 /// Appends the word of an outcome.
-fn put_ending(text: &mut List<u8>, outcome: MachOutcome) -> Result<(), NoMemory>
+pub(crate) fn put_ending(text: &mut List<u8>, outcome: MachOutcome) -> Result<(), NoMemory>
     ensures { OnOk result (text.new ≡ text.old ++ ending_text (ending_of outcome)) }
 {
     match outcome {

@@ -1,6 +1,10 @@
-//! One machine whose text has every kind of line: unknown flags, a stop, zeros, and a short piece.
+//! One machine whose text has every kind of line: unknown flags, a stop, zeros, and a short piece; scripts
+//! that are good and bad; and one report.
 
+use crate::parse::{ScriptFault, parse_script};
+use crate::report_text::report_text;
 use crate::show::show_text;
+use crate::watch::watch;
 use bitflags::Flags;
 use rd_io::sure::{CountSink, SureSource};
 use rd_num::copied::copy_list;
@@ -50,15 +54,20 @@ fn segment(alloc: Global, start: u64, bytes: &[u8], bits: u8) -> Result<Segment,
     })
 }
 
-/// A machine before the first instruction of `CODE`, which may be run and not read.
-fn started(alloc: Global) -> Result<Machine, NoMemory> {
+/// An image of `CODE`, which may be run and not read, and of `DATA`.
+fn small_image(alloc: Global) -> Result<Image, NoMemory> {
     let mut segments = List::new(alloc);
     segments.add(segment(alloc, 0x1000_0000, CODE, 1)?)?;
     segments.add(segment(alloc, 0x2000_0000, DATA, 4)?)?;
-    let image = Image {
+    Ok(Image {
         entry: 0x1000_0000,
         segments,
-    };
+    })
+}
+
+/// A machine before the first instruction of that image.
+fn started(alloc: Global) -> Result<Machine, NoMemory> {
+    let image = small_image(alloc)?;
     Machine::start(alloc, &image)
 }
 
@@ -74,4 +83,71 @@ fn a_stopped_machine_has_this_text(rt: HostRuntime) {
         panic!(rt; "no memory");
     };
     assert!(rt; text.as_slice() == TEXT);
+}
+
+/// A row of scripts: the bytes, and the first bad line, or 0 for a script.
+const SCRIPTS: &[(&[u8], u32)] = &[
+    (b"", 0),
+    (
+        b"0 read 30000000 2\n0 read 30000001 2\n18446744073709551615 read ffffffffffffffff 4096\n",
+        0,
+    ),
+    (b"00 read 0 0001\n", 0),
+    (b"1 read 30000000 0\n", 1),
+    (b"1 read 30000000 1\n0 read 30000000 1\n", 2),
+    (b"0 read 30000000 2", 1),
+    (b"0 read 30000000 1\n\n", 2),
+    (b"0 read 3000000A 1\n", 1),
+    (b"0 read 30000000 4097\n", 1),
+    (b"18446744073709551616 read 0 1\n", 1),
+    (b"0  read 0 1\n", 1),
+    (b"0 write 0 1\n", 1),
+];
+
+/// The first bad line of a script, or 0.
+fn bad_line(alloc: Global, bytes: &[u8]) -> Result<u32, NoMemory> {
+    match parse_script(alloc, bytes) {
+        Ok(_) => Ok(0),
+        Err(ScriptFault::Line { line }) => Ok(line),
+        Err(ScriptFault::NoMemory) => Err(NoMemory),
+    }
+}
+
+#[test]
+fn scripts_are_refused_by_their_first_bad_line(rt: HostRuntime) {
+    for (bytes, line) in SCRIPTS {
+        assert!(rt; bad_line(rt.alloc(), bytes) == Ok(*line));
+    }
+}
+
+/// Reads of bytes, of a segment's end, and of code, before and after the invalid instruction.
+const READS: &[u8] =
+    b"0 read 20000000 2\n0 read 20000021 2\n3 read 20000021 1\n5 read 10000000 1\n";
+
+const REPORT: &[u8] = b"0 0000000020000000 0f0b
+0 0000000020000021 refused
+3 0000000020000021 a1
+5 0000000010000000 refused
+end 5 invalid out 0
+";
+
+/// The report on the reads of a script.
+fn report(alloc: Global, bytes: &[u8]) -> Result<List<u8>, NoMemory> {
+    let image = small_image(alloc)?;
+    let mut input = SureSource::new(List::new(alloc));
+    match parse_script(alloc, bytes) {
+        Ok(script) => match watch(alloc, &image, &script, &mut input) {
+            Ok(report) => report_text(alloc, &report),
+            Err(_) => Err(NoMemory),
+        },
+        Err(_) => Err(NoMemory),
+    }
+}
+
+#[test]
+fn replies_are_told_line_by_line(rt: HostRuntime) {
+    let Ok(text) = report(rt.alloc(), READS) else {
+        panic!(rt; "no report");
+    };
+    assert!(rt; text.as_slice() == REPORT);
 }

@@ -1,0 +1,10 @@
+use Rattle.std.proofs.Common.{◌≡◌, ◌<◌, ◌^◌, drop}
+use Rattle.watch_script.specs.Script.{number_behind}
+use Rattle.watch_script.proofs.fields.decimal.Given as goal
+
+-- the digits so far are in the number
+abbrev pub invariant-loop-c : goal.invariant-loop-c
+invariant-loop-c l = record {
+  small : l.n < 10 ^ l.c-index;
+  rest : number_behind 10 l.n (drop l.c-index l.word) ≡ number_behind 10 0 l.word;
+}

@@ -1,0 +1,128 @@
+//! The reads of a script, each as memory stands after its number of instructions.
+//!
+//! One machine runs on from read to read: each instruction is taken once, and each reply copies its
+//! bytes once. Nobody gets what is printed; its bytes are counted.
+
+ghost use Rattle.std.specs.Prelude.{◌≡◌, ℕ, List as Row, [], length, None, Some, true, IfOk, IfErr, OnOk};
+ghost use Rattle.behavior.specs.System.{iter};
+ghost use Rattle.machine_core.specs.Machine.{machine_step};
+ghost use Rattle.machine_core.specs.Memory.{read_at};
+ghost use Rattle.machine_core.specs.Observation.{observe, readable, reply_to};
+ghost use Rattle.xom_machine.specs.Standing.{state_of, told};
+ghost use Rattle.xom_machine.specs.Calls.{Took};
+ghost use Rattle.watch_script.specs.Events.{are_in_order, last_after};
+ghost use Rattle.watch_script.specs.Report.{reply_of, replies_of};
+ghost use Rattle.watch_script.specs.Watching.{Halted, WatchedOf, InputCharged};
+
+use crate::event::Event;
+use crate::report::{Reply, Report};
+use crate::script::Script;
+use rd_io::sure::CountSink;
+use rd_io::{RunFault, Source};
+use rd_num::copied::copy_list;
+use rd_num::list::List;
+use rd_num::width::NoMemory;
+use std::alloc::Global;
+use x86_core::image::Image;
+use xom_machine::machine::Machine;
+
+/// What a read answers as memory stands.
+#[tactic(auto, using(crate::proofs::Watches::read_readable))]
+fn reply(alloc: Global, machine: &Machine, event: Event) -> Result<Reply, NoMemory>
+    ensures { IfOk result (λ r. r ≡ reply_of (read_at (readable machine.now.memory) event.at event.len)) }
+{
+    match machine.memory().bytes(event.at, event.len as usize) {
+        Some(bytes) => {
+            let own = copy_list(alloc, bytes)?;
+            Ok(Reply::Bytes(own))
+        }
+        None => Ok(Reply::Refused),
+    }
+}
+
+/// Takes a number of steps, and answers a read then.
+fn reply_after<I: Source>(
+    alloc: Global,
+    machine: &mut Machine,
+    input: &mut I,
+    sink: &mut CountSink,
+    steps: u64,
+    event: Event,
+) -> Result<Reply, RunFault>
+    ensures did { OnOk result (Took steps machine.old machine.new (told (I.left input.old) None (Some sink.old.count)) (told (I.left input.new) None (Some sink.new.count))) }
+    ensures reply { IfOk result (λ r. r ≡ reply_of (read_at (readable machine.new.memory) event.at event.len)) }
+    ensures halted { IfErr result (λ e. (xs : Row ℕ) → I.left input.old ≡ Some xs → Halted (state_of machine.old xs [] 0) steps (I.left input.new) e) }
+    ensures charged { InputCharged (I.faults input.old) (I.faults input.new) result }
+{
+    match machine.run(input, sink, steps) {
+        Ok(_) => {}
+        Err(fault) => return Err(fault),
+    }
+    match reply(alloc, machine, event) {
+        Ok(reply) => Ok(reply),
+        Err(_) => Err(RunFault::NoMemory),
+    }
+}
+
+/// The replies to all events, in order.
+fn replies<I: Source>(
+    alloc: Global,
+    machine: &mut Machine,
+    input: &mut I,
+    sink: &mut CountSink,
+    events: &[Event],
+) -> Result<List<Reply>, RunFault>
+    requires { are_in_order 0 events.now ≡ true }
+    ensures number { IfOk result (λ rs. length rs ≡ length events.now) }
+    ensures did { OnOk result (Took (last_after 0 events.now) machine.old machine.new (told (I.left input.old) None (Some sink.old.count)) (told (I.left input.new) None (Some sink.new.count))) }
+    ensures replies { IfOk result (λ rs. (xs : Row ℕ) → I.left input.old ≡ Some xs → rs ≡ replies_of (λ n. observe (iter machine_step n (state_of machine.old xs [] 0))) events.now) }
+    ensures halted { IfErr result (λ e. (xs : Row ℕ) → I.left input.old ≡ Some xs → Halted (state_of machine.old xs [] 0) (last_after 0 events.now) (I.left input.new) e) }
+    ensures charged { InputCharged (I.faults input.old) (I.faults input.new) result }
+{
+    let mut all = List::new(alloc);
+    let mut done = 0;
+    for event in events {
+        match reply_after(alloc, machine, input, sink, event.after - done, *event) {
+            Ok(reply) => match all.add(reply) {
+                Ok(()) => {}
+                Err(_) => return Err(RunFault::NoMemory),
+            },
+            Err(fault) => return Err(fault),
+        }
+        done = event.after;
+    }
+    Ok(all)
+}
+
+/// Runs an image over the input, with nowhere to print to, and answers the reads of a script.
+///
+/// `Input` comes only where the source has failed, at an instruction that takes a byte; the input has
+/// then lost what was taken before. `Output` never comes.
+pub fn watch<I: Source>(
+    alloc: Global,
+    image: &Image,
+    script: &Script,
+    input: &mut I,
+) -> Result<Report, RunFault>
+    ensures answers { WatchedOf image.now script.now.events (I.left input.old) (I.left input.new) result }
+    ensures charged { InputCharged (I.faults input.old) (I.faults input.new) result }
+{
+    let mut machine = match Machine::start(alloc, image) {
+        Ok(machine) => machine,
+        Err(_) => return Err(RunFault::NoMemory),
+    };
+    let events = match copy_list(alloc, script.events()) {
+        Ok(events) => events,
+        Err(_) => return Err(RunFault::NoMemory),
+    };
+    let mut sink = CountSink::new();
+    match replies(alloc, &mut machine, input, &mut sink, script.events()) {
+        Ok(replies) => Ok(Report {
+            events,
+            replies,
+            outcome: machine.outcome(),
+            printed: sink.count(),
+        }),
+        Err(fault) => Err(fault),
+    }
+}
