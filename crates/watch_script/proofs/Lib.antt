@@ -3,4 +3,5 @@ pub mod Lines
 pub mod Parting
 pub mod Scripts
 pub mod Spelling
+pub mod Unique
 pub mod Watches

@@ -1,8 +1,9 @@
 //! Scripts from bytes.
 
-ghost use Rattle.std.specs.Prelude.{◌≡◌, MatchResult};
+ghost use Rattle.std.specs.Prelude.{◌≡◌, ℕ, List as Row, MatchResult};
+ghost use Rattle.watch_script.specs.declared.event.Event.{Event as Read};
 ghost use Rattle.watch_script.specs.Faults.{FaultOf};
-ghost use Rattle.watch_script.specs.Script.{ScriptOf};
+ghost use Rattle.watch_script.specs.Script.{ScriptOf, IsFirstBad};
 
 use crate::event::Event;
 use crate::line::next_event;
@@ -48,3 +49,9 @@ pub fn parse_script(alloc: Global, bytes: &[u8]) -> Result<Script, ScriptFault>
         Err(ScriptFault::Line { line: 4097 })
     }
 }
+
+/// A law: bytes are one script at most, and no script where a line is the first bad one.
+pub fn scripts_are_told_apart()
+    ensures one { (bytes : Row ℕ) (events others : Row Read) → ScriptOf bytes events → ScriptOf bytes others → events ≡ others }
+    ensures none { (bytes : Row ℕ) (line : ℕ) (events : Row Read) → IsFirstBad bytes line → ScriptOf bytes events → ⊥ }
+{}
