@@ -3,7 +3,7 @@ use Rattle.std.proofs.Common.{◌≡◌, ℕ, List, Option, Some, None, Ok, Err,
 use Rattle.rd_io.specs.declared.PutFail.{PutFail}
 use Rattle.rd_io.specs.Outside.{Reads, Appends, Totals}
 use Rattle.rd_top.specs.declared.answer.Answer.{Answer}
-use Rattle.rd_top.specs.declared.answer.Answer.TheVariants.{Done, Words, File, Later, Form, Shape, Image, Long, Out, Input, Memory, Ran}
+use Rattle.rd_top.specs.declared.answer.Answer.TheVariants.{Done, Words, File, Later, Form, Shape, Image, Script, Long, Out, Input, Memory, Ran}
 use Rattle.rd_top.specs.Laying.{IsLaid, LaidPart, LayMeans, Refuses, object_limit}
 use Rattle.rd_top.specs.Told.{FilesTold, OutTold, IsContent, WrotePart}
 use Rattle.rd_top.specs.Commands.{IsMade, CompiledPart, text_limit}
@@ -45,6 +45,7 @@ refused_file held name seed files files2 out bytes Words h r = elim r [ ]
 refused_file held name seed files files2 out bytes File h r = elim r [ ]
 refused_file held name seed files files2 out bytes Later h r = elim r [ ]
 refused_file held name seed files files2 out bytes (Image rule) h r = elim r [ ]
+refused_file held name seed files files2 out bytes (Script line) h r = elim r [ ]
 refused_file held name seed files files2 out bytes Long h r = elim r [ ]
 refused_file held name seed files files2 out bytes Out h r = elim r [ ]
 refused_file held name seed files files2 out bytes Input h r = elim r [ ]

@@ -3,3 +3,4 @@ pub mod Runs
 pub mod Lengths
 mod Made
 pub mod Shows
+pub mod Watches

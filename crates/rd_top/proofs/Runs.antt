@@ -111,6 +111,7 @@ of_file held name bytes image n files files2 input input2 out out2 answer.Words 
 of_file held name bytes image n files files2 input input2 out out2 answer.File content loads h = elim h [ ]
 of_file held name bytes image n files files2 input input2 out out2 answer.Later content loads h = elim h [ ]
 of_file held name bytes image n files files2 input input2 out out2 (answer.Image rule) content loads h = elim h [ ]
+of_file held name bytes image n files files2 input input2 out out2 (answer.Script line) content loads h = elim h [ ]
 of_file held name bytes image n files files2 input input2 out out2 answer.Long content loads h = elim h [ ]
 of_file held name bytes image n files files2 input input2 out out2 (answer.Form place) content loads h = elim h [ ]
 of_file held name bytes image n files files2 input input2 out out2 (answer.Shape rule spot offset) content loads h = elim h [ ]

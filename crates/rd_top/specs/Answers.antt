@@ -4,7 +4,7 @@ use Rattle.x86_core.specs.declared.image.MachOutcome.{MachOutcome}
 use Rattle.x86_core.specs.declared.image.MachOutcome.TheVariants.{Going, Ended, Divide, Invalid, Breakpoint, PageFault, NoForm, NoFlag, BadCall}
 use Rattle.obj_check.specs.declared.fault.ShapeSpot.{ShapeSpot}
 use Rattle.rd_top.specs.declared.answer.Answer.{Answer}
-use Rattle.rd_top.specs.declared.answer.Answer.TheVariants.{Done, Words, File, Later, Form, Shape, Image, Long, Out, Input, Memory, Ran}
+use Rattle.rd_top.specs.declared.answer.Answer.TheVariants.{Done, Words, File, Later, Form, Shape, Image, Script, Long, Out, Input, Memory, Ran}
 
 -- of a machine's outcome: ended, trapped, going, stopped otherwise
 abbrev pub outcome_number : MachOutcome → ℕ
@@ -26,6 +26,7 @@ status_number Later = 4
 status_number (Form place) = 5
 status_number (Shape rule spot offset) = 5
 status_number (Image rule) = 6
+status_number (Script line) = 7
 status_number Long = 8
 status_number Out = 9
 status_number Input = 10
@@ -66,6 +67,7 @@ line_of Later = codes "later\n"
 line_of (Form place) = codes "form " ++ decimal place ++ 10 ∷ []
 line_of (Shape rule spot offset) = shape_text rule spot offset
 line_of (Image rule) = codes "image " ++ decimal rule ++ 10 ∷ []
+line_of (Script line) = codes "script " ++ decimal line ++ 10 ∷ []
 line_of Long = codes "long\n"
 line_of Out = codes "out\n"
 line_of Input = codes "input\n"

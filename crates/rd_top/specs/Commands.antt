@@ -13,12 +13,13 @@ use Rattle.obj_lay.specs.Layout.{layout}
 use Rattle.elf_file.specs.Elf.{elf_bytes}
 use Rattle.rd_top.specs.declared.compile.Made.{Made}
 use Rattle.rd_top.specs.declared.answer.Answer.{Answer}
-use Rattle.rd_top.specs.declared.answer.Answer.TheVariants.{Done, Words, File, Later, Form, Shape, Image, Long, Out, Input, Memory, Ran}
+use Rattle.rd_top.specs.declared.answer.Answer.TheVariants.{Done, Words, File, Later, Form, Shape, Image, Script, Long, Out, Input, Memory, Ran}
 use Rattle.rd_top.specs.Told.{FilesTold, InputTold, OutTold, IsContent, IsTooLong, Lost, Wrote, WrotePart}
 use Rattle.rd_top.specs.Laying.{Hides, LayMeans}
 use Rattle.rd_top.specs.Running.{RunMeans}
 use Rattle.rd_top.specs.Showing.{ShowMeans}
-use Rattle.rd_top.specs.Words.{Reading, Compile, Build, Lay, Run, Show}
+use Rattle.rd_top.specs.Watching.{WatchMeans}
+use Rattle.rd_top.specs.Words.{Reading, Compile, Build, Lay, Run, Show, Watch}
 
 -- the most bytes of a module's text
 abbrev pub text_limit : ℕ
@@ -77,6 +78,7 @@ CompileMeans held name slot_seed reg_seed made files files2 out out2 Words = ⊥
 CompileMeans held name slot_seed reg_seed made files files2 out out2 (Form place) = ⊥
 CompileMeans held name slot_seed reg_seed made files files2 out out2 (Shape rule spot offset) = ⊥
 CompileMeans held name slot_seed reg_seed made files files2 out out2 (Image rule) = ⊥
+CompileMeans held name slot_seed reg_seed made files files2 out out2 (Script line) = ⊥
 CompileMeans held name slot_seed reg_seed made files files2 out out2 Input = ⊥
 CompileMeans held name slot_seed reg_seed made files files2 out out2 (Ran outcome) = ⊥
 
@@ -90,6 +92,7 @@ Means held (Some (Build file slot_seed reg_seed layout_seed)) files files2 input
 Means held (Some (Lay file layout_seed)) files files2 input input2 out out2 a = LayMeans (held file) file layout_seed files files2 out out2 a × (input2 ≡ input)
 Means held (Some (Run file steps)) files files2 input input2 out out2 a = RunMeans (held file) file steps files files2 input input2 out out2 a
 Means held (Some (Show file steps)) files files2 input input2 out out2 a = ShowMeans (held file) file steps files files2 input input2 out out2 a
+Means held (Some (Watch file script)) files files2 input input2 out out2 a = WatchMeans held file script files files2 input input2 out out2 a
 
 -- every answer but that a file failed leaves the count of faults and the name of the last file that failed: no other file was read
 abbrev pub KeepsFiles : FilesTold → FilesTold → Answer → Type 0

@@ -15,7 +15,7 @@ use Rattle.obj_check.specs.Least.{spot_of}
 use Rattle.obj_lay.specs.Layout.{layout}
 use Rattle.elf_file.specs.Elf.{elf_bytes}
 use Rattle.rd_top.specs.declared.answer.Answer.{Answer}
-use Rattle.rd_top.specs.declared.answer.Answer.TheVariants.{Done, Words, File, Later, Form, Shape, Image, Long, Out, Input, Memory, Ran}
+use Rattle.rd_top.specs.declared.answer.Answer.TheVariants.{Done, Words, File, Later, Form, Shape, Image, Script, Long, Out, Input, Memory, Ran}
 use Rattle.rd_top.specs.Told.{FilesTold, OutTold, IsContent, IsTooLong, Lost, Wrote, WrotePart}
 
 -- the most bytes of an object's file
@@ -56,6 +56,7 @@ Refuses bytes Words = ⊥
 Refuses bytes File = ⊥
 Refuses bytes Later = ⊥
 Refuses bytes (Image rule) = ⊥
+Refuses bytes (Script line) = ⊥
 Refuses bytes Long = ⊥
 Refuses bytes Out = ⊥
 Refuses bytes Input = ⊥
@@ -94,5 +95,6 @@ LayMeans held name seed files files2 out out2 Memory = (out2 ≡ out) ⊎ LaidPa
 LayMeans held name seed files files2 out out2 Words = ⊥
 LayMeans held name seed files files2 out out2 Later = ⊥
 LayMeans held name seed files files2 out out2 (Image rule) = ⊥
+LayMeans held name seed files files2 out out2 (Script line) = ⊥
 LayMeans held name seed files files2 out out2 Input = ⊥
 LayMeans held name seed files files2 out out2 (Ran outcome) = ⊥

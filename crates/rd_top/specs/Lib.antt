@@ -1,4 +1,5 @@
 pub mod Told
+pub mod Watching
 pub mod Words
 pub mod Answers
 pub mod Commands

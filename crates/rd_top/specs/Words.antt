@@ -9,6 +9,7 @@ pub data Reading : Type 0 where
   Lay : (file : List ℕ) → (layout_seed : ℕ) → Reading
   Run : (file : List ℕ) → (steps : ℕ) → Reading
   Show : (file : List ℕ) → (steps : ℕ) → Reading
+  Watch : (file : List ℕ) → (script : List ℕ) → Reading
 
 abbrev pub same : List ℕ → List ℕ → Bool
 same = pointwise nat_eq
@@ -51,13 +52,15 @@ with_number ask None = None
 -- run FILE --steps N
 -- show FILE --steps N
 -- lay FILE --layout-seed N
+-- watch FILE --script FILE
 -- compile FILE --slot-seed N --reg-seed N
 abbrev pub short_reading : List (List ℕ) → Option Reading
 short_reading (command ∷ file ∷ option ∷ n ∷ []) =
     if is_file file then
+    (if same command (codes "watch") && (same option (codes "--script") && is_file n) then Some (Watch file n) else
     (if same command (codes "run") && same option (codes "--steps") then with_number (Run file) (number_of n) else
     (if same command (codes "show") && same option (codes "--steps") then with_number (Show file) (number_of n) else
-    (if same command (codes "lay") && same option (codes "--layout-seed") then with_number (Lay file) (number_of n) else None)))
+    (if same command (codes "lay") && same option (codes "--layout-seed") then with_number (Lay file) (number_of n) else None))))
     else None
 short_reading (command ∷ file ∷ first ∷ a ∷ second ∷ b ∷ []) =
     if same command (codes "compile") && (is_file file && (same first (codes "--slot-seed") && same second (codes "--reg-seed"))) then compile_of file (number_of a) (number_of b) else None
@@ -77,6 +80,6 @@ abbrev pub or_else : Option Reading → Option Reading → Option Reading
 or_else (Some r) other = Some r
 or_else None other = other
 
--- one of the five; every other list of words has no reading
+-- one of the six; every other list of words has no reading
 abbrev pub reading_of : List (List ℕ) → Option Reading
 reading_of words = or_else (build_reading words) (short_reading words)

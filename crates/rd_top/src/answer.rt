@@ -32,6 +32,8 @@ pub enum Answer {
     },
     /// The file is no image: the first rule that it breaks.
     Image(u8),
+    /// The script is refused: its first bad line, counted from 1.
+    Script(u32),
     /// A file is longer than its limit.
     Long,
     /// The output failed.
@@ -54,6 +56,7 @@ pub fn status(answer: Answer) -> u8
         Answer::Later => 4,
         Answer::Form(_) | Answer::Shape { .. } => 5,
         Answer::Image(_) => 6,
+        Answer::Script(_) => 7,
         Answer::Long => 8,
         Answer::Out => 9,
         Answer::Input => 10,
@@ -152,6 +155,7 @@ pub fn line(alloc: Global, answer: Answer) -> Result<List<u8>, NoMemory>
         Answer::Form(place) => numbered(alloc, b"form ", place),
         Answer::Shape { rule, spot, offset } => shape_line(alloc, rule, spot, offset),
         Answer::Image(rule) => numbered(alloc, b"image ", u64::from(rule)),
+        Answer::Script(line) => numbered(alloc, b"script ", u64::from(line)),
         Answer::Long => copy_list(alloc, b"long\n"),
         Answer::Out => copy_list(alloc, b"out\n"),
         Answer::Input => copy_list(alloc, b"input\n"),

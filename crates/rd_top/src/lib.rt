@@ -5,12 +5,15 @@
 //!     read_main lay FILE --layout-seed N
 //!     read_main run FILE --steps N
 //!     read_main show FILE --steps N
+//!     read_main watch FILE --script FILE
 //!
 //! write the object of the module in FILE, write the image of that object, write the image of the object
-//! in FILE, run the image in FILE, and write what an observer sees of it then. `words` reads the command
-//! line, `compile`, `lay`, `run` and `show` do the work, and `answer` has the statuses with their lines.
+//! in FILE, run the image in FILE, write what an observer sees of it then, and write the report on an
+//! observer's reads. `words` reads the command line, `compile`, `lay`, `run`, `show` and `watch` do the
+//! work, and `answer` has the statuses with their lines.
 //! What a reading of words is stands in `specs/Words.antt`, what a command does to the outside in
-//! `specs/Commands.antt`, `specs/Laying.antt`, `specs/Running.antt` and `specs/Showing.antt`.
+//! `specs/Commands.antt`, `specs/Laying.antt`, `specs/Running.antt`, `specs/Showing.antt` and
+//! `specs/Watching.antt`.
 #![tactic(auto)]
 
 ghost use Rattle.std.specs.Prelude.{◌≡◌, map, string_bytes};
@@ -25,6 +28,7 @@ use rd_io::{Files, PutFail, Sink, Source};
 use run::run_file;
 use show::show_file;
 use std::alloc::Global;
+use watch::watch_file;
 use words::{Command, read_words};
 
 pub mod answer;
@@ -34,6 +38,7 @@ pub mod run;
 pub mod show;
 #[cfg(test)]
 mod tests;
+pub mod watch;
 pub mod words;
 
 /// Does what the words ask for; puts nothing on the sink for messages.
@@ -75,6 +80,9 @@ fn work<F: Files, I: Source, O: Sink>(
         Some(Command::Lay { file, layout_seed }) => lay_file(alloc, file, layout_seed, files, out),
         Some(Command::Run { file, steps }) => run_file(alloc, file, steps, files, input, out),
         Some(Command::Show { file, steps }) => show_file(alloc, file, steps, files, input, out),
+        Some(Command::Watch { file, script }) => {
+            watch_file(alloc, file, script, files, input, out)
+        }
     }
 }
 

@@ -30,6 +30,10 @@ pub enum Command<'a> {
         file: &'a str,
         steps: u64,
     },
+    Watch {
+        file: &'a str,
+        script: &'a str,
+    },
 }
 
 /// A number of a command line: 1 to 20 decimal digits of at most 2^64 - 1.
@@ -122,8 +126,8 @@ fn build_words<'a>(
     })
 }
 
-/// The values of `run`, `show` or `lay`, where that is the command.
-fn one_number_words<'a>(
+/// The values of `run`, `show`, `lay` or `watch`, where that is the command.
+fn one_value_words<'a>(
     command: &'a str,
     file: &'a str,
     option: &'a str,
@@ -133,6 +137,12 @@ fn one_number_words<'a>(
 {
     if !names_file(file.as_bytes()) {
         return None;
+    }
+    if command == "watch" && option == "--script" && names_file(value.as_bytes()) {
+        return Some(Command::Watch {
+            file,
+            script: value,
+        });
     }
     let n = number(value.as_bytes())?;
     if command == "run" && option == "--steps" {
@@ -149,12 +159,12 @@ fn one_number_words<'a>(
     }
 }
 
-/// What words ask for that are `run`, `show`, `lay` or `compile`, or none.
+/// What words ask for that are `run`, `show`, `lay`, `watch` or `compile`, or none.
 fn read_short<'a>(words: &'a [String]) -> Option<Command<'a>>
     ensures { MatchOption result (short_reading (map string_bytes words.now) ≡ None) (λ c. short_reading (map string_bytes words.now) ≡ Some (asked c)) }
 {
     match words {
-        [command, file, option, n] => one_number_words(
+        [command, file, option, n] => one_value_words(
             command.as_str(),
             file.as_str(),
             option.as_str(),
