@@ -4,7 +4,6 @@ pub mod Kinds
 pub mod Arithmetic
 pub mod Shapes
 pub mod Memory
-pub mod Ranges
 pub mod Pointers
 pub mod State
 pub mod Operands

@@ -26,10 +26,10 @@ pub data Stop : Type 0 where
   Trap : Stop
   Depth : Stop
   Left : (reason : Reason) → Stop
-  -- a module that isn't valid has no such step; no valid one comes here
+  -- where a module that isn't valid has no step
   Malformed : Stop
 
--- no reason has the last number
+-- no reason has the number 10
 abbrev pub ending_of : Stop → Ending
 ending_of (Ended status) = ending.Ended status
 ending_of Divide = ending.Divide

@@ -1,7 +1,8 @@
 //! Code whose addresses stay hidden: the plan that says where it stands, and the builder that writes it.
 //!
 //! An address of code is a `Hidden`. A plan makes it, and a builder fills it into a displacement of a
-//! segment that may be run alone; nothing else can be done with it.
+//! segment that may be run alone. No call gives it as a number; whoever holds the finished segment of
+//! code can read it there, and what keeps it out of other segments is the contract of who lays out.
 
 ghost use Rattle.std.specs.Prelude.{◌≡◌, ℕ, ◌+◌, ◌-◌, ◌*◌, ◌<◌, ◌≤◌, ◌^◌, [], ◌∷◌, length, IfOk, slice_get, slice_index, Some};
 ghost use Rattle.std.specs.List.{sum_by};
@@ -31,7 +32,7 @@ use x86_core::image::{Rights, Segment};
 /// The right to be run.
 const EXECUTE: u8 = 1;
 
-/// The address of a byte of code. No call gives its number; `CodeBuilder::branch` alone makes use of it.
+/// The address of a byte of code. No call gives it as a number; `CodeBuilder::branch` alone makes use of it.
 #[derive(Clone, Copy)]
 pub struct Hidden {
     address: u64,

@@ -39,9 +39,6 @@ pub fn read_word(bytes: &[u8], at: usize) -> Result<u64, FormFault>
     ensures told { IfErr result (λ e. e ≢ FormFault.NoMemory) }
 {
     bytes_known(bytes);
-    if bytes.len() - at < 8 {
-        return Err(too_short(bytes));
-    }
     match get_u64_le(&bytes[at..]) {
         Some(n) => Ok(n),
         None => Err(too_short(bytes)),
@@ -57,9 +54,6 @@ pub fn read_field(bytes: &[u8], at: usize) -> Result<u32, FormFault>
     ensures told { IfErr result (λ e. e ≢ FormFault.NoMemory) }
 {
     bytes_known(bytes);
-    if bytes.len() - at < 4 {
-        return Err(too_short(bytes));
-    }
     match get_u32_le(&bytes[at..]) {
         Some(n) => Ok(n),
         None => Err(too_short(bytes)),

@@ -1,6 +1,6 @@
 //! Words as bytes, the lowest byte first, as every file of this project has them.
 
-ghost use Rattle.std.specs.Prelude.{◌≡◌, ◌<◌, length, take, MatchOption, All};
+ghost use Rattle.std.specs.Prelude.{◌≡◌, ◌<◌, ◌≤◌, length, take, MatchOption, All};
 ghost use Rattle.rd_num.specs.Number.{le_bytes, le_number};
 
 /// The four bytes of a word. Takes no memory.
@@ -21,7 +21,7 @@ pub fn put_u64_le(n: u64) -> [u8; 8]
 ///
 /// `None` comes exactly on fewer than four bytes. Takes no memory.
 pub fn get_u32_le(bytes: &[u8]) -> Option<u32>
-    ensures { MatchOption result (length bytes.now < 4) (λ n. n ≡ le_number (take 4 bytes.now)) }
+    ensures { MatchOption result (length bytes.now < 4) (λ n. (4 ≤ length bytes.now) × (n ≡ le_number (take 4 bytes.now))) }
 {
     match bytes {
         [a, b, c, d, ..] => Some(u32::from_le_bytes([*a, *b, *c, *d])),
@@ -33,7 +33,7 @@ pub fn get_u32_le(bytes: &[u8]) -> Option<u32>
 ///
 /// `None` comes exactly on fewer than eight bytes. Takes no memory.
 pub fn get_u64_le(bytes: &[u8]) -> Option<u64>
-    ensures { MatchOption result (length bytes.now < 8) (λ n. n ≡ le_number (take 8 bytes.now)) }
+    ensures { MatchOption result (length bytes.now < 8) (λ n. (8 ≤ length bytes.now) × (n ≡ le_number (take 8 bytes.now))) }
 {
     match bytes {
         [a, b, c, d, e, f, g, h, ..] => {

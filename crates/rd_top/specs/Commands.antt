@@ -32,7 +32,7 @@ pub record IsObjectOf (text : List ℕ) (slot_seed reg_seed : ℕ) (bytes : List
   pub spelled : bytes ≡ object_bytes object
 
 -- bytes are the file of the image of such an object: the image prints, takes and ends as the module means, in both
--- directions, and every run of it shows what the object's run shows, whatever the layout seed
+-- directions, and every run of it shows what the object's run shows until that strays, whatever the layout seed
 pub record IsImageOf (text : List ℕ) (slot_seed reg_seed layout_seed : ℕ) (bytes : List ℕ) : Type 0 where
   pub object : Object
   pub compiled : CompiledText text slot_seed reg_seed object
@@ -94,7 +94,7 @@ Means held (Some (Run file steps)) files files2 input input2 out out2 a = RunMea
 Means held (Some (Show file steps)) files files2 input input2 out out2 a = ShowMeans (held file) file steps files files2 input input2 out out2 a
 Means held (Some (Watch file script)) files files2 input input2 out out2 a = WatchMeans held file script files files2 input input2 out out2 a
 
--- every answer but that a file failed leaves the count of faults and the name of the last file that failed: no other file was read
+-- every answer but that a file failed leaves the count of faults and the name of the last file that failed: no read of another file failed
 abbrev pub KeepsFiles : FilesTold → FilesTold → Answer → Type 0
 KeepsFiles files files2 a = a ≢ File → files2 ≡ files
 

@@ -150,7 +150,7 @@ encoding (High HighSize.W16) = 0x66 ∷ 0x99 ∷ []
 encoding (High HighSize.W32) = 0x99 ∷ []
 -- CQO: REX.W + 99
 encoding (High HighSize.W64) = 0x48 ∷ 0x99 ∷ []
--- MOVZX r32, r/m8: REX + 0F B6 /r
+-- MOVZX r32, r/m8: 0F B6 /r, always with a REX, so that spl, bpl, sil and dil are meant
 encoding (Widen WidenKind.Zero8 d s) = rex false (extended d) (extended s) ∷ 0x0F ∷ 0xB6 ∷ registers d s ∷ []
 -- MOVZX r32, r/m16: 0F B7 /r
 encoding (Widen WidenKind.Zero16 d s) = rex_if false (extended d) (extended s) ++ (0x0F ∷ 0xB7 ∷ registers d s ∷ [])
