@@ -4,3 +4,4 @@ pub mod Lengths
 mod Made
 pub mod Shows
 pub mod Watches
+pub mod Answered

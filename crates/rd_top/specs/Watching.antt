@@ -1,9 +1,14 @@
 -- What `watch` does to the outside, answer by answer.
-use Rattle.std.specs.Prelude.{◌≡◌, ℕ, ◌⊎◌, List, Option, Some, Result, Ok, Err}
+use Rattle.std.specs.Prelude.{◌≡◌, ◌≢◌, ◌≤◌, ℕ, ◌⊎◌, List, Option, Some, Result, Ok, Err}
+use Rattle.behavior.specs.Ending.{Strayed}
+use Rattle.behavior.specs.System.{iter}
 use Rattle.rd_io.specs.Causes.{Rose}
 use Rattle.rd_io.specs.declared.RunFault.{RunFault}
 use Rattle.rd_io.specs.declared.RunFault.TheVariants as fault
 use Rattle.x86_core.specs.declared.image.Image.{Image}
+use Rattle.machine_core.specs.Observation.{Observation, observe}
+use Rattle.obj_core.specs.declared.object.Object.{Object}
+use Rattle.obj_core.specs.SymbolicMachine.{symbolic_step, symbolic_start}
 use Rattle.elf_file.specs.Rules.{LoadsAs}
 use Rattle.watch_script.specs.declared.event.Event.{Event}
 use Rattle.watch_script.specs.Events.{last_after}
@@ -116,3 +121,11 @@ abbrev pub WatchMeans : (List ℕ → Option (List ℕ)) → List ℕ → List �
 WatchMeans held file script files files2 input input2 out out2 a =
     (ImageFails (held file) file files files2 a × Untouched input input2 out out2) ⊎
     WithImage (held file) (λ image. ScriptMeans image (held script) script files files2 input input2 out out2 a)
+
+-- what is seen of an object's run after a number of instructions
+abbrev pub seen_of : Object → List ℕ → ℕ → Observation
+seen_of o input n = observe (iter (symbolic_step o) n (symbolic_start o input))
+
+-- an object's run doesn't stray within a number of instructions
+abbrev pub StaysStraight : Object → List ℕ → ℕ → Type 0
+StaysStraight o input last = (n : ℕ) → n ≤ last → (iter (symbolic_step o) n (symbolic_start o input)).ending ≢ Strayed

@@ -82,10 +82,12 @@ fn ends_surely(alloc: Global, words: &[&str], content: &[u8]) -> Result<(u8, usi
 
 #[test]
 fn words_have_these_statuses(rt: HostRuntime) -> Result<(), Fail> {
-    let rows: [(&[&str], u8); 17] = [
+    let rows: [(&[&str], u8); 19] = [
         (ASKED, 0),
         (&["show", "m", "--steps", "1"], 6),
         (&["show", "m", "--layout-seed", "1"], 2),
+        (&["watch", "m", "--script", "m"], 6),
+        (&["watch", "m", "--script", "-m"], 2),
         (&["run", "m", "--steps", "-1"], 2),
         (&["lay", "m", "--steps", "1"], 2),
         (
@@ -399,6 +401,58 @@ fn an_image_shows_this_text(rt: HostRuntime) -> Result<(), Fail> {
     assert_eq!(rt; shown.status, 0);
     assert!(rt; shown.said.is_empty());
     assert!(rt; shown.out.as_slice() == DATA_TEXT);
+    Ok(())
+}
+
+/// The run of `watch` over this image in `m` and this script in `s`.
+fn watched(alloc: Global, image: &[u8], script: &[u8]) -> Result<Left, Fail> {
+    let all = all_words(alloc, &["watch", "m", "--script", "s"])?;
+    let mut held = one_file(alloc, image)?;
+    let name = copy_list(alloc, b"s")?;
+    let bytes = copy_list(alloc, script)?;
+    held.add(File { name, bytes })?;
+    let mut files = SureFiles::new(held);
+    let mut input = SureSource::new(List::new(alloc));
+    let mut out = SureSink::new(alloc);
+    let mut err = SureSink::new(alloc);
+    let status = top(
+        alloc,
+        all.as_slice(),
+        &mut files,
+        &mut input,
+        &mut out,
+        &mut err,
+    );
+    let out = copy_list(alloc, out.bytes().as_slice())?;
+    let said = copy_list(alloc, err.bytes().as_slice())?;
+    Ok(Left { status, out, said })
+}
+
+/// Reads of its data and of its code, before and after its instruction.
+const READS: &[u8] =
+    b"0 read 30000000 2\n0 read 30000001 2\n1 read 30000001 1\n2 read 10000000 1\n";
+
+/// The report on them.
+const REPORT: &[u8] = b"0 0000000030000000 4142
+0 0000000030000001 refused
+1 0000000030000001 42
+2 0000000010000000 refused
+end 2 invalid out 0
+";
+
+#[test]
+fn reads_of_an_image_have_this_report(rt: HostRuntime) -> Result<(), Fail> {
+    let alloc = rt.alloc();
+    for layout_seed in ["0", "7"] {
+        let lay = ["lay", "m", "--layout-seed", layout_seed];
+        let laid = run_surely(alloc, &lay, &DATA_OBJECT)?;
+        let told = watched(alloc, laid.out.as_slice(), READS)?;
+        assert_eq!(rt; told.status, 0);
+        assert!(rt; told.out.as_slice() == REPORT);
+        let refused = watched(alloc, laid.out.as_slice(), b"0 read 0 1\n0 read 0 0\n")?;
+        assert_eq!(rt; refused.status, 7);
+        assert!(rt; refused.said.as_slice() == b"script 2\n".as_slice());
+    }
     Ok(())
 }
 

@@ -1,7 +1,14 @@
 //! `watch`: the report on an observer's reads of an image's file, which a script asks for.
 
+ghost use Rattle.std.specs.Prelude.{◌≡◌, ℕ, List as Row, true};
+ghost use Rattle.obj_core.specs.declared.object.Object.{Object};
+ghost use Rattle.obj_core.specs.WellFormed.{IsWellFormed};
+ghost use Rattle.obj_lay.specs.Layout.{layout};
+ghost use Rattle.watch_script.specs.declared.event.Event.{Event};
+ghost use Rattle.watch_script.specs.Events.{are_in_order, last_after};
+ghost use Rattle.watch_script.specs.Report.{report_of};
 ghost use Rattle.rd_top.specs.Commands.{KeepsFiles};
-ghost use Rattle.rd_top.specs.Watching.{ReportedOf, ScriptMeans, WatchMeans, WatchOf};
+ghost use Rattle.rd_top.specs.Watching.{ReportedOf, ScriptMeans, StaysStraight, WatchMeans, WatchOf, report_on, seen_of};
 
 use crate::answer::Answer;
 use crate::run::IMAGE_LIMIT;
@@ -112,3 +119,10 @@ pub fn watch_file<F: Files, I: Source, O: Sink>(
         Err(ImageFault::NoMemory) => Answer::Memory,
     }
 }
+
+/// A law: a layout of a well-formed object gives the report that the object's own run gives, and so do
+/// all of them, whatever the seeds, on every script by whose last read the object hasn't strayed.
+pub fn layouts_answer_the_same()
+    ensures object { (o : Object) → IsWellFormed o → (seed : ℕ) (input : Row ℕ) (events : Row Event) → are_in_order 0 events ≡ true → StaysStraight o input (last_after 0 events) → report_on (layout o seed) events input ≡ report_of (seen_of o input) events }
+    ensures each_other { (o : Object) → IsWellFormed o → (seed : ℕ) (other : ℕ) (input : Row ℕ) (events : Row Event) → are_in_order 0 events ≡ true → StaysStraight o input (last_after 0 events) → report_on (layout o seed) events input ≡ report_on (layout o other) events input }
+{}

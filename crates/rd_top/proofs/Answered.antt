@@ -1,0 +1,69 @@
+-- Two layouts answer the same, as long as the object hasn't strayed.
+use Rattle.std.proofs.Common.{◌≡◌, ◌≢◌, ℕ, zero, suc, ◌≤◌, Bool, true, false, ◌&&◌, nat_le, List, [], ◌∷◌, ◌++◌, length, replicate, refl, sym, ap, ◌∙◌, arith}
+use Rattle.std.proofs.lemmas.Bool.Decides.{nat_tests}
+use Rattle.behavior.specs.Ending.{Strayed}
+use Rattle.behavior.specs.System.{iter}
+use Rattle.machine_core.specs.Step.{State}
+use Rattle.machine_core.specs.Run.{Step, run_over}
+use Rattle.machine_core.specs.Machine.{machine_start, machine_step}
+use Rattle.machine_core.specs.Observation.{Observation, observe, reply_to}
+use Rattle.obj_core.specs.declared.object.Object.{Object}
+use Rattle.obj_core.specs.SymbolicMachine.{symbolic_step, symbolic_start}
+use Rattle.obj_core.specs.WellFormed.{IsWellFormed}
+use Rattle.obj_lay.specs.Layout.{layout}
+use Rattle.obj_hidden.proofs.Images.{hidden_layout}
+use Rattle.watch_script.specs.declared.event.Event.{Event}
+use Rattle.watch_script.specs.Events.{are_in_order, last_after}
+use Rattle.watch_script.specs.Report.{reply_of, replies_of, reply_lines, end_line, capped, report_of}
+use Rattle.rd_top.specs.Watching.{report_on, seen_of, StaysStraight}
+
+and_both : (a b : Bool) → (a && b) ≡ true → (a ≡ true) × (b ≡ true)
+and_both true b h = (refl, h)
+and_both false b h = absurd (cc)
+
+le_is : (m n : ℕ) → nat_le m n ≡ true → m ≤ n
+le_is m n h = grind (arith, nat_tests)
+
+-- what is behind the first event is in order
+behind_first : (least : ℕ) (e : Event) (es : List Event) → are_in_order least (e ∷ es) ≡ true → (least ≤ e.after) × (are_in_order e.after es ≡ true)
+behind_first least e es h =
+    let a = and_both (nat_le least e.after) _ h in
+    let b = and_both (nat_le 1 e.len) _ a.1 in
+    let c = and_both (nat_le e.len 4096) _ b.1 in
+    (le_is least e.after a.0, c.1)
+
+never_falls : (least : ℕ) (events : List Event) → are_in_order least events ≡ true → least ≤ last_after least events
+never_falls least [] h = omega arith
+never_falls least (e ∷ es) h =
+    let first : least ≤ e.after = (behind_first least e es h).0 in
+    let others : e.after ≤ last_after e.after es = never_falls e.after es (behind_first least e es h).1 in
+    omega arith
+
+replies_same : (f g : ℕ → Observation) (least : ℕ) (events : List Event) → are_in_order least events ≡ true → ((n : ℕ) → n ≤ last_after least events → f n ≡ g n) → replies_of f events ≡ replies_of g events
+replies_same f g least [] order same = refl
+replies_same f g least (e ∷ es) order same =
+    let h = behind_first least e es order in
+    let others = replies_same f g e.after es h.1 same in
+    ap (λ seen. reply_of (reply_to seen e.at e.len) ∷ replies_of f es) (same e.after (never_falls e.after es h.1)) ∙ ap (λ rs. reply_of (reply_to (g e.after) e.at e.len) ∷ rs) others
+
+reports_same : (f g : ℕ → Observation) (events : List Event) → are_in_order 0 events ≡ true → ((n : ℕ) → n ≤ last_after 0 events → f n ≡ g n) → report_of f events ≡ report_of g events
+unfolding report_of
+reports_same f g events order same =
+    let n : ℕ = last_after 0 events in
+    ap (λ rs. reply_lines events rs ++ end_line n (f n).ending (capped (length (f n).printed))) (replies_same f g 0 events order same) ∙
+    ap (λ (last : Observation). reply_lines events (replies_of g events) ++ end_line n last.ending (capped (length last.printed))) (same n (omega arith))
+
+-- steps alone
+steps : {P : Type 0} (step : State P → State P) (n : ℕ) (s : State P) → run_over step (replicate n Step) s ≡ iter step n s
+steps step zero s = refl
+steps step (suc n) s = steps step n (step s)
+
+seen_same : (o : Object) → IsWellFormed o → (seed : ℕ) (input : List ℕ) (n : ℕ) → (iter (symbolic_step o) n (symbolic_start o input)).ending ≢ Strayed → observe (iter machine_step n (machine_start (layout o seed) input)) ≡ seen_of o input n
+seen_same o well seed input n straight =
+    ap observe (sym (steps machine_step n (machine_start (layout o seed) input))) ∙
+    (hidden_layout o well seed input (replicate n Step) (λ e. straight (ap (λ s. s.ending) (sym (steps (symbolic_step o) n (symbolic_start o input))) ∙ e)) ∙
+    ap observe (steps (symbolic_step o) n (symbolic_start o input)))
+
+pub answers_alike : (o : Object) → IsWellFormed o → (seed : ℕ) (input : List ℕ) (events : List Event) → are_in_order 0 events ≡ true → StaysStraight o input (last_after 0 events) → report_on (layout o seed) events input ≡ report_of (seen_of o input) events
+answers_alike o well seed input events order straight =
+    reports_same (λ n. observe (iter machine_step n (machine_start (layout o seed) input))) (seen_of o input) events order (λ n h. seen_same o well seed input n (straight n h))
