@@ -42,18 +42,25 @@ rm -f "$line.status"
 
 # An image whose code takes a byte of the input to 0xBFFFFFF0.
 image=$(mktemp)
-trap 'rm -f "$line" "$image" "$image.out"' EXIT
 {
   printf '\x7fELF\x02\x01\x01\0\0\0\0\0\0\0\0\0\x02\0\x3e\0\x01\0\0\0\0\0\0\x10\0\0\0\0\x40\0\0\0\0\0\0\0\0\0\0\0\0\0\0\0\0\0\0\0\x40\0\x38\0\x01\0\0\0\0\0\0\0'
   printf '\x01\0\0\0\x01\0\0\0\0\x10\0\0\0\0\0\0\0\0\0\x10\0\0\0\0\0\0\0\x10\0\0\0\0\x16\0\0\0\0\0\0\0\x16\0\0\0\0\0\0\0\0\x10\0\0\0\0\0\0'
   head -c 3976 /dev/zero
   printf '\xbe\xf0\xff\xff\xbf\xba\x01\0\0\0\xbf\0\0\0\0\xb8\0\0\0\0\x0f\x05'
 } >"$image"
-for command in run show; do
-  ./read_main "$command" "$image" --steps 9 >"$image.out" 2>"$line" </
-  same "an input that can't be read, $command" $? "10 input"
-  [ ! -s "$image.out" ] || { echo "$command writes something"; failed=1; }
+script=$(mktemp)
+trap 'rm -f "$line" "$image" "$image.out" "$script"' EXIT
+echo '9 read bffffff0 1' >"$script"
+for words in "run $image --steps 9" "show $image --steps 9" "watch $image --script $script"; do
+  # The words have no spaces in them.
+  ./read_main $words >"$image.out" 2>"$line" </
+  same "an input that can't be read, ${words%% *}" $? "10 input"
+  [ ! -s "$image.out" ] || { echo "${words%% *} writes something"; failed=1; }
 done
+./read_main watch "$image" --script missing >"$image.out" 2>"$line" </dev/null
+same "a missing script" $? "3 file"
+./read_main watch "$line" --script missing >"$image.out" 2>"$script" </dev/null
+[ "$(cat "$script")" = "image 1" ] || { echo "the script is looked at before the image"; failed=1; }
 printf A | ./read_main show "$image" --steps 5 >"$image.out" 2>"$line"
 same "a byte of the input" $? "0 "
 grep -q '^00000000bffffff0 41000000000000000000000000000000$' "$image.out" || { echo "the byte is not shown"; failed=1; }
