@@ -1,5 +1,6 @@
--- Bytes are one script at most, and none where a line is the first bad one.
-use Rattle.std.proofs.Common.{◌≡◌, ℕ, ◌+◌, ◌<◌, ◌≤◌, List, [], ◌∷◌, ◌++◌, length, Some, refl, sym, ap, subst, ◌∙◌, arith, append_assoc, length-append}
+-- Bytes are one script at most, none where a line is the first bad one, and have one such line.
+use Rattle.std.proofs.Common.{◌≡◌, ℕ, ◌+◌, ◌<◌, ◌≤◌, List, [], ◌∷◌, ◌++◌, length, Some, refl, sym, ap, subst, ◌∙◌, arith, inl, inr, append_assoc, length-append}
+use Rattle.std.proofs.lemmas.Bool.{cases_lt}
 use Rattle.watch_script.specs.declared.event.Event.{Event}
 use Rattle.watch_script.specs.Events.{last_after}
 use Rattle.watch_script.specs.Script.{IsLine, AreLines, ScriptOf, IsFirstBad}
@@ -68,3 +69,35 @@ pub no_script : (bytes : List ℕ) (line : ℕ) (es : List Event) → IsFirstBad
 no_script bytes line es bad h =
     let few : length es ≤ 4096 = h.few in
     none_behind 0 bytes bad.before bad.rest bad.events es bad.good.lines bad.parts h.lines bad.more (λ e next behind parts is late fewer. bad.bad e next behind parts is late (omega arith))
+
+-- lines behind which no line may stand aren't fewer than those with which other bytes begin
+none_within : (least : ℕ) (bytes before rest before2 rest2 : List ℕ) (es fs : List Event) → AreLines least before es → bytes ≡ before ++ rest → AreLines least before2 fs → bytes ≡ before2 ++ rest2 → length es < length fs →
+    ((e : Event) (next behind : List ℕ) → rest ≡ next ++ 10 ∷ behind → IsLine next e → last_after least es ≤ e.after → length es < length fs → ⊥) → ⊥
+none_within least bytes before rest before2 rest2 [] [] h is k is2 fewer bad = absurd (omega arith)
+none_within least bytes before rest before2 rest2 (e ∷ es) [] h is k is2 fewer bad = absurd (omega arith)
+none_within least bytes before rest before2 rest2 [] (f ∷ fs) h is k is2 fewer bad =
+    let same : rest ≡ bytes = sym (is ∙ ap (λ b. b ++ rest) h) in
+    let whole : bytes ≡ k.0 ++ 10 ∷ (k.1.0 ++ rest2) = is2 ∙ (ap (λ b. b ++ rest2) k.1.1.0 ∙ append_assoc k.0 (10 ∷ k.1.0) rest2) in
+    bad f k.0 (k.1.0 ++ rest2) (same ∙ whole) k.1.1.1.0 k.1.1.1.1.0 fewer
+none_within least bytes before rest before2 rest2 (e ∷ es) (f ∷ fs) h is k is2 fewer bad =
+    let whole : bytes ≡ h.0 ++ 10 ∷ (h.1.0 ++ rest) = is ∙ (ap (λ b. b ++ rest) h.1.1.0 ∙ append_assoc h.0 (10 ∷ h.1.0) rest) in
+    let whole2 : bytes ≡ k.0 ++ 10 ∷ (k.1.0 ++ rest2) = is2 ∙ (ap (λ b. b ++ rest2) k.1.1.0 ∙ append_assoc k.0 (10 ∷ k.1.0) rest2) in
+    let same = first_line bytes h.0 (h.1.0 ++ rest) k.0 (k.1.0 ++ rest2) e f whole h.1.1.1.0 whole2 k.1.1.1.0 in
+    let others : AreLines e.after k.1.0 fs = subst (λ n. AreLines n k.1.0 fs) (sym (ap (λ (e : Event). e.after) same.event)) k.1.1.1.1.1 in
+    none_within e.after (h.1.0 ++ rest) h.1.0 rest k.1.0 rest2 es fs h.1.1.1.1.1 refl others same.rest_is (omega arith) (λ g next behind parts spelled late few. bad g next behind parts spelled late (omega arith))
+
+not_fewer : (bytes : List ℕ) (line other : ℕ) (h : IsFirstBad bytes line) (k : IsFirstBad bytes other) → length h.events < length k.events → ⊥
+not_fewer bytes line other h k fewer =
+    let few : length k.events ≤ 4096 = k.good.few in
+    none_within 0 bytes h.before h.rest k.before k.rest h.events k.events h.good.lines h.parts k.good.lines k.parts fewer (λ e next behind parts is late less. h.bad e next behind parts is late (omega arith))
+
+-- bytes have one first bad line
+pub one_bad : (bytes : List ℕ) (line other : ℕ) → IsFirstBad bytes line → IsFirstBad bytes other → line ≡ other
+one_bad bytes line other h k =
+    elim (cases_lt (length h.events) (length k.events)) [
+      | inl less ↦ absurd (not_fewer bytes line other h k less)
+      | inr ge ↦ elim (cases_lt (length k.events) (length h.events)) [
+        | inl less ↦ absurd (not_fewer bytes other line k h less)
+        | inr ge2 ↦ let a = h.number in let b = k.number in omega arith
+      ]
+    ]

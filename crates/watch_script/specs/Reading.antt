@@ -1,4 +1,5 @@
--- How a line is taken apart: at its spaces, and each part as a number or a word.
+-- How a line is taken apart: at its spaces, and each part as a number or a word. No public contract cites this; that it
+-- finds exactly the events of `Script` is proved.
 use Rattle.std.specs.Prelude.{◌≡◌, ◌==◌, ℕ, ◌+◌, ◌^◌, ◌≤◌, nat_eq, nat_le, if◌then◌else◌, List, ◌∷◌, ◌++◌, take, drop, Option, Some, None, codes}
 use Rattle.std.specs.List.{position}
 use Rattle.std.specs.Cmp.Lexicographic.{pointwise}

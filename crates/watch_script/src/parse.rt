@@ -50,8 +50,9 @@ pub fn parse_script(alloc: Global, bytes: &[u8]) -> Result<Script, ScriptFault>
     }
 }
 
-/// A law: bytes are one script at most, and no script where a line is the first bad one.
+/// A law: bytes are one script at most, no script where a line is the first bad one, and have one such line at most.
 pub fn scripts_are_told_apart()
     ensures one { (bytes : Row ℕ) (events others : Row Read) → ScriptOf bytes events → ScriptOf bytes others → events ≡ others }
     ensures none { (bytes : Row ℕ) (line : ℕ) (events : Row Read) → IsFirstBad bytes line → ScriptOf bytes events → ⊥ }
+    ensures line { (bytes : Row ℕ) (line : ℕ) (other : ℕ) → IsFirstBad bytes line → IsFirstBad bytes other → line ≡ other }
 {}

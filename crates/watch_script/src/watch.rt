@@ -104,6 +104,7 @@ pub fn watch<I: Source>(
     script: &Script,
     input: &mut I,
 ) -> Result<Report, RunFault>
+    ensures reads { IfOk result (λ report. report.events ≡ script.now.events) }
     ensures answers { WatchedOf image.now script.now.events (I.left input.old) (I.left input.new) result }
     ensures charged { InputCharged (I.faults input.old) (I.faults input.new) result }
 {
