@@ -62,6 +62,9 @@ def files(rng):
     for at, size in fields:
         for value in (0, 1, 4095, 4096, 8192, LOW - 4096, LOW, HIGH - 4096, HIGH, MOST + 1, 2**63, 2**64 - 4096, 2**64 - 1):
             yield f"field {at} as {value}", whole[:at] + (value % 256**size).to_bytes(size, "little") + whole[at + size :]
+    lone = image([(LOW, 5, b"\x0f\x0b")])[:4098]
+    for size in range(len(lone)):
+        yield f"the first {size} bytes of one segment's", lone[:size]
     yield "eight segments", image([(LOW + 4096 * i, 4, b"x") for i in range(8)])
     yield "nine segments", image([(LOW + 4096 * i, 4, b"x") for i in range(9)])
     yield "segments that touch", image([(LOW, 4, bytes(4096)), (LOW + 4096, 4, b"x")])

@@ -1,19 +1,6 @@
 #!/usr/bin/env bash
 # Two layouts of an object differ as files, and show one text before their first instruction, after each, and once they have stopped.
-set -u
-cd "$(dirname "$0")/.." || exit 1
-work=$(mktemp -d)
-trap 'rm -rf "$work"' EXIT
-
-fail() {
-  echo "$1"
-  exit 1
-}
-
-./read_main compile examples/square.ll --slot-seed 1 --reg-seed 2 >"$work/square.obj" || fail "square.ll is not compiled"
-for seed in 3 4; do
-  ./read_main lay "$work/square.obj" --layout-seed "$seed" >"$work/image-$seed" || fail "no image for seed $seed"
-done
+. "$(dirname "$0")/square.bash"
 cmp -s "$work/image-3" "$work/image-4" && fail "two seeds give the same image"
 
 steps=0

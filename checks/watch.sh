@@ -1,19 +1,6 @@
 #!/usr/bin/env bash
 # Two layouts of an object give one report on reads over slots, code, stack and places without a segment. Reads of code are refused, and those of the stack answered.
-set -u
-cd "$(dirname "$0")/.." || exit 1
-work=$(mktemp -d)
-trap 'rm -rf "$work"' EXIT
-
-fail() {
-  echo "$1"
-  exit 1
-}
-
-./read_main compile examples/square.ll --slot-seed 1 --reg-seed 2 >"$work/square.obj" || fail "square.ll is not compiled"
-for seed in 3 4; do
-  ./read_main lay "$work/square.obj" --layout-seed "$seed" >"$work/image-$seed" || fail "no image for seed $seed"
-done
+. "$(dirname "$0")/square.bash"
 
 # 25 places, each read before the first instruction and after 5, 10, .. 35: the slots, the widest range of code, constants, data, the stack and its two ends
 places="10000000 10000005 10000010 1000002f 40000000 46474000 47c58000 4a000000 50000000 50010000"
