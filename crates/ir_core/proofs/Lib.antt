@@ -3,4 +3,8 @@ pub mod Steps
 pub mod Fits
 pub mod Types
 pub mod Inits
+pub mod WorkedWords
 pub mod Worked
+pub mod WorkedArithmetic
+pub mod WorkedReasons
+pub mod WorkedOutside

@@ -34,62 +34,7 @@ use Rattle.ir_core.specs.Step.{source_step}
 use Rattle.ir_core.specs.Run.{source_start, source_run}
 use Rattle.ir_core.proofs.Types.{shape-int, shape-ptr}
 use Rattle.ir_core.proofs.Inits.{init-value}
-
--- one bit
-abbrev i1 : Ty
-i1 = Ty.Int W1
-
--- eight bits
-abbrev i8 : Ty
-i8 = Ty.Int W8
-
--- thirty-two bits
-abbrev i32 : Ty
-i32 = Ty.Int W32
-
--- sixty-four bits
-abbrev i64 : Ty
-i64 = Ty.Int W64
-
--- a local by its name
-abbrev local : List ℕ → Operand
-local name = Operand.Local name
-
--- a literal
-abbrev int : ℕ → Operand
-int n = Operand.Int (pos n)
-
--- an instruction with a result
-abbrev gives : List ℕ → Op → Inst
-gives name op = record { result = Some name; op = op }
-
--- a block
-abbrev block : List ℕ → List Inst → Term → Block
-block label insts end = record { label = label; insts = insts; end = end }
-
--- a function that gives an i32
-abbrev function : List ℕ → List Param → List Block → Function
-function name params blocks = record { name = name; ret = i32; params = params; blocks = blocks }
-
--- a module without named types and globals
-abbrev module_of : List Extern → List Function → Module
-module_of externs functions = record { types = []; globals = []; externs = externs; functions = functions }
-
--- an entry of a phi
-abbrev entry : Operand → List ℕ → Entry
-entry value from = record { value = value; from = from }
-
--- an argument
-abbrev arg : Ty → Operand → Arg
-arg ty value = record { ty = ty; value = value }
-
--- a run that is left for a reason
-abbrev left : Reason → Ending
-left reason = ending_of (stop.Left reason)
-
--- what a run shows
-abbrev shown : List ℕ → ℕ → Ending → Moment
-shown printed taken ending = record { printed = printed; taken = taken; ending = ending }
+use Rattle.ir_core.proofs.WorkedWords.{i1, i8, i32, i64, local, int, gives, block, function, module_of, entry, arg, left, shown}
 
 -- ret i32 7
 abbrev seven : Module
@@ -301,14 +246,14 @@ deep calls =
     let s : State = record { frames = replicate calls frame; objects = []; printed = []; taken = 0; ending = Going } in
     entered again s (replicate calls frame) (Number W32) (Number W32 ∷ Pointer ∷ []) (Num W32 1 ∷ Null ∷ []) None (Fun 0)
 
--- 1,024 calls are active
-called_at_limit : deep 1024 ≡ Err stop.Depth
+-- 8,192 calls are active
+called_at_limit : deep 8192 ≡ Err stop.Depth
 unfolding out-Ty out
 called_at_limit = refl
 
--- with the call 1,024 are active
-entered_below_limit : deep 1023 ≡ Ok (record {
-  frames = record { function = 0; block = 0; next = 0; locals = record { name = codes "n"; value = Num W32 1 } ∷ record { name = codes "p"; value = Null } ∷ []; objects = []; into = None } ∷ replicate 1023 frame;
+-- with the call 8,192 are active
+entered_below_limit : deep 8191 ≡ Ok (record {
+  frames = record { function = 0; block = 0; next = 0; locals = record { name = codes "n"; value = Num W32 1 } ∷ record { name = codes "p"; value = Null } ∷ []; objects = []; into = None } ∷ replicate 8191 frame;
   objects = [];
   exchange = Nothing;
 })
