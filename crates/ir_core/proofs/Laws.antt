@@ -1,5 +1,5 @@
 -- What every run of a module has, whatever its instructions do.
-use Rattle.std.proofs.Common.{◌≡◌, ◌≢◌, ℕ, zero, suc, List, Option, Some, None, refl, ap, subst, false, Ok, Err}
+use Rattle.std.proofs.Common.{◌≡◌, ◌≢◌, ℕ, ◌<◌, zero, suc, List, Option, Some, None, refl, ap, subst, false, Ok, Err, arith}
 use Rattle.std.specs.Prelude.{codes, slice_get}
 use Rattle.behavior.specs.Ending.{Ending, Going, Strayed, is_going}
 use Rattle.behavior.specs.Moment.{HasStopped}
@@ -8,8 +8,10 @@ use Rattle.behavior.specs.Preserves.{Preserves, ReachesWithin}
 use Rattle.behavior.proofs.Between.{adds_grows}
 use Rattle.behavior.proofs.Follow.{AllFollow, AllStart, simulates, simulates_within}
 use Rattle.ir_core.specs.declared.module.Module.{Module}
+use Rattle.ir_core.specs.declared.memory.Reason.{Reason}
+use Rattle.ir_core.specs.declared.memory.Reason.TheVariants.{Bounds, Dead, Constant, Unset, Mixed, Order, Equal, Callee, Overlap, Gep}
 use Rattle.ir_core.specs.Memory.{Memory}
-use Rattle.ir_core.specs.Stops.{Stop, Ended, Divide, Trap, Depth, Left, Malformed, Answer, ending_of, IsModuleEnding}
+use Rattle.ir_core.specs.Stops.{Stop, Ended, Divide, Trap, Depth, Left, Malformed, Answer, ending_of, IsModuleEnding, reason_number, malformed_number}
 use Rattle.ir_core.specs.State.{Frame, State, Exchange, Nothing, Print, Take, Turn, turned, source_moment}
 use Rattle.ir_core.specs.Step.{turn_of, source_step}
 use Rattle.ir_core.specs.declared.module.Function.{Function}
@@ -85,6 +87,19 @@ start_ending m None = tt
 pub run_ending : (m : Module) (input : List ℕ) (n : ℕ) → IsModuleEnding (source_run m input n).ending
 unfolding source_run source_start
 run_ending m input n = steps_ending m input n (start_at m (function_number m (codes "main"))) (start_ending m (function_number m (codes "main")))
+
+-- no reason has the number of an ill-formed module
+pub reason_apart : (r : Reason) → reason_number r < malformed_number
+reason_apart Bounds = omega arith
+reason_apart Dead = omega arith
+reason_apart Constant = omega arith
+reason_apart Unset = omega arith
+reason_apart Mixed = omega arith
+reason_apart Order = omega arith
+reason_apart Equal = omega arith
+reason_apart Callee = omega arith
+reason_apart Overlap = omega arith
+reason_apart Gep = omega arith
 
 -- so none strays
 pub run_straight : (m : Module) (input : List ℕ) (n : ℕ) → (source_run m input n).ending ≢ Strayed

@@ -1,10 +1,9 @@
 -- Runs of small modules, computed: arithmetic, edges and phis, calls, traps, input, memory, and runs that are left.
-use Rattle.std.proofs.Common.{◌≡◌, ℕ, Bool, List, [], ◌∷◌, true, false, refl, Some, None}
-use Rattle.std.specs.Prelude.{codes, pos, negsuc, replicate, Ok, Err}
+use Rattle.std.proofs.Common.{◌≡◌, ℕ, Bool, [], ◌∷◌, true, false, refl, Some, None}
+use Rattle.std.specs.Prelude.{codes, negsuc, replicate, Ok, Err}
 use denote.Hole.Carrier.{out}
-use Rattle.rd_num.specs.declared.width.Width.TheVariants.{W1, W8, W32, W64}
-use Rattle.behavior.specs.Ending.{Ending, Going, Ended, Divide}
-use Rattle.behavior.specs.Moment.{Moment}
+use Rattle.rd_num.specs.declared.width.Width.TheVariants.{W8, W32, W64}
+use Rattle.behavior.specs.Ending.{Going, Ended, Divide}
 use Rattle.ir_core.specs.declared.ty.Ty.{Ty, out-Ty}
 use Rattle.ir_core.specs.declared.operand.Operand.{Operand}
 use Rattle.ir_core.specs.declared.init.Init.{Init}
@@ -12,16 +11,9 @@ use Rattle.ir_core.specs.declared.instruction.BinOp.{BinOp}
 use Rattle.ir_core.specs.declared.instruction.Pred.{Pred}
 use Rattle.ir_core.specs.declared.instruction.CastOp.{CastOp}
 use Rattle.ir_core.specs.declared.instruction.Op.{Op}
-use Rattle.ir_core.specs.declared.instruction.Entry.{Entry}
-use Rattle.ir_core.specs.declared.instruction.Arg.{Arg}
-use Rattle.ir_core.specs.declared.instruction.Inst.{Inst}
 use Rattle.ir_core.specs.declared.instruction.Term.{Term}
-use Rattle.ir_core.specs.declared.module.Block.{Block}
-use Rattle.ir_core.specs.declared.module.Param.{Param}
 use Rattle.ir_core.specs.declared.module.Extern.{Extern}
-use Rattle.ir_core.specs.declared.module.Function.{Function}
 use Rattle.ir_core.specs.declared.module.Module.{Module}
-use Rattle.ir_core.specs.declared.memory.Reason.{Reason}
 use Rattle.ir_core.specs.declared.memory.Reason.TheVariants.{Unset, Equal, Callee, Overlap}
 use Rattle.ir_core.specs.declared.memory.Value.TheVariants.{Num, Null, Fun}
 use Rattle.ir_core.specs.Stops.{Answer, ending_of}
@@ -29,7 +21,7 @@ use Rattle.ir_core.specs.Stops as stop
 use Rattle.ir_core.specs.Kinds.{Number, Pointer}
 use Rattle.ir_core.specs.Shapes.{single, struct, unaligned}
 use Rattle.ir_core.specs.State.{Frame, State, Nothing, Turn}
-use Rattle.ir_core.specs.Calls.{entered}
+use Rattle.ir_core.specs.Calls.{entry_turn}
 use Rattle.ir_core.specs.Step.{source_step}
 use Rattle.ir_core.specs.Run.{source_start, source_run}
 use Rattle.ir_core.proofs.Types.{shape-int, shape-ptr}
@@ -244,7 +236,7 @@ frame = record { function = 0; block = 0; next = 0; locals = []; objects = []; i
 abbrev deep : ℕ → Answer Turn
 deep calls =
     let s : State = record { frames = replicate calls frame; objects = []; printed = []; taken = 0; ending = Going } in
-    entered again s (replicate calls frame) (Number W32) (Number W32 ∷ Pointer ∷ []) (Num W32 1 ∷ Null ∷ []) None (Fun 0)
+    entry_turn again s (replicate calls frame) (Number W32) (Number W32 ∷ Pointer ∷ []) (Num W32 1 ∷ Null ∷ []) None (Fun 0)
 
 -- 8,192 calls are active
 called_at_limit : deep 8192 ≡ Err stop.Depth

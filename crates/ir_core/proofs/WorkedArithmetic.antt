@@ -1,5 +1,5 @@
 -- Arithmetic, comparisons, casts and choices of instructions, computed at operands that tell each from its neighbours.
-use Rattle.std.proofs.Common.{◌≡◌, ℕ, true, false, [], ◌∷◌, refl}
+use Rattle.std.proofs.Common.{◌≡◌, ℕ, true, false, [], refl}
 use Rattle.std.specs.Prelude.{Ok, Err}
 use denote.Hole.Carrier.{out}
 use Rattle.rd_num.specs.declared.width.Width.TheVariants.{W1, W8, W16, W32, W64}

@@ -1,9 +1,8 @@
 -- Each outside function, a struct's padding, and a switch at both ends of 64 bits, computed.
-use Rattle.std.proofs.Common.{◌≡◌, ℕ, true, false, List, [], ◌∷◌, ◌++◌, refl, Some, None, map}
-use Rattle.std.specs.Prelude.{codes, replicate, pos, negsuc}
+use Rattle.std.proofs.Common.{◌≡◌, false, List, [], ◌∷◌, refl, map}
+use Rattle.std.specs.Prelude.{codes, replicate}
 use denote.Hole.Carrier.{out}
-use Rattle.rd_num.specs.declared.width.Width.TheVariants.{W8, W16, W32, W64}
-use Rattle.behavior.specs.Ending.{Ended, Trap, Going}
+use Rattle.behavior.specs.Ending.{Ended, Trap}
 use Rattle.ir_core.specs.declared.ty.Ty.{Ty, out-Ty}
 use Rattle.ir_core.specs.declared.ty.Ty.TheVariants.{Array as ArrayTy, Struct as StructTy, Packed as PackedTy}
 use Rattle.ir_core.specs.declared.operand.Operand.{Operand}
@@ -13,14 +12,13 @@ use Rattle.ir_core.specs.declared.init.Elem.{Elem}
 use Rattle.ir_core.specs.declared.instruction.CastOp.{CastOp}
 use Rattle.ir_core.specs.declared.instruction.Op.{Op}
 use Rattle.ir_core.specs.declared.instruction.Term.{Term}
-use Rattle.ir_core.specs.declared.module.Extern.{Extern}
 use Rattle.ir_core.specs.declared.module.Module.{Module}
 use Rattle.ir_core.specs.declared.memory.Cell.TheVariants.{Byte}
 use Rattle.ir_core.specs.declared.memory.Reason.TheVariants.{Bounds, Unset}
 use Rattle.ir_core.specs.Globals.{cells_of_init}
 use Rattle.ir_core.specs.Step.{source_step}
 use Rattle.ir_core.specs.Run.{source_start, source_run}
-use Rattle.ir_core.proofs.Types.{shape-int, shape-ptr, shape-array, shape-struct, shape-packed}
+use Rattle.ir_core.proofs.Types.{shape-int, shape-struct, shape-packed}
 use Rattle.ir_core.proofs.Inits.{init-value, init-zero, init-text, init-array, init-struct, init-packed, part-element}
 use Rattle.ir_core.proofs.WorkedWords.{i1, i8, i16, i32, i64, local, int, minus, named, gives, does, calls, runs, block, function, module_of, variable, declared_as, arg, program, left, shown}
 
@@ -134,10 +132,10 @@ memset_of_nothing = simp shape-int
 abbrev chooses : Operand → Module
 chooses v = module_of [] (function (codes "main") [] (
     block (codes "e") (gives (codes "v") (Op.Freeze i64 v) ∷ []) (Term.Switch i64 (local (codes "v")) (codes "d") (
-        record { ty = i64; value = minus 9223372036854775807; to = codes "a" }
-        ∷ record { ty = i64; value = int 9223372036854775807; to = codes "b" }
-        ∷ record { ty = i64; value = int 18446744073709551615; to = codes "c" }
-        ∷ []))
+    record { ty = i64; value = minus 9223372036854775807; to = codes "a" }
+    ∷ record { ty = i64; value = int 9223372036854775807; to = codes "b" }
+    ∷ record { ty = i64; value = int 18446744073709551615; to = codes "c" }
+    ∷ []))
     ∷ block (codes "a") [] (Term.RetValue i32 (int 1))
     ∷ block (codes "b") [] (Term.RetValue i32 (int 2))
     ∷ block (codes "c") [] (Term.RetValue i32 (int 3))

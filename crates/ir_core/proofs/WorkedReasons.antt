@@ -1,10 +1,8 @@
 -- Each of the ten reasons for which a run is left, computed, with the nearest run that isn't left.
-use Rattle.std.proofs.Common.{◌≡◌, ℕ, Bool, true, false, List, [], ◌∷◌, ◌++◌, refl, Some, None}
-use Rattle.std.specs.Prelude.{codes, replicate, Ok, Err}
+use Rattle.std.proofs.Common.{◌≡◌, ℕ, Bool, true, false, List, [], ◌∷◌, refl}
+use Rattle.std.specs.Prelude.{codes}
 use denote.Hole.Carrier.{out}
-use Rattle.rd_num.specs.declared.width.Width.TheVariants.{W8, W16, W32, W64}
-use Rattle.behavior.specs.Ending.{Ended, Trap}
-use Rattle.behavior.specs.Moment.{Moment}
+use Rattle.behavior.specs.Ending.{Ended}
 use Rattle.ir_core.specs.declared.ty.Ty.{Ty, out-Ty}
 use Rattle.ir_core.specs.declared.operand.Operand.{Operand}
 use Rattle.ir_core.specs.declared.init.Init.{Init}
@@ -14,14 +12,13 @@ use Rattle.ir_core.specs.declared.instruction.CastOp.{CastOp}
 use Rattle.ir_core.specs.declared.instruction.Op.{Op}
 use Rattle.ir_core.specs.declared.instruction.Inst.{Inst}
 use Rattle.ir_core.specs.declared.instruction.Term.{Term}
-use Rattle.ir_core.specs.declared.module.GlobalVar.{GlobalVar}
 use Rattle.ir_core.specs.declared.module.Module.{Module}
 use Rattle.ir_core.specs.declared.memory.Reason.TheVariants.{Bounds, Dead, Constant, Unset, Mixed, Order, Equal, Callee, Overlap, Gep}
 use Rattle.ir_core.specs.Step.{source_step}
 use Rattle.ir_core.specs.Run.{source_start, source_run}
-use Rattle.ir_core.proofs.Types.{shape-int, shape-ptr}
+use Rattle.ir_core.proofs.Types.{shape-int}
 use Rattle.ir_core.proofs.Inits.{init-value}
-use Rattle.ir_core.proofs.WorkedWords.{i1, i8, i16, i32, i64, local, int, minus, named, gives, does, calls, runs, block, function, module_of, variable, declared_as, arg, program, straight, left, shown}
+use Rattle.ir_core.proofs.WorkedWords.{i1, i8, i16, i32, i64, local, int, minus, named, gives, does, calls, runs, block, function, module_of, declared_as, arg, program, straight, left, shown}
 
 -- four bytes are made, and so many are loaded so far on
 abbrev loads : Operand → Ty → Operand → Module

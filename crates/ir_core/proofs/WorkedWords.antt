@@ -1,11 +1,10 @@
 -- Short words for the modules whose meaning is computed: types, operands, instructions, functions, and what a run shows.
-use Rattle.std.proofs.Common.{ℕ, true, false, List, [], ◌∷◌, Some, None}
+use Rattle.std.proofs.Common.{ℕ, false, List, [], ◌∷◌, Some, None}
 use Rattle.std.specs.Prelude.{codes, pos, negsuc}
 use Rattle.rd_num.specs.declared.width.Width.TheVariants.{W1, W8, W16, W32, W64}
 use Rattle.behavior.specs.Ending.{Ending}
 use Rattle.behavior.specs.Moment.{Moment}
 use Rattle.ir_core.specs.declared.ty.Ty.{Ty}
-use Rattle.ir_core.specs.declared.ty.NamedTy.{NamedTy}
 use Rattle.ir_core.specs.declared.operand.Operand.{Operand}
 use Rattle.ir_core.specs.declared.init.Init.{Init}
 use Rattle.ir_core.specs.declared.instruction.Op.{Op}

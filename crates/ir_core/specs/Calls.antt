@@ -11,10 +11,10 @@ use Rattle.ir_core.specs.declared.memory.Value.{Value}
 use Rattle.ir_core.specs.declared.memory.Value.TheVariants.{Num, Fun}
 use Rattle.ir_core.specs.declared.memory.Reason.TheVariants.{Callee}
 use Rattle.ir_core.specs.Names.{same_name}
-use Rattle.ir_core.specs.Stops.{Stop, Ended, Trap, Depth, Left, Answer, after, found_or, Malformed}
+use Rattle.ir_core.specs.Stops.{Stop, Ended, Trap, Depth, Left, Answer, and_then, found_or, Malformed}
 use Rattle.ir_core.specs.Kinds.{Kind, same_kind, kind_of}
 use Rattle.ir_core.specs.Memory.{Memory, copied, filled, without}
-use Rattle.ir_core.specs.State.{Local, Frame, State, Exchange, Nothing, Print, Take, Turn, given}
+use Rattle.ir_core.specs.State.{Local, Frame, State, Exchange, Nothing, Print, Take, Turn, with_local}
 use Rattle.ir_core.specs.Operands.{local_value, function_number}
 
 -- the functions that a module may declare
@@ -53,7 +53,7 @@ target_named name None = Outside (outer_of name)
 
 -- what the callee of a call is
 abbrev pub target_of : Module → List Local → Operand → Answer Target
-target_of m locals (LocalName name) = after (local_value locals name) (λ v. Ok (Inside v))
+target_of m locals (LocalName name) = and_then (local_value locals name) (λ v. Ok (Inside v))
 target_of m locals (Global name) = Ok (target_named name (function_number m name))
 target_of m locals other = Err Malformed
 
@@ -79,18 +79,18 @@ abbrev pub first_frame : ℕ → Function → List Value → Option (List ℕ) �
 first_frame number f arguments into = record { function = number; block = 0; next = 0; locals = bound f.params arguments; objects = []; into = into }
 
 -- the tests of a call in their order: the callee is a function, it has the call's types, and there is room for one more call
-abbrev pub entered : Module → State → List Frame → Kind → List Kind → List Value → Option (List ℕ) → Value → Answer Turn
-entered m s callers ret kinds arguments into (Fun number) =
-    after (found_or Malformed (slice_get m.functions number)) (λ f.
+abbrev pub entry_turn : Module → State → List Frame → Kind → List Kind → List Value → Option (List ℕ) → Value → Answer Turn
+entry_turn m s callers ret kinds arguments into (Fun number) =
+    and_then (found_or Malformed (slice_get m.functions number)) (λ f.
     if is_called_as f ret kinds
     then (if nat_le MAX_CALLS (length s.frames) then Err Depth else Ok (record { frames = first_frame number f arguments into ∷ callers; objects = s.objects; exchange = Nothing }))
     else Err (Left Callee))
-entered m s callers ret kinds arguments into other = Err (Left Callee)
+entry_turn m s callers ret kinds arguments into other = Err (Left Callee)
 
 -- the callers once the innermost of them goes on with a result
 abbrev pub resumed : List Frame → Option (List ℕ) → Option Value → List Frame
 resumed [] into result = []
-resumed (g ∷ gs) into (Some v) = record g { locals = given into v g.locals } ∷ gs
+resumed (g ∷ gs) into (Some v) = record g { locals = with_local into v g.locals } ∷ gs
 resumed (g ∷ gs) into None = g ∷ gs
 
 -- the call with which the run began ends it with the low 8 bits of its result
@@ -100,9 +100,9 @@ last_result (Some other) = Malformed
 last_result None = Malformed
 
 -- a return to the caller; the objects of the call's allocas are dead then
-abbrev pub returned : State → Frame → List Frame → Option Value → Answer Turn
-returned s f [] result = Err (last_result result)
-returned s f (g ∷ gs) result = Ok (record { frames = resumed (g ∷ gs) f.into result; objects = without s.objects f.objects; exchange = Nothing })
+abbrev pub return_turn : State → Frame → List Frame → Option Value → Answer Turn
+return_turn s f [] result = Err (last_result result)
+return_turn s f (g ∷ gs) result = Ok (record { frames = resumed (g ∷ gs) f.into result; objects = without s.objects f.objects; exchange = Nothing })
 
 -- the callers go on with a result, memory as it is
 abbrev pub goes_on : State → List Frame → Option (List ℕ) → Exchange → Option Value → Answer Turn
@@ -115,7 +115,7 @@ read_byte s frames into None = goes_on s frames into Nothing (Some (Num W32 (2 ^
 
 -- the callers go on, with other objects in memory
 abbrev pub with_memory : List Frame → Answer Memory → Answer Turn
-with_memory frames objects = after objects (λ m. Ok (record { frames = frames; objects = m; exchange = Nothing }))
+with_memory frames objects = and_then objects (λ m. Ok (record { frames = frames; objects = m; exchange = Nothing }))
 
 -- a call of an outside function is one step
 abbrev pub outer_turn : List ℕ → State → List Frame → Option (List ℕ) → Outer → List Value → Answer Turn
@@ -129,6 +129,6 @@ outer_turn input s frames into Lifetime arguments = goes_on s frames into Nothin
 outer_turn input s frames into outer arguments = Err Malformed
 
 -- a call of what the callee is
-abbrev pub called : Module → List ℕ → State → List Frame → Kind → List Kind → List Value → Option (List ℕ) → Target → Answer Turn
-called m input s callers ret kinds arguments into (Outside outer) = outer_turn input s callers into outer arguments
-called m input s callers ret kinds arguments into (Inside callee) = entered m s callers ret kinds arguments into callee
+abbrev pub call_turn : Module → List ℕ → State → List Frame → Kind → List Kind → List Value → Option (List ℕ) → Target → Answer Turn
+call_turn m input s callers ret kinds arguments into (Outside outer) = outer_turn input s callers into outer arguments
+call_turn m input s callers ret kinds arguments into (Inside callee) = entry_turn m s callers ret kinds arguments into callee

@@ -8,7 +8,7 @@ use Rattle.ir_core.specs.declared.memory.Cell.{Cell}
 use Rattle.ir_core.specs.declared.memory.Cell.TheVariants.{Unset, Byte, Piece}
 use Rattle.ir_core.specs.declared.memory.Object0.{Object0}
 use Rattle.ir_core.specs.declared.memory.Reason.TheVariants.{Bounds, Dead, Constant, Unset as WasUnset, Mixed, Overlap}
-use Rattle.ir_core.specs.Stops.{Left, Answer, after, Malformed}
+use Rattle.ir_core.specs.Stops.{Left, Answer, and_then, Malformed}
 use Rattle.ir_core.specs.Kinds.{Kind, NoValue, Number, Pointer}
 use Rattle.ir_core.specs.Shapes.{bytes_of}
 
@@ -25,15 +25,15 @@ same_value (Fun f) (Fun g) = nat_eq f g
 same_value u v = false
 
 -- the eight pieces of a place or a function, in order
-abbrev pub pieces : Value → List Cell
-pieces v = Piece v 0 ∷ Piece v 1 ∷ Piece v 2 ∷ Piece v 3 ∷ Piece v 4 ∷ Piece v 5 ∷ Piece v 6 ∷ Piece v 7 ∷ []
+abbrev pub pointer_cells : Value → List Cell
+pointer_cells v = Piece v 0 ∷ Piece v 1 ∷ Piece v 2 ∷ Piece v 3 ∷ Piece v 4 ∷ Piece v 5 ∷ Piece v 6 ∷ Piece v 7 ∷ []
 
 -- what a value is stored as
 abbrev pub cells_of : Value → List Cell
 cells_of (Num w n) = map Byte (le_bytes (bytes_of w) n)
 cells_of Null = map Byte (le_bytes 8 0)
-cells_of (At o d) = pieces (At o d)
-cells_of (Fun f) = pieces (Fun f)
+cells_of (At o d) = pointer_cells (At o d)
+cells_of (Fun f) = pointer_cells (Fun f)
 
 -- whether one of the cells is unset
 abbrev pub any_unset : List Cell → Bool
@@ -63,7 +63,7 @@ number_read w None = Err (Left Mixed)
 
 -- the pieces of one pointer in order, or eight zero bytes for null
 abbrev pub pointer_read : List Cell → Answer Value
-pointer_read (Piece v k ∷ cs) = if same_cells (Piece v k ∷ cs) (pieces v) then Ok v else Err (Left Mixed)
+pointer_read (Piece v k ∷ cs) = if same_cells (Piece v k ∷ cs) (pointer_cells v) then Ok v else Err (Left Mixed)
 pointer_read cs = if same_cells cs (cells_of Null) then Ok Null else Err (Left Mixed)
 
 -- the value of a kind that cells hold
@@ -73,10 +73,10 @@ value_read (Number w) cs = number_read w (numbers cs)
 value_read Pointer cs = pointer_read cs
 
 -- bytes of a value of a kind
-abbrev pub size_of : Kind → ℕ
-size_of NoValue = 0
-size_of (Number w) = bytes_of w
-size_of Pointer = 8
+abbrev pub kind_size : Kind → ℕ
+kind_size NoValue = 0
+kind_size (Number w) = bytes_of w
+kind_size Pointer = 8
 
 -- a range of an object, once the tests have passed
 pub record Range : Type 0 where
@@ -91,19 +91,19 @@ range_of o d count (Some x) =
     if x.live then (if nat_le (d + count) x.size then Ok (record { object = o; offset = d; held = x }) else Err (Left Bounds)) else Err (Left Dead)
 
 -- the tests of a load, in their order: no place, a dead object, a range that isn't inside
-abbrev pub readable : Memory → ℕ → Value → Answer Range
-readable m count (At o d) = range_of o d count (slice_get m o)
-readable m count (Num w n) = Err (Left Bounds)
-readable m count Null = Err (Left Bounds)
-readable m count (Fun f) = Err (Left Bounds)
+abbrev pub readable_range : Memory → ℕ → Value → Answer Range
+readable_range m count (At o d) = range_of o d count (slice_get m o)
+readable_range m count (Num w n) = Err (Left Bounds)
+readable_range m count Null = Err (Left Bounds)
+readable_range m count (Fun f) = Err (Left Bounds)
 
 -- no store goes to a constant object
 abbrev pub unless_constant : Range → Answer Range
 unless_constant r = if r.held.constant then Err (Left Constant) else Ok r
 
 -- those of a store: a constant object is the last
-abbrev pub writable : Memory → ℕ → Value → Answer Range
-writable m count p = after (readable m count p) unless_constant
+abbrev pub writable_range : Memory → ℕ → Value → Answer Range
+writable_range m count p = and_then (readable_range m count p) unless_constant
 
 -- the cells of a range
 abbrev pub cells_at : Range → ℕ → List Cell
@@ -111,8 +111,8 @@ cells_at r count = take count (drop r.offset r.held.cells)
 
 -- a load: the tests of its range, then whether its bytes are set, then what they are
 abbrev pub load_at : Memory → Kind → Value → Answer Value
-load_at m kind p = after (readable m (size_of kind) p) (λ r.
-    if any_unset (cells_at r (size_of kind)) then Err (Left WasUnset) else value_read kind (cells_at r (size_of kind)))
+load_at m kind p = and_then (readable_range m (kind_size kind) p) (λ r.
+    if any_unset (cells_at r (kind_size kind)) then Err (Left WasUnset) else value_read kind (cells_at r (kind_size kind)))
 
 -- memory with other cells from the start of a range on
 abbrev pub written : Memory → Range → List Cell → Memory
@@ -120,11 +120,11 @@ written m r cells = slice_set m r.object (record r.held { cells = take r.offset 
 
 -- a store of a value
 abbrev pub store_at : Memory → Value → Value → Answer Memory
-store_at m v p = after (writable m (length (cells_of v)) p) (λ r. Ok (written m r (cells_of v)))
+store_at m v p = and_then (writable_range m (length (cells_of v)) p) (λ r. Ok (written m r (cells_of v)))
 
 -- a fill of no byte does nothing, whatever the pointer
 abbrev pub filled : Memory → Value → ℕ → ℕ → Answer Memory
-filled m p byte count = if nat_eq count 0 then Ok m else after (writable m count p) (λ r. Ok (written m r (replicate count (Byte byte))))
+filled m p byte count = if nat_eq count 0 then Ok m else and_then (writable_range m count p) (λ r. Ok (written m r (replicate count (Byte byte))))
 
 -- the ranges share a byte and don't begin at the same place
 abbrev pub overlaps : ℕ → Range → Range → Bool
@@ -133,7 +133,7 @@ overlaps count a b = (nat_eq a.object b.object && not (nat_eq a.offset b.offset)
 -- all tests of the source, then all of the target, then whether they overlap; unset and mixed cells are copied as they are
 abbrev pub copied : Memory → Value → Value → ℕ → Answer Memory
 copied m to from count =
-    if nat_eq count 0 then Ok m else (after (readable m count from) (λ a. after (writable m count to) (λ b.
+    if nat_eq count 0 then Ok m else (and_then (readable_range m count from) (λ a. and_then (writable_range m count to) (λ b.
     if overlaps count a b then Err (Left Overlap) else Ok (written m b (cells_at a count)))))
 
 -- a new object of unset bytes; its number is the number of objects before it

@@ -11,7 +11,7 @@ use Rattle.ir_core.specs.declared.memory.Value.{Value}
 use Rattle.ir_core.specs.declared.memory.Value.TheVariants.{Num, Null, At, Fun}
 use Rattle.ir_core.specs.declared.memory.Reason.TheVariants.{Unset}
 use Rattle.ir_core.specs.Names.{same_name, number_where, first_where}
-use Rattle.ir_core.specs.Stops.{Left, Answer, after, found_or, Malformed}
+use Rattle.ir_core.specs.Stops.{Left, Answer, and_then, found_or, Malformed}
 use Rattle.ir_core.specs.Kinds.{Kind, NoValue, Number, Pointer, kind_of, literal, signed_word, truth, zero_of}
 use Rattle.ir_core.specs.Shapes.{shape_of}
 use Rattle.ir_core.specs.State.{Local}
@@ -53,13 +53,13 @@ bytes_to m source (i ∷ is) = found_or Malformed (option_map (λ at. i * (shape
 -- the indices of a constant place
 abbrev pub literal_indices : List Index0 → Answer (List ℕ)
 literal_indices [] = Ok []
-literal_indices (i ∷ is) = after (int_value (kind_of i.ty) i.value) (λ v. after (index_word v) (λ n. after (literal_indices is) (λ ns. Ok (n ∷ ns))))
+literal_indices (i ∷ is) = and_then (int_value (kind_of i.ty) i.value) (λ v. and_then (index_word v) (λ n. and_then (literal_indices is) (λ ns. Ok (n ∷ ns))))
 
 -- a place in a global that is known before the run
 abbrev pub constant_place : Module → Place0 → Answer Value
 constant_place m p =
-    after (found_or Malformed (global_number m p.base)) (λ g.
-    after (literal_indices p.indices) (λ is. after (bytes_to m p.source is) (λ by. Ok (At g (by % 2 ^ 64)))))
+    and_then (found_or Malformed (global_number m p.base)) (λ g.
+    and_then (literal_indices p.indices) (λ is. and_then (bytes_to m p.source is) (λ by. Ok (At g (by % 2 ^ 64)))))
 
 -- the value of an operand of a kind; undef and poison are zeros
 abbrev pub value_of : Module → List Local → Kind → Operand → Answer Value
@@ -75,9 +75,9 @@ value_of m locals kind (Const place) = constant_place m place
 -- arguments and indices, the first one read first
 abbrev pub values_of : Module → List Local → List Arg → Answer (List Value)
 values_of m locals [] = Ok []
-values_of m locals (arg ∷ args) = after (value_of m locals (kind_of arg.ty) arg.value) (λ v. after (values_of m locals args) (λ vs. Ok (v ∷ vs)))
+values_of m locals (arg ∷ args) = and_then (value_of m locals (kind_of arg.ty) arg.value) (λ v. and_then (values_of m locals args) (λ vs. Ok (v ∷ vs)))
 
 -- indices that were read
 abbrev pub index_words : List Value → Answer (List ℕ)
 index_words [] = Ok []
-index_words (v ∷ vs) = after (index_word v) (λ n. after (index_words vs) (λ ns. Ok (n ∷ ns)))
+index_words (v ∷ vs) = and_then (index_word v) (λ n. and_then (index_words vs) (λ ns. Ok (n ∷ ns)))

@@ -7,7 +7,7 @@ use Rattle.ir_core.specs.declared.memory.Object0.{Object0}
 use Rattle.ir_core.specs.declared.memory.Reason.TheVariants.{Order, Equal, Gep}
 use Rattle.ir_core.specs.declared.instruction.Pred.{Pred}
 use Rattle.ir_core.specs.declared.instruction.Pred.TheVariants.{Eq, Ne, Ult, Ule, Ugt, Uge, Slt, Sle, Sgt, Sge}
-use Rattle.ir_core.specs.Stops.{Left, Answer, after, Malformed}
+use Rattle.ir_core.specs.Stops.{Left, Answer, and_then, Malformed}
 use Rattle.ir_core.specs.Arithmetic.{compared}
 use Rattle.ir_core.specs.Memory.{Memory}
 
@@ -51,7 +51,7 @@ pointers_ordered pred m u v = Err (Left Order)
 -- what a comparison of two pointers says; signed order says nothing of them
 abbrev pub pointers_compared : Pred → Memory → Value → Value → Answer Bool
 pointers_compared Eq m u v = pointers_equal m u v
-pointers_compared Ne m u v = after (pointers_equal m u v) (λ same. Ok (not same))
+pointers_compared Ne m u v = and_then (pointers_equal m u v) (λ same. Ok (not same))
 pointers_compared Ult m u v = pointers_ordered Ult m u v
 pointers_compared Ule m u v = pointers_ordered Ule m u v
 pointers_compared Ugt m u v = pointers_ordered Ugt m u v
@@ -62,12 +62,12 @@ pointers_compared Sgt m u v = Err (Left Order)
 pointers_compared Sge m u v = Err (Left Order)
 
 -- null and functions can be moved by nothing alone
-abbrev pub unmoved : ℕ → Value → Answer Value
-unmoved by v = if nat_eq (by % 2 ^ 64) 0 then Ok v else Err (Left Gep)
+abbrev pub unmoved_pointer : ℕ → Value → Answer Value
+unmoved_pointer by v = if nat_eq (by % 2 ^ 64) 0 then Ok v else Err (Left Gep)
 
 -- a pointer so many bytes on, modulo 2^64
-abbrev pub moved : ℕ → Value → Answer Value
-moved by (At o d) = Ok (At o ((d + by) % 2 ^ 64))
-moved by Null = unmoved by Null
-moved by (Fun f) = unmoved by (Fun f)
-moved by (Num w n) = Err Malformed
+abbrev pub moved_pointer : ℕ → Value → Answer Value
+moved_pointer by (At o d) = Ok (At o ((d + by) % 2 ^ 64))
+moved_pointer by Null = unmoved_pointer by Null
+moved_pointer by (Fun f) = unmoved_pointer by (Fun f)
+moved_pointer by (Num w n) = Err Malformed

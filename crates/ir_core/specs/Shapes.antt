@@ -22,17 +22,17 @@ abbrev pub bytes_of : Width → ℕ
 bytes_of w = (bits w + 7) / 8
 
 -- no index leads to the whole
-abbrev pub whole : List ℕ → Option ℕ
-whole [] = Some 0
-whole (i ∷ is) = None
+abbrev pub whole_part : List ℕ → Option ℕ
+whole_part [] = Some 0
+whole_part (i ∷ is) = None
 
 -- a number or a pointer has no parts, and is aligned to its size
 abbrev pub single : ℕ → Shape
-single n = record { size = n; align = n; part = whole }
+single n = record { size = n; align = n; part = whole_part }
 
 -- what has no bytes
 abbrev pub nothing : Shape
-nothing = record { size = 0; align = 1; part = whole }
+nothing = record { size = 0; align = 1; part = whole_part }
 
 -- elements one after another; an index may be any number, also past the last element
 abbrev pub part_of_array : Shape → List ℕ → Option ℕ
@@ -44,9 +44,9 @@ abbrev pub array : ℕ → Shape → Shape
 array n of = record { size = n * of.size; align = of.align; part = part_of_array of }
 
 -- where fields end that begin at a place, each at the next multiple of its alignment
-abbrev pub end_of : ℕ → List Shape → ℕ
-end_of at [] = at
-end_of at (f ∷ fs) = end_of (rounded at f.align + f.size) fs
+abbrev pub fields_end : ℕ → List Shape → ℕ
+fields_end at [] = at
+fields_end at (f ∷ fs) = fields_end (rounded at f.align + f.size) fs
 
 -- the alignment of a struct
 abbrev pub greatest_align : List Shape → ℕ
@@ -66,7 +66,7 @@ part_of_struct fields (i ∷ is) = part_of_field 0 fields i is
 
 -- a struct, whose size is rounded up to its alignment
 abbrev pub struct : List Shape → Shape
-struct fields = record { size = rounded (end_of 0 fields) (greatest_align fields); align = greatest_align fields; part = part_of_struct fields }
+struct fields = record { size = rounded (fields_end 0 fields) (greatest_align fields); align = greatest_align fields; part = part_of_struct fields }
 
 -- the fields of a packed struct stand as if each were aligned to one byte
 abbrev pub unaligned : List Shape → List Shape

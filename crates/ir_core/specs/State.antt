@@ -75,6 +75,6 @@ turned s (Ok t) = record {
 turned s (Err stop) = record s { ending = ending_of stop }
 
 -- the locals once one more was given a value
-abbrev pub given : Option (List ℕ) → Value → List Local → List Local
-given (Some name) v locals = record { name = name; value = v } ∷ locals
-given None v locals = locals
+abbrev pub with_local : Option (List ℕ) → Value → List Local → List Local
+with_local (Some name) v locals = record { name = name; value = v } ∷ locals
+with_local None v locals = locals

@@ -18,6 +18,10 @@ reason_number Callee = 7
 reason_number Overlap = 8
 reason_number Gep = 9
 
+-- the number that an ending carries where a module that isn't valid has no step; it is that of no reason
+abbrev pub malformed_number : ℕ
+malformed_number = 10
+
 -- how a step can stop a run; no module comes to anything else that a machine can come to
 pub data Stop : Type 0 where
   -- the exit status
@@ -29,14 +33,14 @@ pub data Stop : Type 0 where
   -- where a module that isn't valid has no step
   Malformed : Stop
 
--- no reason has the number 10
+-- the ending of a run that is stopped so
 abbrev pub ending_of : Stop → Ending
 ending_of (Ended status) = ending.Ended status
 ending_of Divide = ending.Divide
 ending_of Trap = ending.Trap
 ending_of Depth = ending.Depth
 ending_of (Left reason) = ending.Left (reason_number reason)
-ending_of Malformed = ending.Left 10
+ending_of Malformed = ending.Left malformed_number
 
 -- how the run of a module can stand
 abbrev pub IsModuleEnding : Ending → Type 0
@@ -59,9 +63,9 @@ abbrev pub Answer : Type 0 → Type 0
 Answer A = Result A Stop
 
 -- the second part of a step, once the first has its answer
-abbrev pub after : {A B : Type 0} → Answer A → (A → Answer B) → Answer B
-after (Ok a) rest = rest a
-after (Err stop) rest = Err stop
+abbrev pub and_then : {A B : Type 0} → Answer A → (A → Answer B) → Answer B
+and_then (Ok a) rest = rest a
+and_then (Err stop) rest = Err stop
 
 -- what is there, or else a stop
 abbrev pub found_or : {A : Type 0} → Stop → Option A → Answer A

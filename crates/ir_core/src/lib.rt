@@ -7,14 +7,11 @@
 //! integer profile of docs/languages.md.
 #![tactic(auto)]
 
-ghost use Rattle.std.specs.Prelude.{◌≡◌, ℕ, List};
-ghost use Rattle.behavior.specs.Moment.{HasStopped};
-ghost use Rattle.behavior.specs.System.{AddsAtMostOne};
+ghost use Rattle.std.specs.Prelude.{◌<◌, ℕ, List};
+ghost use Rattle.ir_core.specs.declared.memory.Reason.{Reason};
 ghost use Rattle.ir_core.specs.declared.module.Module.{Module};
-ghost use Rattle.ir_core.specs.State.{State, source_moment};
-ghost use Rattle.ir_core.specs.Step.{source_step};
-ghost use Rattle.ir_core.specs.Stops.{IsModuleEnding};
-ghost use Rattle.ir_core.specs.Run.{source_run};
+ghost use Rattle.ir_core.specs.Stops.{malformed_number, reason_number};
+ghost use Rattle.ir_core.specs.Run.{AddsByteByByte, EndsAsModules, StaysStopped};
 
 pub mod init;
 pub mod instruction;
@@ -31,8 +28,10 @@ pub const MAX_PARAMETERS: u32 = 32;
 
 /// What every run of a module has: a step prints at most one byte or takes at most one and then the
 /// run goes on, a run that has stopped stays as it is, and none comes to an ending of machines alone.
+/// The stop of a module that isn't valid is apart from all reasons for which a run is left.
 pub fn run_laws()
-    ensures adds { (m : Module) (input : List ℕ) (s : State) → AddsAtMostOne (source_moment s) (source_moment (source_step m input s)) }
-    ensures stays { (m : Module) (input : List ℕ) (s : State) → HasStopped (source_moment s) → source_step m input s ≡ s }
-    ensures endings { (m : Module) (input : List ℕ) (n : ℕ) → IsModuleEnding (source_run m input n).ending }
+    ensures adds { (m : Module) (input : List ℕ) → AddsByteByByte m input }
+    ensures stays { (m : Module) (input : List ℕ) → StaysStopped m input }
+    ensures endings { (m : Module) (input : List ℕ) → EndsAsModules m input }
+    ensures apart { (r : Reason) → reason_number r < malformed_number }
 {}
