@@ -6,7 +6,7 @@ use Rattle.x86_core.specs.declared.instr.Instr.{Instr}
 use Rattle.x86_core.specs.Encoding.{encoding, IsInstr}
 use Rattle.x86_core.specs.Decoding.{decode}
 use Rattle.x86_core.proofs.Back.{decode_back}
-use Rattle.machine_core.specs.Step.{sorted}
+use Rattle.x86_core.specs.Step.{sorted}
 use Rattle.obj_core.specs.declared.object.Object.{Object}
 use Rattle.obj_core.specs.declared.object.Func.{Func}
 use Rattle.obj_core.specs.declared.object.Place.{Place}

@@ -4,7 +4,7 @@ use Rattle.behavior.specs.Ending.{Ending, Going, Ended, Invalid}
 use Rattle.behavior.specs.Moment.{Moment}
 use Rattle.x86_core.specs.Decoding.{decode}
 use Rattle.x86_core.specs.Effect.{effect_of}
-use Rattle.machine_core.specs.Step.{request_of}
+use Rattle.x86_core.specs.Step.{request_of}
 use Rattle.obj_core.specs.declared.object.Object.{Object}
 use Rattle.obj_core.specs.declared.object.Func.{Func}
 use Rattle.obj_core.specs.declared.object.FuncKind.{FuncKind}

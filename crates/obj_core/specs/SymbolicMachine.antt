@@ -8,9 +8,9 @@ use Rattle.x86_core.specs.declared.instr.Decoded.{Decoded}
 use Rattle.x86_core.specs.declared.instr.Decoded.TheVariants.{One, Short, Unknown}
 use Rattle.x86_core.specs.Arithmetic.{moved}
 use Rattle.x86_core.specs.Decoding.{decode}
-use Rattle.machine_core.specs.Data.{data_segments, stack_end}
-use Rattle.machine_core.specs.Step.{Fetched, Stops, Plain, Goes, Calls, CallsWord, Systems, sorted, State, moment_of, step_of}
-use Rattle.machine_core.specs.Run.{Act, run_over, started}
+use Rattle.x86_core.specs.Data.{data_segments, stack_end}
+use Rattle.x86_core.specs.Step.{Fetched, Stops, Plain, Goes, Calls, CallsWord, Systems, sorted, State, moment_of, step_of}
+use Rattle.x86_core.specs.Run.{Act, run_over, started}
 use Rattle.obj_core.specs.declared.object.Object.{Object}
 use Rattle.obj_core.specs.declared.object.Func.{Func}
 use Rattle.obj_core.specs.declared.object.Link.{Link}

@@ -6,7 +6,7 @@
 
 ghost use Rattle.std.specs.Prelude.{◌≡◌, ℕ, ◌+◌, ◌-◌, ◌*◌, ◌<◌, ◌≤◌, ◌^◌, [], ◌∷◌, length, IfOk, slice_get, slice_index, Some};
 ghost use Rattle.std.specs.List.{sum_by};
-ghost use Rattle.machine_core.specs.Data.{segment};
+ghost use Rattle.x86_core.specs.Data.{segment};
 ghost use Rattle.obj_core.specs.declared.object.Object.{Object};
 ghost use Rattle.obj_core.specs.declared.object.Func.{Func};
 ghost use Rattle.obj_core.specs.Slots.{slot_base};

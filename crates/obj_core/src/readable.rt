@@ -2,7 +2,7 @@
 
 ghost use Rattle.std.specs.Prelude.{◌≡◌, ◌+◌, ◌*◌, ◌++◌, [], OnOk, OnErr, if◌then◌else◌};
 ghost use Rattle.rd_num.specs.Number.{le_bytes};
-ghost use Rattle.machine_core.specs.Data.{segment};
+ghost use Rattle.x86_core.specs.Data.{segment};
 ghost use Rattle.obj_core.specs.Slots.{slot_base};
 
 use crate::address::SlotAddr;

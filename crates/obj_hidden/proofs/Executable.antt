@@ -7,8 +7,8 @@ use Rattle.x86_core.specs.declared.instr.Instr.{Instr}
 use Rattle.x86_core.specs.declared.image.Segment.{Segment}
 use Rattle.x86_core.specs.Encoding.{encoding, IsInstr}
 use Rattle.x86_core.proofs.Laws.{some_bytes, few_bytes}
-use Rattle.machine_core.specs.Memory.{code_at, code_of, data_of}
-use Rattle.machine_core.specs.Data.{ro_start, rw_start, stack, data_segments}
+use Rattle.x86_core.specs.Memory.{code_at, code_of, data_of}
+use Rattle.x86_core.specs.Data.{ro_start, rw_start, stack, data_segments}
 use Rattle.obj_core.specs.Slots.{slot_base}
 use Rattle.obj_lockstep.specs.Placed.{AreHidden, IsAt}
 use Rattle.obj_lay.specs.Layout.{present}

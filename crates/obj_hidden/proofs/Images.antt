@@ -5,11 +5,11 @@ use Rattle.std.proofs.Props.{props}
 use Rattle.behavior.specs.Ending.{Strayed}
 use Rattle.behavior.specs.Moment.{Agrees, AreBytes, Behavior}
 use Rattle.behavior.specs.Preserves.{Preserves}
-use Rattle.machine_core.specs.Memory.{code_of, data_of}
-use Rattle.machine_core.specs.Data.{data_segments}
-use Rattle.machine_core.specs.Machine.{machine_segments, machine_run, machine_behavior}
-use Rattle.machine_core.specs.Observation.{observe}
-use Rattle.machine_core.specs.Run.{Act}
+use Rattle.x86_core.specs.Memory.{code_of, data_of}
+use Rattle.x86_core.specs.Data.{data_segments}
+use Rattle.x86_core.specs.Machine.{machine_segments, machine_run, machine_behavior}
+use Rattle.x86_core.specs.Observation.{observe}
+use Rattle.x86_core.specs.Run.{Act}
 use Rattle.obj_core.specs.declared.object.Object.{Object}
 use Rattle.obj_core.specs.Slots.{slot_start}
 use Rattle.obj_core.specs.WellFormed.{IsWellFormed}

@@ -11,8 +11,8 @@ use Rattle.x86_core.specs.declared.instr.Instr.TheVariants.{AluImm, MovImm32, Jm
 use Rattle.x86_core.specs.declared.reg.Reg.TheVariants.{Rax, Rdi, Rsp}
 use Rattle.x86_core.specs.Decoding.{decode}
 use Rattle.x86_core.specs.Effect.{effect_of}
-use Rattle.machine_core.specs.Step.{request_of}
-use Rattle.machine_core.specs.Machine.{machine_behavior}
+use Rattle.x86_core.specs.Step.{request_of}
+use Rattle.x86_core.specs.Machine.{machine_behavior}
 use Rattle.obj_core.specs.declared.object.Object.{Object}
 use Rattle.obj_core.specs.declared.object.Func.{Func}
 use Rattle.obj_core.specs.declared.object.FuncKind.{FuncKind}

@@ -3,7 +3,7 @@ use Rattle.std.proofs.Common.{◌≡◌, ℕ, ◌+◌, ◌*◌, List, ◌++◌, 
 use Rattle.std.specs.Prelude.{slice_index}
 use Rattle.x86_core.specs.declared.image.Segment.{Segment}
 use Rattle.x86_core.specs.declared.image.Image.{Image}
-use Rattle.machine_core.specs.Data.{segment}
+use Rattle.x86_core.specs.Data.{segment}
 use Rattle.obj_core.specs.declared.object.Object.{Object}
 use Rattle.obj_core.specs.declared.code.CodePlan.{CodePlan}
 use Rattle.obj_core.specs.Slots.{slot_base, positions}

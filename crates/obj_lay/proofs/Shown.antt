@@ -1,8 +1,8 @@
 -- What may be read or written of an image that is laid out.
 use Rattle.std.proofs.Common.{◌≡◌, ℕ, List, [], ◌∷◌, ◌++◌, refl, ◌∙◌, ap}
 use Rattle.x86_core.specs.declared.image.Segment.{Segment}
-use Rattle.machine_core.specs.Data.{ro_start, rw_start}
-use Rattle.machine_core.specs.Memory.{data_of}
+use Rattle.x86_core.specs.Data.{ro_start, rw_start}
+use Rattle.x86_core.specs.Memory.{data_of}
 use Rattle.obj_core.specs.declared.object.Object.{Object}
 use Rattle.obj_core.specs.Slots.{slot_base}
 use Rattle.obj_core.specs.Placement.{code_base}

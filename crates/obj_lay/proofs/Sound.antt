@@ -4,7 +4,7 @@ use Rattle.std.specs.Prelude.{All, sum, map}
 use Rattle.std.proofs.lemmas.List.Elements.{All-cons}
 use Rattle.std.proofs.lemmas.List.Sums.{sum-map, sum_by-cons}
 use Rattle.x86_core.specs.declared.image.Segment.{Segment}
-use Rattle.machine_core.specs.Data.{ro_start, rw_start, segment}
+use Rattle.x86_core.specs.Data.{ro_start, rw_start, segment}
 use Rattle.obj_core.specs.declared.object.Object.{Object}
 use Rattle.obj_core.specs.declared.object.Func.{Func}
 use Rattle.obj_core.specs.Slots.{slot_base}

@@ -5,7 +5,7 @@ use Rattle.rand_chacha.specs.Block.{quarter_round, column_round, diagonal_round,
 use Rattle.rd_draw.specs.Draw.{stream_key, stream_word, shuffled}
 use Rattle.x86_core.specs.declared.image.Segment.{Segment}
 use Rattle.x86_core.specs.declared.image.Image.{Image}
-use Rattle.machine_core.specs.Data.{segment}
+use Rattle.x86_core.specs.Data.{segment}
 use Rattle.obj_core.specs.declared.object.Object.{Object}
 use Rattle.obj_core.specs.declared.object.Func.{Func}
 use Rattle.obj_core.specs.declared.object.FuncKind.{FuncKind}

@@ -2,7 +2,7 @@
 
 ghost use Rattle.std.specs.Prelude.{ℕ, ◌≡◌, ◌+◌, ◌-◌, ◌<◌, ◌≤◌, ◌^◌, length, All, IfOk, slice_get, slice_index};
 ghost use Rattle.std.specs.List.{sum_by};
-ghost use Rattle.machine_core.specs.Data.{segment};
+ghost use Rattle.x86_core.specs.Data.{segment};
 ghost use Rattle.obj_core.specs.declared.object.Func.{Func};
 ghost use Rattle.obj_core.specs.declared.object.Link.{Link};
 ghost use Rattle.obj_core.specs.Slots.{positions as positions_of};

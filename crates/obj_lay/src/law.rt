@@ -1,7 +1,7 @@
 //! What holds of every layout, whatever the seed is.
 
 ghost use Rattle.std.specs.Prelude.{ℕ, ◌≡◌, ◌++◌};
-ghost use Rattle.machine_core.specs.Memory.{data_of};
+ghost use Rattle.x86_core.specs.Memory.{data_of};
 ghost use Rattle.obj_core.specs.declared.object.Object.{Object};
 ghost use Rattle.obj_core.specs.Slots.{slot_start};
 ghost use Rattle.obj_core.specs.WellFormed.{IsWellFormed};

@@ -1,7 +1,7 @@
 //! The slots: sixteen bytes each, every one at its position.
 
 ghost use Rattle.std.specs.Prelude.{ℕ, ◌≡◌, ◌+◌, ◌*◌, ◌<◌, ◌≤◌, [], ◌∷◌, length, IfOk, Some};
-ghost use Rattle.machine_core.specs.Data.{segment};
+ghost use Rattle.x86_core.specs.Data.{segment};
 ghost use Rattle.obj_core.specs.Slots.{slot_base, positions as positions_of};
 ghost use Rattle.obj_core.specs.Placement.{inverse, filler, start_of, displacement, overlaid};
 ghost use Rattle.obj_core.specs.Runs.{slot_run};

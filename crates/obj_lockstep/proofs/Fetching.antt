@@ -9,8 +9,8 @@ use Rattle.x86_core.specs.declared.instr.Decoded.TheVariants.{One}
 use Rattle.x86_core.specs.declared.image.Segment.{Segment}
 use Rattle.x86_core.specs.Decoding.{decode}
 use Rattle.x86_core.proofs.Back.{decode_back}
-use Rattle.machine_core.specs.Step.{Fetched, Stops, Plain, Goes, Tests, Calls, CallsWord, Systems}
-use Rattle.machine_core.specs.Machine.{by_decoded as decoded_at, by_bytes, machine_fetch}
+use Rattle.x86_core.specs.Step.{Fetched, Stops, Plain, Goes, Tests, Calls, CallsWord, Systems}
+use Rattle.x86_core.specs.Machine.{by_decoded as decoded_at, by_bytes, machine_fetch}
 use Rattle.obj_core.specs.declared.object.Object.{Object}
 use Rattle.obj_core.specs.declared.object.Func.{Func}
 use Rattle.obj_core.specs.declared.object.Slot.{Slot}

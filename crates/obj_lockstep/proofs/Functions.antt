@@ -11,9 +11,9 @@ use Rattle.x86_core.specs.Encoding.{encoding, IsInstr, IsNumber32}
 use Rattle.x86_core.specs.Decoding.{decode}
 use Rattle.x86_core.proofs.Back.{decode_back}
 use Rattle.x86_core.specs.declared.image.Image.{Image}
-use Rattle.machine_core.specs.Memory.{code_at, code_of, data_of}
-use Rattle.machine_core.specs.Data.{data_segments}
-use Rattle.machine_core.specs.Machine.{machine_segments}
+use Rattle.x86_core.specs.Memory.{code_at, code_of, data_of}
+use Rattle.x86_core.specs.Data.{data_segments}
+use Rattle.x86_core.specs.Machine.{machine_segments}
 use Rattle.obj_core.specs.declared.object.Object.{Object}
 use Rattle.obj_core.specs.declared.object.Func.{Func}
 use Rattle.obj_core.specs.declared.object.Link.{Link}

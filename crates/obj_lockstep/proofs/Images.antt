@@ -7,12 +7,12 @@ use Rattle.behavior.specs.System.{iter}
 use Rattle.behavior.specs.Preserves.{Preserves}
 use Rattle.behavior.proofs.Laws.{preserves_straight}
 use Rattle.x86_core.specs.declared.image.Image.{Image}
-use Rattle.machine_core.specs.Memory.{code_of}
-use Rattle.machine_core.specs.Data.{stack_end}
-use Rattle.machine_core.specs.Observation.{Observation, observe}
-use Rattle.machine_core.specs.Run.{Act, Step, run_over, started}
-use Rattle.machine_core.specs.Step.{State}
-use Rattle.machine_core.specs.Machine.{machine_step, machine_segments, machine_start, machine_run, machine_behavior}
+use Rattle.x86_core.specs.Memory.{code_of}
+use Rattle.x86_core.specs.Data.{stack_end}
+use Rattle.x86_core.specs.Observation.{Observation, observe}
+use Rattle.x86_core.specs.Run.{Act, Step, run_over, started}
+use Rattle.x86_core.specs.Step.{State}
+use Rattle.x86_core.specs.Machine.{machine_step, machine_segments, machine_start, machine_run, machine_behavior}
 use Rattle.obj_core.specs.declared.object.Object.{Object}
 use Rattle.obj_core.specs.declared.object.Place.{Place}
 use Rattle.obj_core.specs.SymbolicMachine.{symbolic_step, symbolic_start, symbolic_run, symbolic_behavior}

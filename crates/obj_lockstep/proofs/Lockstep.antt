@@ -5,11 +5,11 @@ use Rattle.std.proofs.lemmas.Bool.{eqb-true}
 use Rattle.behavior.specs.Ending.{Ending, Going, Strayed, if_going}
 use Rattle.rd_draw.proofs.Permuted.{shuffled_long}
 use Rattle.x86_core.specs.declared.image.Segment.{Segment}
-use Rattle.machine_core.specs.Memory.{write_at, code_at, data_of, code_of}
-use Rattle.machine_core.specs.Observation.{observe, readable as readable_of}
-use Rattle.machine_core.specs.Run.{Act, Step, Write, wrote, acted, run_over}
-use Rattle.machine_core.specs.Step.{State, act}
-use Rattle.machine_core.specs.Machine.{by_bytes, machine_fetch, machine_step}
+use Rattle.x86_core.specs.Memory.{write_at, code_at, data_of, code_of}
+use Rattle.x86_core.specs.Observation.{observe, readable as readable_of}
+use Rattle.x86_core.specs.Run.{Act, Step, Write, wrote, acted, run_over}
+use Rattle.x86_core.specs.Step.{State, act}
+use Rattle.x86_core.specs.Machine.{by_bytes, machine_fetch, machine_step}
 use Rattle.obj_core.specs.declared.object.Object.{Object}
 use Rattle.obj_core.specs.declared.object.Place.{Place}
 use Rattle.obj_core.specs.Slots.{slot_base, positions}

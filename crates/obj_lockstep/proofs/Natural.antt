@@ -14,9 +14,9 @@ use Rattle.x86_core.specs.declared.effect.Change.{Change}
 use Rattle.x86_core.specs.Registers.{word, with_word}
 use Rattle.x86_core.specs.Arithmetic.{holds, moved}
 use Rattle.x86_core.specs.Effect.{effect_of}
-use Rattle.machine_core.specs.Memory.{read_at, write_at, data_of, code_of}
-use Rattle.machine_core.specs.Step.{State, Fetched, Stops, Plain, Goes, Tests, Calls, Returns, Follows, CallsWord, Systems, size_bytes, after_read, after_write, by_access, by_change, tested, landed, returned, below, called, called_word, after_print, after_take, next_byte, Request, Exits, Idles, Prints, Takes, Unknowns, request_of, served, act}
-use Rattle.machine_core.specs.Run.{wrote}
+use Rattle.x86_core.specs.Memory.{read_at, write_at, data_of, code_of}
+use Rattle.x86_core.specs.Step.{State, Fetched, Stops, Plain, Goes, Tests, Calls, Returns, Follows, CallsWord, Systems, size_bytes, after_read, after_write, by_access, by_change, tested, landed, returned, below, called, called_word, after_print, after_take, next_byte, Request, Exits, Idles, Prints, Takes, Unknowns, request_of, served, act}
+use Rattle.x86_core.specs.Run.{wrote}
 use Rattle.obj_core.specs.declared.object.Place.{Place}
 use Rattle.obj_lockstep.specs.Placed.{AreHidden}
 use Rattle.obj_lockstep.specs.Mirrors.{at_address, Mirrors}

@@ -1,8 +1,8 @@
 -- Reads and writes see data alone, fetches see code alone, and a write leaves hidden code as it is.
 use Rattle.std.proofs.Common.{◌≡◌, ℕ, Bool, true, false, ◌&&◌, ◌||◌, List, [], ◌∷◌, length, Option, Some, None, if◌then◌else◌, refl, sym, ◌∙◌, ap, subst, arith}
 use Rattle.x86_core.specs.declared.image.Segment.{Segment}
-use Rattle.machine_core.specs.Memory.{executes, reads, writes, holds, read_at, with_bytes, behind, write_at, code_at, data_of, code_of}
-use Rattle.machine_core.specs.Observation.{readable}
+use Rattle.x86_core.specs.Memory.{executes, reads, writes, covers, read_at, with_bytes, behind, write_at, code_at, data_of, code_of}
+use Rattle.x86_core.specs.Observation.{readable}
 use Rattle.obj_lockstep.specs.Placed.{AreHidden}
 
 -- a read sees data alone
@@ -61,7 +61,7 @@ module _ (s : Segment) (ss : List Segment) (at : ℕ) (bs : List ℕ) (others : 
   -- a segment of code refuses the write
   past_code : executes s.rights ≡ true → Claim (s ∷ code_of ss)
   past_code e hidden =
-      let refused : write_at (s ∷ ss) at bs ≡ behind s (write_at ss at bs) = ap (λ t. if t && holds s at (length bs) then Some (with_bytes s at bs ∷ ss) else behind s (write_at ss at bs)) hidden.1 in
+      let refused : write_at (s ∷ ss) at bs ≡ behind s (write_at ss at bs) = ap (λ t. if t && covers s at (length bs) then Some (with_bytes s at bs ∷ ss) else behind s (write_at ss at bs)) hidden.1 in
       subst (CodeStays (s ∷ code_of ss)) (sym refused) (stays_behind_code s e (code_of ss) (write_at ss at bs) (others hidden.2))
 
   -- another one takes it, or passes it on
@@ -72,7 +72,7 @@ module _ (s : Segment) (ss : List Segment) (at : ℕ) (bs : List ℕ) (others : 
   -- either kind of segment
   by_right : (t : Bool) → executes s.rights ≡ t → Claim (code_of (s ∷ ss))
   by_right true e = subst Claim (sym (in_code s ss true e)) (past_code e)
-  by_right false e = subst Claim (sym (in_code s ss false e)) (λ hidden. taken e hidden (writes s.rights && holds s at (length bs)))
+  by_right false e = subst Claim (sym (in_code s ss false e)) (λ hidden. taken e hidden (writes s.rights && covers s at (length bs)))
 
 -- a write leaves hidden code as it is
 pub code_stays : (ss : List Segment) (at : ℕ) (bs : List ℕ) → AreHidden (code_of ss) → CodeStays (code_of ss) (write_at ss at bs)

@@ -9,12 +9,12 @@ use Rattle.x86_core.specs.declared.image.Image.{Image}
 use Rattle.x86_core.specs.declared.image.Segment.{Segment}
 use Rattle.x86_core.specs.Decoding.{decode}
 use Rattle.x86_core.specs.Effect.{effect_of}
-use Rattle.machine_core.specs.Data.{segment}
-use Rattle.machine_core.specs.Memory.{code_of, code_at}
-use Rattle.machine_core.specs.Machine.{machine_run, machine_segments}
-use Rattle.machine_core.specs.Observation.{observe}
-use Rattle.machine_core.specs.Run.{Act, Step}
-use Rattle.machine_core.specs.Step.{request_of}
+use Rattle.x86_core.specs.Data.{segment}
+use Rattle.x86_core.specs.Memory.{code_of, code_at}
+use Rattle.x86_core.specs.Machine.{machine_run, machine_segments}
+use Rattle.x86_core.specs.Observation.{observe}
+use Rattle.x86_core.specs.Run.{Act, Step}
+use Rattle.x86_core.specs.Step.{request_of}
 use Rattle.obj_core.specs.declared.object.Object.{Object}
 use Rattle.obj_core.specs.declared.object.FuncKind.{FuncKind}
 use Rattle.obj_core.specs.declared.object.Func.{Func}

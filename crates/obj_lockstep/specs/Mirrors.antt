@@ -1,8 +1,8 @@
 -- When a state of an image's machine stands for a state of an object's machine.
 use Rattle.std.specs.Prelude.{◌≡◌, ℕ, Bool, true, List}
 use Rattle.x86_core.specs.declared.image.Segment.{Segment}
-use Rattle.machine_core.specs.Memory.{data_of, code_of}
-use Rattle.machine_core.specs.Step.{State}
+use Rattle.x86_core.specs.Memory.{data_of, code_of}
+use Rattle.x86_core.specs.Step.{State}
 use Rattle.obj_core.specs.declared.object.Place.{Place}
 
 -- the state with an address for its place, over other segments

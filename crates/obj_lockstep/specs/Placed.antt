@@ -7,9 +7,9 @@ use Rattle.x86_core.specs.declared.image.Segment.{Segment}
 use Rattle.x86_core.specs.declared.image.Image.{Image}
 use Rattle.x86_core.specs.Arithmetic.{moved}
 use Rattle.x86_core.specs.Encoding.{encoding, IsInstr}
-use Rattle.machine_core.specs.Memory.{reads, writes, code_at, data_of, code_of}
-use Rattle.machine_core.specs.Data.{data_segments}
-use Rattle.machine_core.specs.Machine.{machine_segments}
+use Rattle.x86_core.specs.Memory.{reads, writes, code_at, data_of, code_of}
+use Rattle.x86_core.specs.Data.{data_segments}
+use Rattle.x86_core.specs.Machine.{machine_segments}
 use Rattle.obj_core.specs.declared.object.Object.{Object}
 use Rattle.obj_core.specs.declared.object.Func.{Func}
 use Rattle.obj_core.specs.declared.object.Slot.{Slot}

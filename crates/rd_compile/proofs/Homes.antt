@@ -7,8 +7,8 @@ use Rattle.std.proofs.Math.Seq.{take-append_seam}
 use Rattle.rd_num.specs.Number.{le_bytes, le_number}
 use Rattle.x86_core.specs.Arithmetic.{moved}
 use Rattle.x86_core.proofs.Parts.{number_back4}
-use Rattle.machine_core.specs.Memory.{holds, read_at, write_at, with_bytes}
-use Rattle.machine_core.specs.Data.{stack_start, segment}
+use Rattle.x86_core.specs.Memory.{covers, read_at, write_at, with_bytes}
+use Rattle.x86_core.specs.Data.{stack_start, segment}
 use Rattle.rd_compile.specs.Frame.{frame_start, home_offset, HomeHolds, stack_of}
 
 -- the bytes of the stack are all there
@@ -45,7 +45,7 @@ module _ (results k : ℕ) (few : results ≤ 4000) (below : k < results) where
   high : (n : ℕ) → n ≤ 8 → address + n ≤ stack_start + 67112960
   high n le = omega arith
 
-  inside : (bytes : List ℕ) → IsStack bytes → holds (segment stack_start bytes 6) address 4 ≡ true
+  inside : (bytes : List ℕ) → IsStack bytes → covers (segment stack_start bytes 6) address 4 ≡ true
   inside bytes h = let e : length bytes ≡ 67112960 = h in and_from _ _ (le-leb stack_start address low) (le-leb (address + 4) (stack_start + length bytes) (omega (arith, e, high 4 (omega arith))))
 
   offset_is : address - stack_start ≡ home_offset results k
@@ -87,9 +87,9 @@ module _ (results k : ℕ) (few : results ≤ 4000) (below : k < results) where
 
   -- and the homes before it are as they were
   pub home_kept : (bytes : List ℕ) (w j v : ℕ) → IsStack bytes → j < k → HomeHolds results bytes j v → HomeHolds results (with_home bytes w) j v
-  home_kept bytes w j v h lt holds =
+  home_kept bytes w j v h lt covers =
       let front = take (home_offset results k) bytes in
       let back = drop (home_offset results k + 4) bytes in
       let room : home_offset results j + 4 ≤ home_offset results k = omega arith in
       let same : take 4 (drop (home_offset results j) (front ++ (le_bytes 4 w ++ back))) ≡ take 4 (drop (home_offset results j) bytes) = unchanged bytes (home_offset results j) (home_offset results k) (le_bytes 4 w ++ back) room (let e : length bytes ≡ 67112960 = h in omega (arith, e, within)) in
-      ap le_number same ∙ holds
+      ap le_number same ∙ covers

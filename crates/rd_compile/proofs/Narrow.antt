@@ -29,10 +29,10 @@ use Rattle.x86_core.specs.declared.reg.Reg.{Reg}
 use Rattle.x86_core.specs.declared.reg.Reg.TheVariants.{Rax, Rcx, Rdi}
 use Rattle.x86_core.specs.declared.instr.Instr.{Instr}
 use Rattle.x86_core.specs.Encoding.{IsInstr}
-use Rattle.machine_core.specs.Step.{State, moment_of}
-use Rattle.machine_core.specs.Data.{stack_bytes}
-use Rattle.machine_core.proofs.Laws.{machine_system}
-use Rattle.machine_core.proofs.Stack.{stack_long}
+use Rattle.x86_core.specs.Step.{State, moment_of}
+use Rattle.x86_core.specs.Data.{stack_bytes}
+use Rattle.x86_core.proofs.Steps.{machine_system}
+use Rattle.x86_core.proofs.Stack.{stack_long}
 use Rattle.ir_narrow.specs.declared.narrow.Operation.{Operation}
 use Rattle.ir_narrow.specs.declared.narrow.Operation.TheVariants as operation
 use Rattle.ir_narrow.specs.declared.narrow.Value.{Value}

@@ -19,9 +19,9 @@ use Rattle.x86_core.specs.Registers.{with_word}
 use Rattle.x86_core.specs.Arithmetic.{moved, alu_flags}
 use Rattle.x86_core.specs.Encoding.{encoding}
 use Rattle.x86_core.specs.Effect.{effect_of}
-use Rattle.machine_core.specs.Step.{State, Goes, sorted, act, request_of, after_read, after_write}
-use Rattle.machine_core.specs.Memory.{write_at}
-use Rattle.machine_core.specs.Data.{stack_end, stack_bytes}
+use Rattle.x86_core.specs.Step.{State, Goes, sorted, act, request_of, after_read, after_write}
+use Rattle.x86_core.specs.Memory.{write_at}
+use Rattle.x86_core.specs.Data.{stack_end, stack_bytes}
 use Rattle.ir_narrow.specs.declared.narrow.Operation.{Operation}
 use Rattle.ir_narrow.specs.declared.narrow.Operation.TheVariants as operation
 use Rattle.ir_narrow.specs.declared.narrow.Value.{Value}

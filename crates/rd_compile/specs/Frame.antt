@@ -2,7 +2,7 @@
 use Rattle.std.specs.Prelude.{◌≡◌, ℕ, ◌+◌, ◌-◌, ◌*◌, List, [], ◌∷◌, take, drop}
 use Rattle.rd_num.specs.Number.{le_number}
 use Rattle.x86_core.specs.declared.image.Segment.{Segment}
-use Rattle.machine_core.specs.Data.{stack_start, stack_end, segment}
+use Rattle.x86_core.specs.Data.{stack_start, stack_end, segment}
 use Rattle.rd_compile.specs.NarrowCode.{frame_bytes}
 
 -- rsp in `main`, which has this many results

@@ -3,10 +3,10 @@ use Rattle.std.proofs.Common.{◌≡◌, ◌≢◌, ℕ, zero, suc, ◌≤◌, B
 use Rattle.std.proofs.lemmas.Bool.Decides.{nat_tests}
 use Rattle.behavior.specs.Ending.{Strayed}
 use Rattle.behavior.specs.System.{iter}
-use Rattle.machine_core.specs.Step.{State}
-use Rattle.machine_core.specs.Run.{Step, run_over}
-use Rattle.machine_core.specs.Machine.{machine_start, machine_step}
-use Rattle.machine_core.specs.Observation.{Observation, observe, reply_to}
+use Rattle.x86_core.specs.Step.{State}
+use Rattle.x86_core.specs.Run.{Step, run_over}
+use Rattle.x86_core.specs.Machine.{machine_start, machine_step}
+use Rattle.x86_core.specs.Observation.{Observation, observe, reply_to}
 use Rattle.obj_core.specs.declared.object.Object.{Object}
 use Rattle.obj_core.specs.SymbolicMachine.{symbolic_step, symbolic_start}
 use Rattle.obj_core.specs.WellFormed.{IsWellFormed}

@@ -6,8 +6,8 @@ use Rattle.rd_io.specs.Outside.{Gets, IsPrefixOf}
 use Rattle.rd_io.specs.declared.RunFault.{RunFault}
 use Rattle.rd_io.specs.declared.RunFault.TheVariants as fault
 use Rattle.x86_core.specs.declared.image.Image.{Image}
-use Rattle.machine_core.specs.Step.{State}
-use Rattle.machine_core.specs.Machine.{machine_start, machine_step}
+use Rattle.x86_core.specs.Step.{State}
+use Rattle.x86_core.specs.Machine.{machine_start, machine_step}
 use Rattle.xom_machine.specs.declared.machine.Machine.{Machine}
 use Rattle.xom_machine.specs.Standing.{state_of, Told, told, Stands}
 use Rattle.xom_machine.specs.Calls.{Took, Charged, CutOff, IsCut, GotPart, piece_of, AsksIn}

@@ -8,8 +8,8 @@ use Rattle.rd_io.specs.declared.RunFault.TheVariants as fault
 use Rattle.rd_io.specs.declared.PutFail.{PutFail}
 use Rattle.rd_io.specs.declared.PutFail.TheVariants as put
 use Rattle.x86_core.specs.declared.image.Image.{Image}
-use Rattle.machine_core.specs.Machine.{machine_start, machine_step}
-use Rattle.machine_core.specs.Observation.{observe}
+use Rattle.x86_core.specs.Machine.{machine_start, machine_step}
+use Rattle.x86_core.specs.Observation.{observe}
 use Rattle.xom_machine.specs.declared.machine.Machine.{Machine}
 use Rattle.xom_machine.specs.Standing.{state_of, Stands}
 use Rattle.xom_machine.specs.Calls.{Took, Charged, CutOff, IsCut}

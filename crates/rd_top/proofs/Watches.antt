@@ -2,7 +2,7 @@
 use Rattle.std.proofs.Common.{◌≡◌, ℕ, ◌++◌, List, length, Option, Some, Ok, ap, subst, ◌∙◌, inl, inr}
 use Rattle.rd_io.specs.Outside.{GetsPart, CountsPart}
 use Rattle.x86_core.specs.declared.image.Image.{Image}
-use Rattle.machine_core.specs.Observation.{Observation}
+use Rattle.x86_core.specs.Observation.{Observation}
 use Rattle.xom_machine.specs.Standing.{ending_of}
 use Rattle.watch_script.specs.declared.event.Event.{Event}
 use Rattle.watch_script.specs.declared.report.Report.{Report}

@@ -3,7 +3,7 @@ use Rattle.std.specs.Prelude.{◌≡◌, ◌≢◌, ℕ, ◌⊎◌, List, Option
 use Rattle.behavior.specs.Preserves.{Preserves}
 use Rattle.ir_core.specs.Run.{source_run}
 use Rattle.ir_narrow.specs.Resolved.{module_of}
-use Rattle.machine_core.specs.Machine.{machine_behavior}
+use Rattle.x86_core.specs.Machine.{machine_behavior}
 use Rattle.rd_io.specs.Causes.{Rose}
 use Rattle.ir_narrow.specs.NarrowText.{Program, IsNarrowText}
 use Rattle.obj_core.specs.declared.object.Object.{Object}

@@ -1,9 +1,9 @@
 -- What `lay` does to the outside, answer by answer.
 use Rattle.std.specs.Prelude.{◌≡◌, ◌≢◌, ℕ, ◌⊎◌, List, Option}
 use Rattle.behavior.specs.Ending.{Strayed}
-use Rattle.machine_core.specs.Machine.{machine_run}
-use Rattle.machine_core.specs.Observation.{observe}
-use Rattle.machine_core.specs.Run.{Act}
+use Rattle.x86_core.specs.Machine.{machine_run}
+use Rattle.x86_core.specs.Observation.{observe}
+use Rattle.x86_core.specs.Run.{Act}
 use Rattle.obj_core.specs.SymbolicMachine.{symbolic_run}
 use Rattle.rd_io.specs.Causes.{Rose}
 use Rattle.obj_core.specs.declared.object.Object.{Object}

@@ -5,8 +5,8 @@ use Rattle.rd_io.specs.Outside.{Gets, Counts, IsPrefixOf}
 use Rattle.rd_io.specs.Causes.{Rose}
 use Rattle.x86_core.specs.declared.image.Image.{Image}
 use Rattle.x86_core.specs.declared.image.MachOutcome.{MachOutcome}
-use Rattle.machine_core.specs.Step.{State}
-use Rattle.machine_core.specs.Machine.{machine_start, machine_step}
+use Rattle.x86_core.specs.Step.{State}
+use Rattle.x86_core.specs.Machine.{machine_start, machine_step}
 use Rattle.elf_file.specs.Rules.{LoadsAs, FailsFirst}
 use Rattle.xom_machine.specs.Standing.{ending_of}
 use Rattle.rd_top.specs.declared.answer.Answer.{Answer}

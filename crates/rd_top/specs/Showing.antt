@@ -4,7 +4,7 @@ use Rattle.rd_io.specs.Causes.{Rose}
 use Rattle.rd_io.specs.declared.RunFault.{RunFault}
 use Rattle.rd_io.specs.declared.RunFault.TheVariants as fault
 use Rattle.x86_core.specs.declared.image.Image.{Image}
-use Rattle.machine_core.specs.Observation.{observe}
+use Rattle.x86_core.specs.Observation.{observe}
 use Rattle.watch_script.specs.ShowText.{text_of}
 use Rattle.rd_top.specs.declared.answer.Answer.{Answer}
 use Rattle.rd_top.specs.declared.answer.Answer.TheVariants as answer

@@ -6,7 +6,7 @@ use Rattle.rd_io.specs.Causes.{Rose}
 use Rattle.rd_io.specs.declared.RunFault.{RunFault}
 use Rattle.rd_io.specs.declared.RunFault.TheVariants as fault
 use Rattle.x86_core.specs.declared.image.Image.{Image}
-use Rattle.machine_core.specs.Observation.{Observation, observe}
+use Rattle.x86_core.specs.Observation.{Observation, observe}
 use Rattle.obj_core.specs.declared.object.Object.{Object}
 use Rattle.obj_core.specs.SymbolicMachine.{symbolic_step, symbolic_start}
 use Rattle.elf_file.specs.Rules.{LoadsAs}

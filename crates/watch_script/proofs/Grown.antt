@@ -17,10 +17,10 @@ use Rattle.x86_core.specs.declared.effect.Change.{Change}
 use Rattle.x86_core.specs.Registers.{word}
 use Rattle.x86_core.specs.Arithmetic.{holds}
 use Rattle.x86_core.specs.Effect.{effect_of}
-use Rattle.machine_core.specs.Memory.{read_at, write_at}
-use Rattle.machine_core.specs.Machine.{machine_fetch, machine_step}
-use Rattle.machine_core.specs.Step as step
-use Rattle.machine_core.specs.Step.{State, Fetched, Request, act, by_access, by_change, after_read, after_write, tested, returned, called, called_word, below, served, after_print, after_take, next_byte, request_of, size_bytes}
+use Rattle.x86_core.specs.Memory.{read_at, write_at}
+use Rattle.x86_core.specs.Machine.{machine_fetch, machine_step}
+use Rattle.x86_core.specs.Step as step
+use Rattle.x86_core.specs.Step.{State, Fetched, Request, act, by_access, by_change, after_read, after_write, tested, returned, called, called_word, below, served, after_print, after_take, next_byte, request_of, size_bytes}
 use Rattle.xom_machine.specs.declared.machine.Machine.{Machine}
 use Rattle.xom_machine.specs.Standing.{state_of, Told, Stands}
 use Rattle.xom_machine.specs.Calls.{Took}

@@ -2,8 +2,8 @@
 use Rattle.std.proofs.Common.{◌≡◌, ℕ, zero, suc, ◌+◌, ◌<◌, Bool, true, false, List, [], ◌∷◌, ◌++◌, length, drop, Option, Some, None, refl, sym, ap, ◌∙◌, arith, subst, slice_index_or, if◌then◌else◌, append_assoc}
 use Rattle.x86_core.specs.declared.image.Segment.{Segment}
 use Rattle.x86_core.specs.declared.reg.Reg.{Reg}
-use Rattle.machine_core.specs.Memory.{reads}
-use Rattle.machine_core.specs.Observation.{readable}
+use Rattle.x86_core.specs.Memory.{reads}
+use Rattle.x86_core.specs.Observation.{readable}
 use Rattle.xom_memory.specs.Access.{readable_at}
 use Rattle.watch_script.specs.ShowText.{register_line, register_lines, segment_text, segments_text}
 

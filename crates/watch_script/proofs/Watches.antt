@@ -9,10 +9,10 @@ use Rattle.rd_io.specs.declared.RunFault.{RunFault}
 use Rattle.rd_io.specs.declared.RunFault.TheVariants as fault
 use Rattle.x86_core.specs.declared.image.Image.{Image}
 use Rattle.x86_core.specs.declared.image.Segment.{Segment}
-use Rattle.machine_core.specs.Memory.{reads, holds, read_at}
-use Rattle.machine_core.specs.Observation.{Observation, readable, observe, reply_to}
-use Rattle.machine_core.specs.Step.{State}
-use Rattle.machine_core.specs.Machine.{machine_start, machine_step}
+use Rattle.x86_core.specs.Memory.{reads, covers, read_at}
+use Rattle.x86_core.specs.Observation.{Observation, readable, observe, reply_to}
+use Rattle.x86_core.specs.Step.{State}
+use Rattle.x86_core.specs.Machine.{machine_start, machine_step}
 use Rattle.xom_machine.specs.declared.machine.Machine.{Machine}
 use Rattle.xom_machine.specs.Standing.{ending_of, state_of, Told, told, Stands}
 use Rattle.xom_machine.specs.Calls.{Took, Charged, CutOff, AsksIn}
@@ -29,12 +29,12 @@ pub read_readable : (ss : List Segment) (at n : ℕ) → read_at (readable ss) a
 read_readable [] at n = refl
 read_readable (s ∷ ss) at n = by (read_readable ss at n) (reads s.rights) refl
   where
-    skipped : (c : Bool) → c ≡ false → read_at ss at n ≡ cond (c && holds s at n) (Some (take n (drop (at - s.start) s.bytes))) (read_at ss at n)
+    skipped : (c : Bool) → c ≡ false → read_at ss at n ≡ cond (c && covers s at n) (Some (take n (drop (at - s.start) s.bytes))) (read_at ss at n)
     skipped true f = absurd (cc)
     skipped false f = refl
 
     by : read_at (readable ss) at n ≡ read_at ss at n → (c : Bool) → reads s.rights ≡ c → read_at (cond c (s ∷ readable ss) (readable ss)) at n ≡ read_at (s ∷ ss) at n
-    by others true e = ap (λ rest. cond (reads s.rights && holds s at n) (Some (take n (drop (at - s.start) s.bytes))) rest) others
+    by others true e = ap (λ rest. cond (reads s.rights && covers s at n) (Some (take n (drop (at - s.start) s.bytes))) rest) others
     by others false e = others ∙ skipped (reads s.rights) e
 
 -- the next instruction of the machine takes a byte, so that of its state does

@@ -2,7 +2,7 @@
 use Rattle.std.specs.Prelude.{◌≡◌, ℕ, ◌-◌, ◌^◌, min, List, [], ◌∷◌, ◌++◌, length, codes, decimal, Option, Some, None}
 use Rattle.hex.specs.Hex.{encode_lower}
 use Rattle.behavior.specs.Ending.{Ending}
-use Rattle.machine_core.specs.Observation.{Observation, reply_to}
+use Rattle.x86_core.specs.Observation.{Observation, reply_to}
 use Rattle.xom_machine.specs.Standing.{ending_of}
 use Rattle.watch_script.specs.declared.event.Event.{Event}
 use Rattle.watch_script.specs.declared.report.Reply.{Reply}

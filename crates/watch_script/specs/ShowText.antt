@@ -11,8 +11,8 @@ use Rattle.x86_core.specs.declared.image.Segment.{Segment}
 use Rattle.x86_core.specs.declared.reg.Reg.{Reg}
 use Rattle.x86_core.specs.declared.reg.Reg.TheVariants.{Rax, Rcx, Rdx, Rbx, Rsp, Rbp, Rsi, Rdi, R8, R9, R10, R11, R12, R13, R14, R15}
 use Rattle.x86_core.specs.Registers.{word}
-use Rattle.machine_core.specs.Memory.{reads, writes, executes}
-use Rattle.machine_core.specs.Observation.{Observation}
+use Rattle.x86_core.specs.Memory.{reads, writes, executes}
+use Rattle.x86_core.specs.Observation.{Observation}
 
 -- a number of 64 bits in sixteen hexadecimal digits
 unfoldable pub word_text : ℕ → List ℕ

@@ -5,9 +5,9 @@ use Rattle.rd_io.specs.Causes.{Rose}
 use Rattle.rd_io.specs.declared.RunFault.{RunFault}
 use Rattle.rd_io.specs.declared.RunFault.TheVariants as fault
 use Rattle.x86_core.specs.declared.image.Image.{Image}
-use Rattle.machine_core.specs.Step.{State}
-use Rattle.machine_core.specs.Machine.{machine_start, machine_step}
-use Rattle.machine_core.specs.Observation.{Observation, observe}
+use Rattle.x86_core.specs.Step.{State}
+use Rattle.x86_core.specs.Machine.{machine_start, machine_step}
+use Rattle.x86_core.specs.Observation.{Observation, observe}
 use Rattle.watch_script.specs.declared.event.Event.{Event}
 use Rattle.watch_script.specs.declared.report.Report.{Report}
 use Rattle.watch_script.specs.Events.{last_after}

@@ -4,7 +4,7 @@
 //! `parse` reads a script, `line` a line of it and `fields` its parts; `event` and `script` have the types.
 //! `watch` makes the reads in one run, and `report_text` writes the `report` on them. `digits` has numbers
 //! and bytes as digits. Texts stand in `specs/ShowText.antt` and `specs/Report.antt`, scripts in
-//! `specs/Script.antt`, over what `machine_core`, `specs/Observation.antt`, says is seen;
+//! `specs/Script.antt`, over what `x86_core`, `specs/Observation.antt`, says is seen;
 //! docs/command-line.md shows them. Addresses, words and bytes are in lower-case hexadecimal, lengths are
 //! decimal and count bytes.
 #![tactic(auto)]

@@ -1,7 +1,7 @@
 //! The lines of the segments that may be read. Each byte is looked at once, and none is copied but into the text.
 
 ghost use Rattle.std.specs.Prelude.{◌≡◌, ◌+◌, ◌*◌, ◌/◌, ◌%◌, ◌^◌, ◌≤◌, ◌<◌, ◌++◌, OnOk, length, take, drop};
-ghost use Rattle.machine_core.specs.Observation.{readable};
+ghost use Rattle.x86_core.specs.Observation.{readable};
 ghost use Rattle.xom_memory.specs.Access.{lent};
 ghost use Rattle.watch_script.specs.ShowText.{rights_text, segment_line, is_blank, piece_text, piece_of, pieces_text, segment_text, segments_text};
 

@@ -1,7 +1,7 @@
 //! The text of what an observer sees of a machine.
 
 ghost use Rattle.std.specs.Prelude.{◌≡◌, ℕ, List as Row, IfOk};
-ghost use Rattle.machine_core.specs.Observation.{observe};
+ghost use Rattle.x86_core.specs.Observation.{observe};
 ghost use Rattle.xom_machine.specs.Standing.{state_of};
 ghost use Rattle.watch_script.specs.ShowText.{text_of};
 

@@ -5,9 +5,9 @@
 
 ghost use Rattle.std.specs.Prelude.{◌≡◌, ℕ, List as Row, [], length, None, Some, true, IfOk, IfErr, OnOk};
 ghost use Rattle.behavior.specs.System.{iter};
-ghost use Rattle.machine_core.specs.Machine.{machine_step};
-ghost use Rattle.machine_core.specs.Memory.{read_at};
-ghost use Rattle.machine_core.specs.Observation.{observe, readable, reply_to};
+ghost use Rattle.x86_core.specs.Machine.{machine_step};
+ghost use Rattle.x86_core.specs.Memory.{read_at};
+ghost use Rattle.x86_core.specs.Observation.{observe, readable, reply_to};
 ghost use Rattle.xom_machine.specs.Standing.{state_of, told};
 ghost use Rattle.xom_machine.specs.Calls.{Took};
 ghost use Rattle.watch_script.specs.Events.{are_in_order, last_after};

@@ -4,3 +4,6 @@ pub mod Rows
 pub mod Whole
 pub mod Back
 pub mod Laws
+pub mod Steps
+pub mod Tabled
+pub mod Stack

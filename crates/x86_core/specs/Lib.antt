@@ -3,3 +3,10 @@ pub mod Arithmetic
 pub mod Effect
 pub mod Encoding
 pub mod Decoding
+pub mod Memory
+pub mod Step
+pub mod Table
+pub mod Run
+pub mod Data
+pub mod Machine
+pub mod Observation

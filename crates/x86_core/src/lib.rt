@@ -17,6 +17,7 @@ pub mod image;
 pub mod instr;
 pub mod reg;
 mod shift;
+pub mod step;
 #[cfg(test)]
 mod tests;
 mod widen;

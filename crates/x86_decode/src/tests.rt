@@ -1,4 +1,4 @@
-//! Encodings of every row, width and kind of register, as GNU `as` writes them, both ways; and bytes
+//! Encodings of every row, width and kind of register, as GNU `as` writes them, and bytes
 //! that begin no instruction, or only a part of one.
 //!
 //! A `rex` before the mnemonic gave the forms of bytes whose registers don't ask for one.
@@ -6,23 +6,16 @@
 use super::*;
 use x86_core::instr::{AluOp, Cond, HighSize, ImmOp, Instr, Mem, ShiftOp, Size, Wide, WidenKind};
 use x86_core::reg::Reg;
-use x86_encode::encode_one;
 
 // How many instructions the bytes spell one after another, up to the first that isn't the next of
-// the list, or whose own bytes aren't those that stand there. Nothing may be left over.
+// the list. Nothing may be left over.
 fn agreeing(bytes: &[u8], instrs: &[Instr]) -> usize {
     let mut rest = bytes;
     for (i, instr) in instrs.iter().enumerate() {
-        let (spelling, count) = encode_one(instr);
         match decode_one(rest) {
             Decoded::One { instr: read, len } => {
                 let here = len as usize;
-                if read != *instr
-                    || len != count
-                    || here > rest.len()
-                    || here > 16
-                    || spelling[..here] != rest[..here]
-                {
+                if read != *instr || here > rest.len() {
                     return i;
                 }
                 rest = &rest[here..];

@@ -12,8 +12,8 @@ use Rattle.x86_core.specs.declared.image.Segment.{Segment}
 use Rattle.x86_core.specs.Registers.{word}
 use Rattle.x86_core.specs.Arithmetic.{moved, holds, division, size_bits, low}
 use Rattle.x86_core.specs.Effect.{effect_of, dividend, divided, set_effect, cmov_effect, jcc_effect}
-use Rattle.machine_core.specs.Memory.{write_at}
-use Rattle.machine_core.specs.Step.{State, sorted, act, by_change, tested, called, called_word, below, request_of, served}
+use Rattle.x86_core.specs.Memory.{write_at}
+use Rattle.x86_core.specs.Step.{State, sorted, act, by_change, tested, called, called_word, below, request_of, served}
 use Rattle.xom_machine.specs.declared.machine.Machine.{Machine}
 use Rattle.xom_machine.specs.Standing.{state_of}
 use Rattle.xom_machine.specs.Changes.{moved_on, carried_out}

@@ -7,9 +7,9 @@ use Rattle.rd_io.proofs.Grown.{gets_both, counts_both}
 use Rattle.x86_core.specs.declared.reg.Reg.TheVariants.{Rsi}
 use Rattle.x86_core.specs.declared.image.Segment.{Segment}
 use Rattle.x86_core.specs.Registers.{word}
-use Rattle.machine_core.specs.Memory.{writes, is_allowed, one_holds, read_at, write_at}
-use Rattle.machine_core.specs.Step.{State, answered, bad_address, after_print, after_take, next_byte, served}
-use Rattle.machine_core.specs.Step as request
+use Rattle.x86_core.specs.Memory.{writes, is_allowed, one_covers, read_at, write_at}
+use Rattle.x86_core.specs.Step.{State, answered, bad_address, after_print, after_take, next_byte, served}
+use Rattle.x86_core.specs.Step as request
 use Rattle.xom_memory.proofs.Allowed.{write_refused, write_allowed}
 use Rattle.xom_machine.specs.declared.machine.Machine.{Machine}
 use Rattle.xom_machine.specs.Standing.{state_of, Told, told, Stands}
@@ -83,7 +83,7 @@ module _ (m : Machine) (after : ℕ) where
     where
       by : (o : Option (List Segment)) → write_at m.memory (word m.regs Rsi) (b ∷ []) ≡ o → o ≡ None
       by None f = refl
-      by (Some ss) f = let h : one_holds writes m.memory (word m.regs Rsi) 1 ≡ true = write_allowed m.memory ss (word m.regs Rsi) (b ∷ []) f in absurd (cc)
+      by (Some ss) f = let h : one_covers writes m.memory (word m.regs Rsi) 1 ≡ true = write_allowed m.memory ss (word m.regs Rsi) (b ∷ []) f in absurd (cc)
 
   pub take_refused : is_allowed writes m.memory (word m.regs Rsi) 1 ≡ false → Becomes (served request.Takes after after) m (with_answer bad_address)
   take_refused e left printed taken =
@@ -94,7 +94,7 @@ module _ (m : Machine) (after : ℕ) where
   some_after b e = by (write_at m.memory (word m.regs Rsi) (b ∷ [])) refl
     where
       by : (o : Option (List Segment)) → write_at m.memory (word m.regs Rsi) (b ∷ []) ≡ o → (ss : List Segment) × (o ≡ Some ss)
-      by None f = let h : one_holds writes m.memory (word m.regs Rsi) 1 ≡ false = write_refused m.memory (word m.regs Rsi) (b ∷ []) f in absurd (cc)
+      by None f = let h : one_covers writes m.memory (word m.regs Rsi) 1 ≡ false = write_refused m.memory (word m.regs Rsi) (b ∷ []) f in absurd (cc)
       by (Some ss) f = (ss, refl)
 
   pub take_asks : is_allowed writes m.memory (word m.regs Rsi) 1 ≡ true → AsksIn (served request.Takes after after) m

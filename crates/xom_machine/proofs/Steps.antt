@@ -7,9 +7,9 @@ use Rattle.rd_io.specs.Outside.{Gets, Counts}
 use Rattle.rd_io.proofs.Grown.{gets_nothing, counts_nothing, gets_both, counts_both}
 use Rattle.rd_io.specs.declared.RunFault.{RunFault}
 use Rattle.rd_io.specs.declared.RunFault.TheVariants as fault
-use Rattle.machine_core.specs.Step.{State, Fetched, act}
-use Rattle.machine_core.specs.Machine.{machine_fetch, machine_step}
-use Rattle.machine_core.proofs.Laws.{step_stays}
+use Rattle.x86_core.specs.Step.{State, Fetched, act}
+use Rattle.x86_core.specs.Machine.{machine_fetch, machine_step}
+use Rattle.x86_core.proofs.Steps.{step_stays}
 use Rattle.xom_machine.specs.declared.machine.Machine.{Machine}
 use Rattle.xom_machine.specs.Standing.{ending_of, state_of, Told, Stands}
 use Rattle.xom_machine.specs.Calls.{Took, Did, Ran, Kept, CutOff, IsCut, GotPart, Becomes}

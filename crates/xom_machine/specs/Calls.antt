@@ -5,8 +5,8 @@ use Rattle.rd_io.specs.Causes.{Rose}
 use Rattle.rd_io.specs.Outside.{Gets, Counts, IsPrefixOf}
 use Rattle.rd_io.specs.declared.RunFault.{RunFault}
 use Rattle.rd_io.specs.declared.RunFault.TheVariants.{Input, Output, NoMemory}
-use Rattle.machine_core.specs.Step.{State}
-use Rattle.machine_core.specs.Machine.{machine_step}
+use Rattle.x86_core.specs.Step.{State}
+use Rattle.x86_core.specs.Machine.{machine_step}
 use Rattle.xom_machine.specs.declared.machine.Machine.{Machine}
 use Rattle.xom_machine.specs.Standing.{state_of, Told, Stands}
 

@@ -8,11 +8,11 @@ use Rattle.x86_core.specs.declared.effect.Next.TheVariants as next
 use Rattle.x86_core.specs.declared.effect.Change.{Change}
 use Rattle.x86_core.specs.Registers.{word}
 use Rattle.x86_core.specs.Arithmetic.{moved}
-use Rattle.machine_core.specs.Memory.{read_at, write_at}
-use Rattle.machine_core.specs.Step.{State, by_access, below, called, returned, request_of, served}
+use Rattle.x86_core.specs.Memory.{read_at, write_at}
+use Rattle.x86_core.specs.Step.{State, by_access, below, called, returned, request_of, served}
 use Rattle.xom_machine.specs.declared.kernel.Request.{Request}
 use Rattle.xom_machine.specs.declared.kernel.Request.TheVariants.{Exits, Idles, Prints, Takes, Unknown}
-use Rattle.machine_core.specs.Step as request
+use Rattle.x86_core.specs.Step as request
 
 -- without the kernel: on to the next instruction, to another place, or a stop
 abbrev pub moved_on : Next → Change → ℕ → State ℕ → State ℕ

@@ -5,7 +5,7 @@ use Rattle.behavior.specs.Ending as ending
 use Rattle.rd_io.specs.Outside.{Gets, Counts}
 use Rattle.x86_core.specs.declared.image.MachOutcome.{MachOutcome}
 use Rattle.x86_core.specs.declared.image.MachOutcome.TheVariants.{Going, Ended, Divide, Invalid, Breakpoint, PageFault, NoForm, NoFlag, BadCall}
-use Rattle.machine_core.specs.Step.{State}
+use Rattle.x86_core.specs.Step.{State}
 use Rattle.xom_machine.specs.declared.machine.Machine.{Machine}
 
 abbrev pub ending_of : MachOutcome → Ending

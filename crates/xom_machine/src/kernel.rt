@@ -6,8 +6,8 @@
 ghost use Rattle.std.specs.Prelude.{◌≡◌, ℕ, ◌+◌, ◌*◌, ◌<◌, List, [], ◌∷◌, Option, Some, IsTrue};
 ghost use Rattle.x86_core.specs.declared.reg.Reg.TheVariants.{Rsi};
 ghost use Rattle.x86_core.specs.Registers.{word};
-ghost use Rattle.machine_core.specs.Memory.{writes, is_allowed, write_at};
-ghost use Rattle.machine_core.specs.Step.{Prints, Takes, request_of, answered, flag_number, served};
+ghost use Rattle.x86_core.specs.Memory.{writes, is_allowed, write_at};
+ghost use Rattle.x86_core.specs.Step.{Prints, Takes, request_of, answered, flag_number, served};
 ghost use Rattle.xom_machine.specs.Standing.{told};
 ghost use Rattle.xom_machine.specs.Changes.{asked_for, PrintsSome};
 ghost use Rattle.xom_machine.specs.Calls.{Ran, Charged};
@@ -37,7 +37,7 @@ pub enum Request {
 }
 
 /// What the registers ask of the kernel. Takes no memory.
-#[tactic(auto, unfolding(machine_core::specs::Step::request_of))]
+#[tactic(auto, unfolding(x86_core::specs::Step::request_of))]
 pub fn asked(regs: &Regs) -> Request
     ensures value { asked_for result ≡ request_of regs.now }
     ensures some { PrintsSome result }

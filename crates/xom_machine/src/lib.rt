@@ -1,7 +1,7 @@
 //! The machine that runs images: one instruction a step, over a memory whose code may be hidden.
 //!
 //! `machine` has the value with its start, its steps and its readers, `step` what one instruction
-//! does, and `kernel` the three system calls. What a machine is stands in `machine_core`,
+//! does, and `kernel` the three system calls. What a machine is stands in `x86_core`,
 //! `specs/Machine.antt`; a step here takes no memory, and a machine that has stopped stays as it is.
 //! Source: Intel 64 and IA-32 Architectures Software Developer's Manual, volume 2, for instructions.
 #![tactic(auto)]

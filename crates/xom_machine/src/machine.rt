@@ -1,7 +1,7 @@
 //! A machine, from its start to where it stops.
 
 ghost use Rattle.std.specs.Prelude.{◌≡◌, ℕ, List, [], IfOk, OnOk, OnErr, IfErr};
-ghost use Rattle.machine_core.specs.Machine.{machine_start, machine_step};
+ghost use Rattle.x86_core.specs.Machine.{machine_start, machine_step};
 ghost use Rattle.xom_machine.specs.Standing.{state_of, told};
 ghost use Rattle.xom_machine.specs.Calls.{Took, Charged, Kept, CutOff, Ran};
 

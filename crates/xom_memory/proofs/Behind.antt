@@ -2,7 +2,7 @@
 use Rattle.std.proofs.Common.{◌≡◌, ℕ, ◌-◌, zero, suc, Bool, true, false, ◌&&◌, ◌||◌, List, [], ◌∷◌, ◌++◌, length, take, drop, Option, Some, None, refl, ap, ◌∙◌, if◌then◌else◌, slice_get}
 use Rattle.x86_core.specs.declared.image.Segment.{Segment}
 use Rattle.x86_core.specs.declared.image.Rights.{Rights}
-use Rattle.machine_core.specs.Memory.{reads, writes, executes, holds, one_holds, read_at, write_at, code_at, with_bytes, behind}
+use Rattle.x86_core.specs.Memory.{reads, writes, executes, covers, one_covers, read_at, write_at, code_at, with_bytes, behind}
 
 -- the first choice, or else the second
 first_or : {A : Type 0} → Option A → Option A → Option A
@@ -12,7 +12,7 @@ first_or (Some a) b = Some a
 module _ (t : Segment) where
   pub read_front : (ss : List Segment) (at n : ℕ) (bs : List ℕ) → read_at ss at n ≡ Some bs → read_at (ss ++ t ∷ []) at n ≡ Some bs
   read_front [] at n bs e = absurd (cc)
-  read_front (s ∷ ss) at n bs e = by (reads s.rights && holds s at n) (read_front ss at n bs) e
+  read_front (s ∷ ss) at n bs e = by (reads s.rights && covers s at n) (read_front ss at n bs) e
     where
       by : (c : Bool) → (read_at ss at n ≡ Some bs → read_at (ss ++ t ∷ []) at n ≡ Some bs) →
           (if c then Some (take n (drop (at - s.start) s.bytes)) else read_at ss at n) ≡ Some bs →
@@ -22,7 +22,7 @@ module _ (t : Segment) where
 
   pub read_back : (ss : List Segment) (at n : ℕ) → read_at ss at n ≡ None → read_at (ss ++ t ∷ []) at n ≡ read_at (t ∷ []) at n
   read_back [] at n e = refl
-  read_back (s ∷ ss) at n e = by (reads s.rights && holds s at n) (read_back ss at n) e
+  read_back (s ∷ ss) at n e = by (reads s.rights && covers s at n) (read_back ss at n) e
     where
       by : (c : Bool) → (read_at ss at n ≡ None → read_at (ss ++ t ∷ []) at n ≡ read_at (t ∷ []) at n) →
           (if c then Some (take n (drop (at - s.start) s.bytes)) else read_at ss at n) ≡ None →
@@ -32,7 +32,7 @@ module _ (t : Segment) where
 
   pub code_front : (ss : List Segment) (at : ℕ) (bs : List ℕ) → code_at ss at ≡ Some bs → code_at (ss ++ t ∷ []) at ≡ Some bs
   code_front [] at bs e = absurd (cc)
-  code_front (s ∷ ss) at bs e = by (executes s.rights && holds s at 1) (code_front ss at bs) e
+  code_front (s ∷ ss) at bs e = by (executes s.rights && covers s at 1) (code_front ss at bs) e
     where
       by : (c : Bool) → (code_at ss at ≡ Some bs → code_at (ss ++ t ∷ []) at ≡ Some bs) →
           (if c then Some (take 16 (drop (at - s.start) s.bytes)) else code_at ss at) ≡ Some bs →
@@ -42,7 +42,7 @@ module _ (t : Segment) where
 
   pub code_back : (ss : List Segment) (at : ℕ) → code_at ss at ≡ None → code_at (ss ++ t ∷ []) at ≡ code_at (t ∷ []) at
   code_back [] at e = refl
-  code_back (s ∷ ss) at e = by (executes s.rights && holds s at 1) (code_back ss at) e
+  code_back (s ∷ ss) at e = by (executes s.rights && covers s at 1) (code_back ss at) e
     where
       by : (c : Bool) → (code_at ss at ≡ None → code_at (ss ++ t ∷ []) at ≡ code_at (t ∷ []) at) →
           (if c then Some (take 16 (drop (at - s.start) s.bytes)) else code_at ss at) ≡ None →
@@ -52,7 +52,7 @@ module _ (t : Segment) where
 
   pub write_front : (ss more : List Segment) (at : ℕ) (bs : List ℕ) → write_at ss at bs ≡ Some more → write_at (ss ++ t ∷ []) at bs ≡ Some (more ++ t ∷ [])
   write_front [] more at bs e = absurd (cc)
-  write_front (s ∷ ss) more at bs e = by (writes s.rights && holds s at (length bs)) (write_at ss at bs) (write_front ss) more refl e
+  write_front (s ∷ ss) more at bs e = by (writes s.rights && covers s at (length bs)) (write_at ss at bs) (write_front ss) more refl e
     where
       by : (c : Bool) (o : Option (List Segment)) → ((more : List Segment) (at : ℕ) (bs : List ℕ) → write_at ss at bs ≡ Some more → write_at (ss ++ t ∷ []) at bs ≡ Some (more ++ t ∷ [])) →
           (more : List Segment) → write_at ss at bs ≡ o →
@@ -62,9 +62,9 @@ module _ (t : Segment) where
       by false None go more f e = absurd (cc)
       by false (Some ms) go more f e = let same : s ∷ ms ≡ more = cc in ap (behind s) (go ms at bs f) ∙ ap (λ (m : List Segment). Some (m ++ t ∷ [])) same
 
-  pub write_back : (ss : List Segment) (at : ℕ) (bs : List ℕ) → write_at ss at bs ≡ None → writes t.rights && holds t at (length bs) ≡ true → write_at (ss ++ t ∷ []) at bs ≡ Some (ss ++ with_bytes t at bs ∷ [])
+  pub write_back : (ss : List Segment) (at : ℕ) (bs : List ℕ) → write_at ss at bs ≡ None → writes t.rights && covers t at (length bs) ≡ true → write_at (ss ++ t ∷ []) at bs ≡ Some (ss ++ with_bytes t at bs ∷ [])
   write_back [] at bs e h = rw h refl
-  write_back (s ∷ ss) at bs e h = by (writes s.rights && holds s at (length bs)) (write_at ss at bs) (λ f. write_back ss at bs f h) refl e
+  write_back (s ∷ ss) at bs e h = by (writes s.rights && covers s at (length bs)) (write_at ss at bs) (λ f. write_back ss at bs f h) refl e
     where
       by : (c : Bool) (o : Option (List Segment)) → (write_at ss at bs ≡ None → write_at (ss ++ t ∷ []) at bs ≡ Some (ss ++ with_bytes t at bs ∷ [])) → write_at ss at bs ≡ o →
           (if c then Some (with_bytes s at bs ∷ ss) else behind s o) ≡ None →
@@ -73,9 +73,9 @@ module _ (t : Segment) where
       by false None go f e = ap (behind s) (go f)
       by false (Some ms) go f e = absurd (cc)
 
-  pub write_none : (ss : List Segment) (at : ℕ) (bs : List ℕ) → write_at ss at bs ≡ None → writes t.rights && holds t at (length bs) ≡ false → write_at (ss ++ t ∷ []) at bs ≡ None
+  pub write_none : (ss : List Segment) (at : ℕ) (bs : List ℕ) → write_at ss at bs ≡ None → writes t.rights && covers t at (length bs) ≡ false → write_at (ss ++ t ∷ []) at bs ≡ None
   write_none [] at bs e h = rw h refl
-  write_none (s ∷ ss) at bs e h = by (writes s.rights && holds s at (length bs)) (write_at ss at bs) (λ f. write_none ss at bs f h) refl e
+  write_none (s ∷ ss) at bs e h = by (writes s.rights && covers s at (length bs)) (write_at ss at bs) (λ f. write_none ss at bs f h) refl e
     where
       by : (c : Bool) (o : Option (List Segment)) → (write_at ss at bs ≡ None → write_at (ss ++ t ∷ []) at bs ≡ None) → write_at ss at bs ≡ o →
           (if c then Some (with_bytes s at bs ∷ ss) else behind s o) ≡ None →
@@ -84,12 +84,12 @@ module _ (t : Segment) where
       by false None go f e = ap (behind s) (go f)
       by false (Some ms) go f e = absurd (cc)
 
-  pub holds_behind : (right : Rights → Bool) (ss : List Segment) (at n : ℕ) → one_holds right (ss ++ t ∷ []) at n ≡ (one_holds right ss at n || one_holds right (t ∷ []) at n)
+  pub holds_behind : (right : Rights → Bool) (ss : List Segment) (at n : ℕ) → one_covers right (ss ++ t ∷ []) at n ≡ (one_covers right ss at n || one_covers right (t ∷ []) at n)
   holds_behind right [] at n = refl
-  holds_behind right (s ∷ ss) at n = by (right s.rights && holds s at n) (holds_behind right ss at n)
+  holds_behind right (s ∷ ss) at n = by (right s.rights && covers s at n) (holds_behind right ss at n)
     where
-      by : (c : Bool) → one_holds right (ss ++ t ∷ []) at n ≡ (one_holds right ss at n || one_holds right (t ∷ []) at n) →
-          (c || one_holds right (ss ++ t ∷ []) at n) ≡ ((c || one_holds right ss at n) || one_holds right (t ∷ []) at n)
+      by : (c : Bool) → one_covers right (ss ++ t ∷ []) at n ≡ (one_covers right ss at n || one_covers right (t ∷ []) at n) →
+          (c || one_covers right (ss ++ t ∷ []) at n) ≡ ((c || one_covers right ss at n) || one_covers right (t ∷ []) at n)
       by true go = refl
       by false go = go
 

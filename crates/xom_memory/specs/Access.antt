@@ -3,7 +3,7 @@ use Rattle.std.specs.Prelude.{ℕ, zero, suc, ◌&&◌, if◌then◌else◌, opt
 use Rattle.std.specs.Option.{unwrap_or}
 use Rattle.x86_core.specs.declared.image.Rights.{Rights}
 use Rattle.x86_core.specs.declared.image.Segment.{Segment}
-use Rattle.machine_core.specs.Memory.{reads, writes, holds, read_at, write_at}
+use Rattle.x86_core.specs.Memory.{reads, writes, covers, read_at, write_at}
 use Rattle.xom_memory.specs.declared.segment.ReadableSegment.{ReadableSegment}
 
 -- the bytes of a range that may be read
@@ -38,7 +38,7 @@ abbrev pub Wrote : Bool → Option (List Segment) → List Segment → List Segm
 Wrote true after old new = after ≡ Some new
 Wrote false after old new = (after ≡ None) × (new ≡ old)
 
--- the index of the first segment that may be written and holds a range
+-- the index of the first segment that may be written and covers a range
 abbrev pub place_of : List Segment → ℕ → ℕ → Option ℕ
 place_of [] at n = None
-place_of (s ∷ ss) at n = if writes s.rights && holds s at n then Some 0 else option_map suc (place_of ss at n)
+place_of (s ∷ ss) at n = if writes s.rights && covers s at n then Some 0 else option_map suc (place_of ss at n)

@@ -1,9 +1,9 @@
 //! The store and its calls, each of which is allowed or refused as a whole.
 
 ghost use Rattle.std.specs.Prelude.{◌≡◌, ◌≢◌, ◌↔◌, ◌≤◌, ◌<◌, [], ◌∷◌, ◌++◌, None, Some, Bool, false, IfOk, IfErr, IfSome, OnOk, OnErr, IsOk, IsErr, IsTrue, MatchOption, MatchResult, option_map, slice_get, take, drop, length};
-ghost use Rattle.machine_core.specs.Memory.{reads, writes, executes, one_holds, is_allowed, read_at, write_at, code_at};
-ghost use Rattle.machine_core.specs.Data.{stack_start, segment};
-ghost use Rattle.machine_core.specs.Machine.{machine_segments};
+ghost use Rattle.x86_core.specs.Memory.{reads, writes, executes, one_covers, is_allowed, read_at, write_at, code_at};
+ghost use Rattle.x86_core.specs.Data.{stack_start, segment};
+ghost use Rattle.x86_core.specs.Machine.{machine_segments};
 ghost use Rattle.xom_memory.specs.Access.{bytes_at, written_at, outline_of, place_of, readable_at, lent as lent_segment, Wrote};
 
 use crate::segment::{Part, ReadableSegment, may_execute, may_read, may_write};
@@ -34,7 +34,7 @@ pub struct Memory {
 impl Model for Memory {
     ghost use Rattle.std.specs.Prelude.{List, [], ◌∷◌, ◌++◌};
     ghost use Rattle.x86_core.specs.declared.image.Segment.{Segment as Shown};
-    ghost use Rattle.machine_core.specs.Data.{stack_start, segment};
+    ghost use Rattle.x86_core.specs.Data.{stack_start, segment};
 
     ghost Value = { List Shown };
 
@@ -75,7 +75,7 @@ impl Memory {
         readable_part(self.parts.as_slice(), &self.stack, i)
     }
 
-    /// The bytes of a range, where one segment that may be read holds it.
+    /// The bytes of a range, where one segment that may be read covers it.
     #[tactic(auto, using(crate::proofs::Allowed::read_length))]
     pub fn bytes(&self, at: u64, len: usize) -> Option<&[u8]>
         ensures count { IfSome result (λ b. length b.now ≡ len) }
@@ -86,7 +86,7 @@ impl Memory {
 
     /// Reads the bytes from the address `at` on.
     ///
-    /// `Refused` comes exactly where no one segment that may be read holds the whole range; nothing
+    /// `Refused` comes exactly where no one segment that may be read covers the whole range; nothing
     /// changes then. An empty range is always allowed.
     #[tactic(auto, using(crate::proofs::Allowed::read_length, crate::proofs::Allowed::read_allowed, crate::proofs::Allowed::read_refused, crate::proofs::Allowed::read_nothing))]
     pub fn read_into(&self, at: u64, out: &mut [u8]) -> Result<(), Refused>
@@ -106,7 +106,7 @@ impl Memory {
 
     /// Writes bytes from the address `at` on.
     ///
-    /// `Refused` comes exactly where no one segment that may be written holds the whole range;
+    /// `Refused` comes exactly where no one segment that may be written covers the whole range;
     /// nothing changes then. No bytes may be written anywhere.
     #[tactic(auto, using(crate::proofs::Allowed::write_allowed, crate::proofs::Allowed::write_refused))]
     pub fn write_from(&mut self, at: u64, bytes: &[u8]) -> Result<(), WriteFault>
@@ -144,7 +144,7 @@ impl Memory {
     /// The code from the address `at` on: sixteen bytes, or as many as are left of the segment.
     ///
     /// Answers how many there are, 1 to 16. `Refused` comes exactly where no segment that may be
-    /// executed holds the address; nothing changes then.
+    /// executed covers the address; nothing changes then.
     #[tactic(auto, using(crate::proofs::Allowed::code_count, crate::proofs::Behind::code_front, crate::proofs::Behind::code_back))]
     pub fn fetch(&self, at: u64, out: &mut [u8; 16]) -> Result<u8, Refused>
         ensures refused { IsErr result ↔ (code_at self.now at ≡ None) }
@@ -195,27 +195,27 @@ fn readable_part<'a>(parts: &'a [Part], stack: &'a Stack, i: usize) -> Option<Re
     }
 }
 
-// The bytes of a range, where a segment or the stack may be read and holds it.
+// The bytes of a range, where a segment or the stack may be read and covers it.
 #[tactic(auto, using(crate::proofs::Behind::read_front, crate::proofs::Behind::read_back))]
 fn lent<'a>(parts: &'a [Part], stack: &'a Stack, at: u64, len: usize) -> Option<&'a [u8]>
     ensures { MatchOption result (read_at (parts.now ++ segment stack_start stack.now 6 ∷ []) at len ≡ None) (λ b. read_at (parts.now ++ segment stack_start stack.now 6 ∷ []) at len ≡ Some b.now) }
 {
     match readable(parts, at, len) {
         Some(bytes) => Some(bytes),
-        None if stack.holds(at, len) => Some(stack.range(at, len)),
+        None if stack.covers(at, len) => Some(stack.range(at, len)),
         None => None,
     }
 }
 
-// Whether a segment or the stack may be written and holds a range.
+// Whether a segment or the stack may be written and covers a range.
 #[tactic(auto, using(crate::proofs::Behind::holds_behind))]
 fn is_writable(parts: &[Part], stack: &Stack, at: u64, len: usize) -> bool
-    ensures { result ≡ one_holds writes (parts.now ++ segment stack_start stack.now 6 ∷ []) at len }
+    ensures { result ≡ one_covers writes (parts.now ++ segment stack_start stack.now 6 ∷ []) at len }
 {
-    is_any_writable(parts, at, len) || stack.holds(at, len)
+    is_any_writable(parts, at, len) || stack.covers(at, len)
 }
 
-// Writes bytes where a segment or the stack may be written and holds their range.
+// Writes bytes where a segment or the stack may be written and covers their range.
 #[tactic(auto, using(crate::proofs::Behind::write_front, crate::proofs::Behind::write_back, crate::proofs::Behind::write_none))]
 fn put_at(parts: &mut [Part], stack: &mut Stack, at: u64, bytes: &[u8]) -> bool
     ensures { let all = parts.old ++ segment stack_start stack.old 6 ∷ [] in Wrote result (write_at all at bytes.now) all (parts.new ++ segment stack_start stack.new 6 ∷ []) }
@@ -223,7 +223,7 @@ fn put_at(parts: &mut [Part], stack: &mut Stack, at: u64, bytes: &[u8]) -> bool
     if write_in(parts, at, bytes) {
         return true;
     }
-    let fits = stack.holds(at, bytes.len());
+    let fits = stack.covers(at, bytes.len());
     if fits {
         stack.put(at, bytes);
     }
@@ -248,55 +248,55 @@ fn copies(alloc: Global, segments: &[Segment]) -> Result<Vec<Part>, NoMemory>
     Ok(parts)
 }
 
-// The bytes of a range, where one of the segments may be read and holds it.
+// The bytes of a range, where one of the segments may be read and covers it.
 fn readable<'a>(parts: &'a [Part], at: u64, len: usize) -> Option<&'a [u8]>
     ensures { MatchOption result (read_at parts.now at len ≡ None) (λ b. read_at parts.now at len ≡ Some b.now) }
 {
     for part in parts {
-        if may_read(part.rights()) && part.holds(at, len) {
+        if may_read(part.rights()) && part.covers(at, len) {
             return Some(part.range(at, len));
         }
     }
     None
 }
 
-// Up to sixteen bytes of code, where one of the segments may be executed and holds their address.
+// Up to sixteen bytes of code, where one of the segments may be executed and covers their address.
 fn executable<'a>(parts: &'a [Part], at: u64) -> Option<&'a [u8]>
     ensures { MatchOption result (code_at parts.now at ≡ None) (λ b. code_at parts.now at ≡ Some b.now) }
 {
     for part in parts {
-        if may_execute(part.rights()) && part.holds(at, 1) {
+        if may_execute(part.rights()) && part.covers(at, 1) {
             return Some(part.code(at));
         }
     }
     None
 }
 
-// Whether one of the segments may be written and holds a range.
+// Whether one of the segments may be written and covers a range.
 fn is_any_writable(parts: &[Part], at: u64, len: usize) -> bool
-    ensures { result ≡ one_holds writes parts.now at len }
+    ensures { result ≡ one_covers writes parts.now at len }
 {
     for part in parts {
-        if may_write(part.rights()) && part.holds(at, len) {
+        if may_write(part.rights()) && part.covers(at, len) {
             return true;
         }
     }
     false
 }
 
-// The index of the first segment that may be written and holds a range.
+// The index of the first segment that may be written and covers a range.
 fn writable_place(parts: &[Part], at: u64, len: usize) -> Option<usize>
     ensures { result ≡ place_of parts.now at len }
 {
     for i in 0..parts.len() {
-        if may_write(parts[i].rights()) && parts[i].holds(at, len) {
+        if may_write(parts[i].rights()) && parts[i].covers(at, len) {
             return Some(i);
         }
     }
     None
 }
 
-// Writes bytes where one of the segments may be written and holds their range.
+// Writes bytes where one of the segments may be written and covers their range.
 #[tactic(auto, using(crate::proofs::Places::placed_holds, crate::proofs::Places::write_placed, crate::proofs::Places::write_unplaced, crate::proofs::Places::place_within))]
 fn write_in(parts: &mut [Part], at: u64, bytes: &[u8]) -> bool
     ensures { Wrote result (write_at parts.old at bytes.now) parts.old parts.new }

@@ -1,7 +1,7 @@
 //! One segment of an image in memory, and the two tests that every access makes.
 
 ghost use Rattle.std.specs.Prelude.{◌≡◌, ◌-◌, ◌+◌, ◌&&◌, nat_le, IfOk, IsTrue, MatchOption, None, Some, take, drop, length};
-ghost use Rattle.machine_core.specs.Memory.{holds, reads, writes, executes, with_bytes};
+ghost use Rattle.x86_core.specs.Memory.{covers, reads, writes, executes, with_bytes};
 ghost use Rattle.xom_memory.specs.Access.{outline_of, where_readable, lent};
 
 use bitflags::Flags;
@@ -112,15 +112,15 @@ impl Part {
     }
 
     /// Whether the whole range of `len` bytes from the address `at` on is in the segment.
-    pub fn holds(&self, at: u64, len: usize) -> bool
-        ensures { result ≡ holds self.now at len }
+    pub fn covers(&self, at: u64, len: usize) -> bool
+        ensures { result ≡ covers self.now at len }
     {
         is_within(self.start, self.bytes.len(), at, len)
     }
 
     /// The bytes of a range that is in the segment.
     pub fn range(&self, at: u64, len: usize) -> &[u8]
-        requires { IsTrue (holds self.now at len) }
+        requires { IsTrue (covers self.now at len) }
         ensures { result.now ≡ take len (drop (at - self.now.start) self.now.bytes) }
     {
         let from = (at - self.start) as usize;
@@ -129,7 +129,7 @@ impl Part {
 
     /// The bytes from an address in the segment on, up to sixteen of them.
     pub fn code(&self, at: u64) -> &[u8]
-        requires { IsTrue (holds self.now at 1) }
+        requires { IsTrue (covers self.now at 1) }
         ensures { result.now ≡ take 16 (drop (at - self.now.start) self.now.bytes) }
     {
         let from = (at - self.start) as usize;
@@ -140,7 +140,7 @@ impl Part {
 
     /// Puts bytes in the place of others, in a range that is in the segment.
     pub fn put(&mut self, at: u64, bytes: &[u8])
-        requires { IsTrue (holds self.old at (length bytes.now)) }
+        requires { IsTrue (covers self.old at (length bytes.now)) }
         ensures { self.new ≡ with_bytes self.old at bytes.now }
     {
         let from = (at - self.start) as usize;

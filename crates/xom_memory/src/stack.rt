@@ -1,8 +1,8 @@
 //! The stack: 64 MiB and 4,096 bytes that are zero at first and may be read and written.
 
 ghost use Rattle.std.specs.Prelude.{◌≡◌, ◌-◌, ◌+◌, ◌*◌, ◌^◌, ◌<◌, ◌++◌, IfOk, IsTrue, take, drop, length, replicate};
-ghost use Rattle.machine_core.specs.Memory.{holds};
-ghost use Rattle.machine_core.specs.Data.{stack_bytes, stack_start, segment};
+ghost use Rattle.x86_core.specs.Memory.{covers};
+ghost use Rattle.x86_core.specs.Data.{stack_bytes, stack_start, segment};
 ghost use Rattle.xom_memory.specs.Access.{outline_of, lent};
 
 use crate::segment::{ReadableSegment, is_within};
@@ -64,7 +64,7 @@ fn zeros(alloc: Global, size: usize, pieces: usize) -> Result<Vec<u8>, NoMemory>
 
 impl Stack {
     /// A stack of zeros.
-    #[tactic(auto, unfolding(machine_core::specs::Data::stack_bytes))]
+    #[tactic(auto, unfolding(x86_core::specs::Data::stack_bytes))]
     pub fn new(alloc: Global) -> Result<Stack, NoMemory>
         ensures { IfOk result (λ s. s ≡ stack_bytes) }
     {
@@ -95,15 +95,15 @@ impl Stack {
     }
 
     /// Whether the whole range of `len` bytes from the address `at` on is in the stack.
-    pub fn holds(&self, at: u64, len: usize) -> bool
-        ensures { result ≡ holds (segment stack_start self.now 6) at len }
+    pub fn covers(&self, at: u64, len: usize) -> bool
+        ensures { result ≡ covers (segment stack_start self.now 6) at len }
     {
         is_within(STACK_START, self.bytes.len(), at, len)
     }
 
     /// The bytes of a range that is in the stack.
     pub fn range(&self, at: u64, len: usize) -> &[u8]
-        requires { IsTrue (holds (segment stack_start self.now 6) at len) }
+        requires { IsTrue (covers (segment stack_start self.now 6) at len) }
         ensures { result.now ≡ take len (drop (at - stack_start) self.now) }
     {
         let from = (at - STACK_START) as usize;
@@ -112,7 +112,7 @@ impl Stack {
 
     /// Puts bytes in the place of others, in a range that is in the stack.
     pub fn put(&mut self, at: u64, bytes: &[u8])
-        requires { IsTrue (holds (segment stack_start self.old 6) at (length bytes.now)) }
+        requires { IsTrue (covers (segment stack_start self.old 6) at (length bytes.now)) }
         ensures { self.new ≡ take (at - stack_start) self.old ++ (bytes.now ++ drop (at - stack_start + length bytes.now) self.old) }
     {
         let from = (at - STACK_START) as usize;

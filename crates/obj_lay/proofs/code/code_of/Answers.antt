@@ -1,5 +1,5 @@
 use Rattle.std.proofs.Common.{◌≡◌, ◌+◌, ◌≤◌, length, ◌∙◌, sym, ap, rules}
-use Rattle.machine_core.specs.Data.{segment}
+use Rattle.x86_core.specs.Data.{segment}
 use Rattle.obj_core.specs.declared.code.CodeBuilder.{CodeBuilder}
 use Rattle.obj_core.specs.Placement.{code_base}
 use Rattle.obj_core.proofs.Fronts.{front_first}

@@ -1,6 +1,6 @@
 use Rattle.std.proofs.Common.{◌≡◌, ◌<◌, ◌≤◌, [], ◌∷◌, length, ◌∙◌, sym, ap, rules, arith}
 use Rattle.std.specs.Prelude.{slice_index, slice_index_or}
-use Rattle.machine_core.specs.Data.{segment}
+use Rattle.x86_core.specs.Data.{segment}
 use Rattle.obj_core.specs.declared.object.Slot.{Slot}
 use Rattle.obj_core.specs.declared.code.CodeBuilder.{CodeBuilder}
 use Rattle.obj_core.specs.Slots.{slot_base}

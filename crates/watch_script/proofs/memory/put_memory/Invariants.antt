@@ -1,5 +1,5 @@
 use Rattle.std.proofs.Common.{◌≡◌, ◌++◌, drop}
-use Rattle.machine_core.specs.Observation.{readable}
+use Rattle.x86_core.specs.Observation.{readable}
 use Rattle.watch_script.specs.ShowText.{segments_text}
 use Rattle.watch_script.proofs.memory.put_memory.Given as goal
 

@@ -3,8 +3,8 @@ use Rattle.std.proofs.lemmas.List.{append-nil}
 use Rattle.std.proofs.Math.ListN.{drop_of_length-le}
 use Rattle.std.proofs.lemmas.Grind.{common_steps}
 use Rattle.behavior.specs.System.{iter}
-use Rattle.machine_core.specs.Machine.{machine_step}
-use Rattle.machine_core.specs.Observation.{observe}
+use Rattle.x86_core.specs.Machine.{machine_step}
+use Rattle.x86_core.specs.Observation.{observe}
 use Rattle.xom_machine.specs.Standing.{state_of, told, Told}
 use Rattle.xom_machine.specs.Calls.{Took}
 use Rattle.xom_machine.proofs.Steps.{took_none}

@@ -1,7 +1,7 @@
 use Rattle.std.proofs.Common.{◌≡◌, ℕ, List, [], ◌++◌, None, Some, true, length, drop}
 use Rattle.behavior.specs.System.{iter}
-use Rattle.machine_core.specs.Machine.{machine_step}
-use Rattle.machine_core.specs.Observation.{observe}
+use Rattle.x86_core.specs.Machine.{machine_step}
+use Rattle.x86_core.specs.Observation.{observe}
 use Rattle.xom_machine.specs.Standing.{state_of, told}
 use Rattle.xom_machine.specs.Calls.{Took}
 use Rattle.watch_script.specs.Events.{are_in_order, last_after}

@@ -1,5 +1,5 @@
 use Rattle.std.proofs.Common.{◌≡◌, drop}
-use Rattle.machine_core.specs.Memory.{read_at}
+use Rattle.x86_core.specs.Memory.{read_at}
 use Rattle.xom_memory.proofs.memory.readable.Given as goal
 
 abbrev pub invariant-loop-part : goal.invariant-loop-part

@@ -1,5 +1,5 @@
 use Rattle.std.proofs.Common.{◌≡◌, None, Some, MatchOption, subst, sym, ap, ◌∙◌}
-use Rattle.machine_core.specs.Data.{stack_start, segment}
+use Rattle.x86_core.specs.Data.{stack_start, segment}
 use Rattle.xom_memory.specs.Access.{where_readable}
 use Rattle.xom_memory.specs.Access.{lent as lent_segment}
 use Rattle.xom_memory.proofs.Whole.{whole_front}

@@ -1,5 +1,5 @@
 use Rattle.std.proofs.Common.{◌≡◌, false}
-use Rattle.machine_core.specs.Memory.{writes, is_allowed}
+use Rattle.x86_core.specs.Memory.{writes, is_allowed}
 use Rattle.xom_machine.proofs.Served.{done_alone, take_refused, not_true}
 use Rattle.xom_machine.proofs.machine.Machine.take.Goals as goal
 

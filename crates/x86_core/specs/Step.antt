@@ -23,7 +23,7 @@ use Rattle.x86_core.specs.declared.effect.Change.{Change}
 use Rattle.x86_core.specs.Registers.{word, with_word}
 use Rattle.x86_core.specs.Arithmetic.{size_bits, holds, moved}
 use Rattle.x86_core.specs.Effect.{effect_of}
-use Rattle.machine_core.specs.Memory.{read_at, write_at}
+use Rattle.x86_core.specs.Memory.{read_at, write_at}
 
 -- how a run stands
 pub record State (P : Type 0) : Type 0 where

@@ -2,7 +2,7 @@
 use Rattle.std.proofs.Common.{◌≡◌, ℕ, length}
 use Rattle.std.specs.Prelude.{replicate}
 use Rattle.std.proofs.lemmas.List.{length-replicate}
-use Rattle.machine_core.specs.Data.{stack_bytes}
+use Rattle.x86_core.specs.Data.{stack_bytes}
 
 copies_long : (n k : ℕ) → length (replicate n k) ≡ n
 copies_long n k = length-replicate n k

@@ -18,8 +18,8 @@ use Rattle.x86_core.specs.Arithmetic.{holds}
 use Rattle.x86_core.specs.Effect.{effect_of}
 use Rattle.rd_num.specs.Number.{le_bytes, le_number}
 use Rattle.x86_core.specs.Registers.{word}
-use Rattle.machine_core.specs.Memory.{read_at, write_at}
-use Rattle.machine_core.specs.Step.{State, moment_of, Fetched, Stops, Plain, Goes, Tests, Calls, Returns, Follows, CallsWord, Systems, size_bytes, after_read, after_write, by_access, by_change, tested, landed, returned, below, called, called_word, after_print, after_take, next_byte, Request, Exits, Idles, Prints, Takes, Unknowns, request_of, served, act, step_of}
+use Rattle.x86_core.specs.Memory.{read_at, write_at}
+use Rattle.x86_core.specs.Step.{State, moment_of, Fetched, Stops, Plain, Goes, Tests, Calls, Returns, Follows, CallsWord, Systems, size_bytes, after_read, after_write, by_access, by_change, tested, landed, returned, below, called, called_word, after_print, after_take, next_byte, Request, Exits, Idles, Prints, Takes, Unknowns, request_of, served, act, step_of}
 
 module _ {P : Type 0} where
   -- nothing is printed and nothing taken

@@ -13,23 +13,23 @@ writes r = nat_eq (r.0 / 2 % 2) 1
 abbrev pub reads : Rights → Bool
 reads r = nat_eq (r.0 / 4 % 2) 1
 
--- the segment holds the whole range of n bytes
-abbrev pub holds : Segment → ℕ → ℕ → Bool
-holds s at n = nat_le s.start at && nat_le (at + n) (s.start + length s.bytes)
+-- the segment covers the whole range of n bytes
+abbrev pub covers : Segment → ℕ → ℕ → Bool
+covers s at n = nat_le s.start at && nat_le (at + n) (s.start + length s.bytes)
 
--- one segment holds the whole range and has the right
-abbrev pub one_holds : (Rights → Bool) → List Segment → ℕ → ℕ → Bool
-one_holds right [] at n = false
-one_holds right (s ∷ ss) at n = (right s.rights && holds s at n) || one_holds right ss at n
+-- one segment covers the whole range and has the right
+abbrev pub one_covers : (Rights → Bool) → List Segment → ℕ → ℕ → Bool
+one_covers right [] at n = false
+one_covers right (s ∷ ss) at n = (right s.rights && covers s at n) || one_covers right ss at n
 
 -- access permission; an empty range is always allowed
 abbrev pub is_allowed : (Rights → Bool) → List Segment → ℕ → ℕ → Bool
-is_allowed right segments at n = nat_eq n 0 || one_holds right segments at n
+is_allowed right segments at n = nat_eq n 0 || one_covers right segments at n
 
--- the bytes of a range, where one segment holds it and may be read
+-- the bytes of a range, where one segment covers it and may be read
 abbrev pub read_at : List Segment → ℕ → ℕ → Option (List ℕ)
 read_at [] at n = None
-read_at (s ∷ ss) at n = if reads s.rights && holds s at n then Some (take n (drop (at - s.start) s.bytes)) else read_at ss at n
+read_at (s ∷ ss) at n = if reads s.rights && covers s at n then Some (take n (drop (at - s.start) s.bytes)) else read_at ss at n
 
 -- the segment with other bytes from an address on
 abbrev pub with_bytes : Segment → ℕ → List ℕ → Segment
@@ -39,15 +39,15 @@ abbrev pub behind : Segment → Option (List Segment) → Option (List Segment)
 behind s None = None
 behind s (Some ss) = Some (s ∷ ss)
 
--- the segments after a write, where one segment holds the range and may be written
+-- the segments after a write, where one segment covers the range and may be written
 abbrev pub write_at : List Segment → ℕ → List ℕ → Option (List Segment)
 write_at [] at bs = None
-write_at (s ∷ ss) at bs = if writes s.rights && holds s at (length bs) then Some (with_bytes s at bs ∷ ss) else behind s (write_at ss at bs)
+write_at (s ∷ ss) at bs = if writes s.rights && covers s at (length bs) then Some (with_bytes s at bs ∷ ss) else behind s (write_at ss at bs)
 
--- up to sixteen bytes from an address on, where a segment holds it and may be executed
+-- up to sixteen bytes from an address on, where a segment covers it and may be executed
 abbrev pub code_at : List Segment → ℕ → Option (List ℕ)
 code_at [] at = None
-code_at (s ∷ ss) at = if executes s.rights && holds s at 1 then Some (take 16 (drop (at - s.start) s.bytes)) else code_at ss at
+code_at (s ∷ ss) at = if executes s.rights && covers s at 1 then Some (take 16 (drop (at - s.start) s.bytes)) else code_at ss at
 
 -- the segments that may be read or written: what an observer can reach
 abbrev pub data_of : List Segment → List Segment

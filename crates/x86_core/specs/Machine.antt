@@ -9,10 +9,10 @@ use Rattle.x86_core.specs.declared.instr.Decoded.{Decoded}
 use Rattle.x86_core.specs.declared.instr.Decoded.TheVariants.{One, Short, Unknown}
 use Rattle.x86_core.specs.Arithmetic.{moved}
 use Rattle.x86_core.specs.Decoding.{decode}
-use Rattle.machine_core.specs.Memory.{code_at}
-use Rattle.machine_core.specs.Data.{stack, stack_end}
-use Rattle.machine_core.specs.Step.{Fetched, Stops, sorted, State, moment_of, step_of}
-use Rattle.machine_core.specs.Run.{Act, run_over, started}
+use Rattle.x86_core.specs.Memory.{code_at}
+use Rattle.x86_core.specs.Data.{stack, stack_end}
+use Rattle.x86_core.specs.Step.{Fetched, Stops, sorted, State, moment_of, step_of}
+use Rattle.x86_core.specs.Run.{Act, run_over, started}
 
 -- what bytes at an address begin with: a part of an instruction is not there whole
 abbrev pub by_decoded : ℕ → Decoded → Fetched ℕ

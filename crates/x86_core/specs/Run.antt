@@ -5,8 +5,8 @@ use Rattle.x86_core.specs.declared.reg.Reg.TheVariants.{Rax, Rsp}
 use Rattle.x86_core.specs.declared.flags.Flag.TheVariants.{Zero}
 use Rattle.x86_core.specs.declared.image.Segment.{Segment}
 use Rattle.x86_core.specs.Registers.{with_word}
-use Rattle.machine_core.specs.Memory.{write_at}
-use Rattle.machine_core.specs.Step.{State}
+use Rattle.x86_core.specs.Memory.{write_at}
+use Rattle.x86_core.specs.Step.{State}
 
 -- what is done to a run: one step of it, or a write by somebody who looks on
 pub data Act : Type 0 where

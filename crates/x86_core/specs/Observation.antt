@@ -3,8 +3,8 @@ use Rattle.std.specs.Prelude.{ℕ, if◌then◌else◌, List, [], ◌∷◌, Opt
 use Rattle.behavior.specs.Ending.{Ending}
 use Rattle.x86_core.specs.declared.flags.Flags.{Flags}
 use Rattle.x86_core.specs.declared.image.Segment.{Segment}
-use Rattle.machine_core.specs.Memory.{reads, read_at}
-use Rattle.machine_core.specs.Step.{State}
+use Rattle.x86_core.specs.Memory.{reads, read_at}
+use Rattle.x86_core.specs.Step.{State}
 
 pub record Observation : Type 0 where
   pub regs : List ℕ
