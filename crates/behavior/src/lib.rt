@@ -24,20 +24,29 @@ pub fn preserves_through()
 
 /// Programs that show the same at each step mean the same.
 pub fn preserves_same()
-    ensures { (A B : Behavior) → ((input : List ℕ) → AreBytes input → (n : ℕ) → Agrees (A input n) (B input n)) → Preserves A B }
+    ensures { (A B : Behavior) →
+        ((input : List ℕ) → AreBytes input → (n : ℕ) → Agrees (A input n) (B input n)) →
+        Preserves A B }
 {}
 
 /// Two machines that show the same until the first strays mean the same, for what never strays.
 pub fn preserves_straight()
-    ensures { (A S M : Behavior) → ((input : List ℕ) → AreBytes input → (k : ℕ) → (A input k).ending ≢ Strayed) → ((input : List ℕ) → AreBytes input → (n : ℕ) → (S input n).ending ≢ Strayed → Agrees (S input n) (M input n)) → Preserves A S → Preserves A M }
+    ensures { (A S M : Behavior) →
+        ((input : List ℕ) → AreBytes input → (k : ℕ) → (A input k).ending ≢ Strayed) →
+        ((input : List ℕ) → AreBytes input → (n : ℕ) → (S input n).ending ≢ Strayed →
+        Agrees (S input n) (M input n)) → Preserves A S → Preserves A M }
 {}
 
 /// What means the same as a program that is never left and never strays doesn't stray.
 pub fn straight_kept()
-    ensures { (A S : Behavior) (input : List ℕ) → AreBytes input → ((k : ℕ) → is_left (A input k).ending ≡ false) → ((k : ℕ) → (A input k).ending ≢ Strayed) → Preserves A S → (n : ℕ) → (S input n).ending ≢ Strayed }
+    ensures { (A S : Behavior) (input : List ℕ) → AreBytes input →
+        ((k : ℕ) → is_left (A input k).ending ≡ false) → ((k : ℕ) → (A input k).ending ≢ Strayed) →
+        Preserves A S → (n : ℕ) → (S input n).ending ≢ Strayed }
 {}
 
 /// The bounds of two passes make one bound for both: the costs multiply.
 pub fn reaches_through()
-    ensures { (A B C : Behavior) (begin cost begin2 cost2 : ℕ) → ReachesWithin begin cost A B → ReachesWithin begin2 cost2 B C → ReachesWithin (begin2 + cost2 * begin) (cost2 * cost) A C }
+    ensures { (A B C : Behavior) (begin cost begin2 cost2 : ℕ) → ReachesWithin begin cost A B →
+        ReachesWithin begin2 cost2 B C →
+        ReachesWithin (begin2 + cost2 * begin) (cost2 * cost) A C }
 {}

@@ -23,11 +23,13 @@ pub fn loaded_image_is_sound()
 
 /// Bytes that a rule refuses load as no image. Takes no memory.
 pub fn refused_file_loads_not()
-    ensures { (bytes : Row ℕ) (rule : ℕ) (i : Program) → FailsFirst bytes rule → LoadsAs bytes i → ⊥ }
+    ensures { (bytes : Row ℕ) (rule : ℕ) (i : Program) → FailsFirst bytes rule → LoadsAs bytes i →
+        ⊥ }
 {}
 
 /// Bytes of a segment stand at the least multiple of 4096 that is not below the end of what stands
 /// before them. Takes no memory.
 pub fn next_page_is_least()
-    ensures { (n : ℕ) → (n ≤ page_up n) × (page_up n % 4096 ≡ 0) × ((m : ℕ) → n ≤ m → m % 4096 ≡ 0 → page_up n ≤ m) }
+    ensures { (n : ℕ) → (n ≤ page_up n) × (page_up n % 4096 ≡ 0)
+        × ((m : ℕ) → n ≤ m → m % 4096 ≡ 0 → page_up n ≤ m) }
 {}

@@ -58,7 +58,8 @@ fn loaded(alloc: Global, bytes: &[u8]) -> Result<Image, ImageFault>
 
 /// The first of the rules on the header that fails.
 fn header_fault(bytes: &[u8]) -> Option<u8>
-    ensures { MatchOption result (Rule1 bytes.now × Rule2 bytes.now × Rule3 bytes.now) (λ rule. FailsFirst bytes.now rule) }
+    ensures { MatchOption result (Rule1 bytes.now × Rule2 bytes.now × Rule3 bytes.now)
+        (λ rule. FailsFirst bytes.now rule) }
 {
     if !has_ident(bytes) {
         return Some(1);

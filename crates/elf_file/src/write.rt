@@ -78,7 +78,8 @@ fn put_sizes(file: &mut List<u8>, count: u16) -> Result<(), NoMemory>
 fn put_program_headers(file: &mut List<u8>, segments: &[Segment]) -> Result<(), NoMemory>
     requires few { length segments.now ≤ 8 }
     requires each { All IsSegment segments.now }
-    ensures { OnOk result (file.new ≡ file.old ++ program_headers_bytes (headers_end (length segments.now)) segments.now) }
+    ensures { OnOk result (file.new ≡
+        file.old ++ program_headers_bytes (headers_end (length segments.now)) segments.now) }
 {
     let mut end = (HEADER_LEN + PROGRAM_HEADER_LEN * segments.len()) as u64;
     for segment in segments {

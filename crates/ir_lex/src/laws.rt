@@ -16,10 +16,12 @@ pub fn one_place()
 
 /// A text that stops has no tokens.
 pub fn never_both()
-    ensures { (text : List ℕ) (place : ℕ) (tokens : List Token) → Stops text place → ¬ (Scans text tokens) }
+    ensures { (text : List ℕ) (place : ℕ) (tokens : List Token) → Stops text place →
+        ¬ (Scans text tokens) }
 {}
 
 /// A text has tokens, or it stops.
 pub fn either()
-    ensures { (text : List ℕ) → ((tokens : List Token) × Scans text tokens) ⊎ ((place : ℕ) × Stops text place) }
+    ensures { (text : List ℕ) → ((tokens : List Token) × Scans text tokens)
+        ⊎ ((place : ℕ) × Stops text place) }
 {}

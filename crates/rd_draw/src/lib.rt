@@ -52,7 +52,8 @@ impl Draw {
     #[tactic(auto, unfolding(crate::specs::Draw::stream_word))]
     pub fn next(&mut self) -> u32
         ensures word { result ≡ stream_word self.old.key self.old.place }
-        ensures moved { self.new ≡ record { key = self.old.key; place = (self.old.place + 1) % 2 ^ 68 } }
+        ensures moved { self.new
+            ≡ record { key = self.old.key; place = (self.old.place + 1) % 2 ^ 68 } }
     {
         self.rng.next_word()
     }
@@ -90,7 +91,8 @@ pub fn perm(
 
 /// Makes it known to a proof that a shuffle is a permutation, whatever the words are.
 pub fn shuffle_known()
-    ensures permutes { (words : ℕ → ℕ) (n : ℕ) → IsPermutation (range_with_len 0 n) (shuffled words n) }
+    ensures permutes { (words : ℕ → ℕ) (n : ℕ) →
+        IsPermutation (range_with_len 0 n) (shuffled words n) }
     ensures long { (words : ℕ → ℕ) (n : ℕ) → length (shuffled words n) ≡ n }
     ensures below { (words : ℕ → ℕ) (n : ℕ) → All (λ x. x < n) (shuffled words n) }
     ensures holds { (words : ℕ → ℕ) (n k : ℕ) → k < n → Contains (shuffled words n) k }

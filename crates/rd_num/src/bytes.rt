@@ -21,7 +21,8 @@ pub fn put_u64_le(n: u64) -> [u8; 8]
 ///
 /// `None` comes exactly on fewer than four bytes. Takes no memory.
 pub fn get_u32_le(bytes: &[u8]) -> Option<u32>
-    ensures { MatchOption result (length bytes.now < 4) (λ n. (4 ≤ length bytes.now) × (n ≡ le_number (take 4 bytes.now))) }
+    ensures { MatchOption result (length bytes.now < 4)
+        (λ n. (4 ≤ length bytes.now) × (n ≡ le_number (take 4 bytes.now))) }
 {
     match bytes {
         [a, b, c, d, ..] => Some(u32::from_le_bytes([*a, *b, *c, *d])),
@@ -33,7 +34,8 @@ pub fn get_u32_le(bytes: &[u8]) -> Option<u32>
 ///
 /// `None` comes exactly on fewer than eight bytes. Takes no memory.
 pub fn get_u64_le(bytes: &[u8]) -> Option<u64>
-    ensures { MatchOption result (length bytes.now < 8) (λ n. (8 ≤ length bytes.now) × (n ≡ le_number (take 8 bytes.now))) }
+    ensures { MatchOption result (length bytes.now < 8)
+        (λ n. (8 ≤ length bytes.now) × (n ≡ le_number (take 8 bytes.now))) }
 {
     match bytes {
         [a, b, c, d, e, f, g, h, ..] => {

@@ -66,7 +66,8 @@ impl<T> List<T> {
 
     /// Puts an item at the end. Where memory is wanting it is handed back, and the list is unchanged.
     pub fn push(&mut self, item: T) -> Result<(), T>
-        ensures { MatchResult result (λ _. self.new ≡ self.old ++ item ∷ []) (λ back. (back ≡ item) × (self.new ≡ self.old)) }
+        ensures { MatchResult result (λ _. self.new ≡ self.old ++ item ∷ [])
+            (λ back. (back ≡ item) × (self.new ≡ self.old)) }
     {
         match self.kept.push(item) {
             Ok(()) => Ok(()),

@@ -124,7 +124,8 @@ fn going_on(regs: Regs, flags: Flags, next: Next) -> Change
 }
 
 fn reading(regs: Regs, flags: Flags, at: u64, size: Size, into: Reg) -> Change
-    ensures { result ≡ record { regs = regs; flags = flags; access = Access.Read at size into; next = Next.Fall } }
+    ensures { result ≡ record
+        { regs = regs; flags = flags; access = Access.Read at size into; next = Next.Fall } }
 {
     Change {
         regs,
@@ -135,7 +136,8 @@ fn reading(regs: Regs, flags: Flags, at: u64, size: Size, into: Reg) -> Change
 }
 
 fn writing(regs: Regs, flags: Flags, at: u64, size: Size, word: u64) -> Change
-    ensures { result ≡ record { regs = regs; flags = flags; access = Access.Write at size word; next = Next.Fall } }
+    ensures { result ≡ record
+        { regs = regs; flags = flags; access = Access.Write at size word; next = Next.Fall } }
 {
     Change {
         regs,

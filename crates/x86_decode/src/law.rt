@@ -19,12 +19,14 @@ pub fn encodings_are_short()
 
 /// Whatever stands behind an encoding, its instruction is the answer, with its length.
 pub fn encodings_decode()
-    ensures { (i : Instruction) (rest : List ℕ) → IsInstr i → decode (encoding i ++ rest) ≡ Decoded.One i (length (encoding i)) }
+    ensures { (i : Instruction) (rest : List ℕ) → IsInstr i →
+        decode (encoding i ++ rest) ≡ Decoded.One i (length (encoding i)) }
 {}
 
 /// No encoding is a proper prefix of another: where one begins another, nothing is left over.
 pub fn no_encoding_begins_another()
-    ensures { (i j : Instruction) (rest : List ℕ) → IsInstr i → IsInstr j → encoding j ≡ encoding i ++ rest → (i ≡ j) × (rest ≡ []) }
+    ensures { (i j : Instruction) (rest : List ℕ) → IsInstr i → IsInstr j →
+        encoding j ≡ encoding i ++ rest → (i ≡ j) × (rest ≡ []) }
 {}
 
 /// Two instructions with one encoding are one instruction.
@@ -34,15 +36,19 @@ pub fn encodings_differ()
 
 /// An answer of one instruction begins the bytes, and its length is that of its encoding.
 pub fn answers_begin_the_bytes()
-    ensures { (bytes : List ℕ) (i : Instruction) (n : ℕ) → All (λ b. b < 256) bytes → decode bytes ≡ Decoded.One i n → Begins bytes i × (n ≡ length (encoding i)) }
+    ensures { (bytes : List ℕ) (i : Instruction) (n : ℕ) → All (λ b. b < 256) bytes →
+        decode bytes ≡ Decoded.One i n → Begins bytes i × (n ≡ length (encoding i)) }
 {}
 
 /// An answer is short exactly at a proper prefix of an encoding.
 pub fn short_is_a_proper_prefix()
-    ensures { (bytes : List ℕ) → All (λ b. b < 256) bytes → ((decode bytes ≡ Decoded.Short) ↔ IsCut bytes) }
+    ensures { (bytes : List ℕ) → All (λ b. b < 256) bytes →
+        ((decode bytes ≡ Decoded.Short) ↔ IsCut bytes) }
 {}
 
 /// There is no answer exactly where no encoding begins the bytes and they are a prefix of none.
 pub fn unknown_is_neither()
-    ensures { (bytes : List ℕ) → All (λ b. b < 256) bytes → ((decode bytes ≡ Decoded.Unknown) ↔ (((i : Instruction) → Begins bytes i → ⊥) × (IsCut bytes → ⊥))) }
+    ensures { (bytes : List ℕ) → All (λ b. b < 256) bytes →
+        ((decode bytes ≡ Decoded.Unknown) ↔ (((i : Instruction) → Begins bytes i → ⊥)
+        × (IsCut bytes → ⊥))) }
 {}

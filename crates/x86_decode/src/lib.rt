@@ -26,12 +26,16 @@ use x86_core::instr::{Decoded, Prefix};
 /// prefix of one, `Unknown` exactly where neither holds.
 pub fn decode_one(bytes: &[u8]) -> Decoded
     ensures decoding { result ≡ decode bytes.now }
-    ensures one { (i : Instruction) → Begins bytes.now i → result ≡ Decoded.One i (length (encoding i)) }
-    ensures begins { (i : Instruction) (n : ℕ) → result ≡ Decoded.One i n → Begins bytes.now i × (n ≡ length (encoding i)) }
+    ensures one { (i : Instruction) → Begins bytes.now i →
+        result ≡ Decoded.One i (length (encoding i)) }
+    ensures begins { (i : Instruction) (n : ℕ) → result ≡ Decoded.One i n → Begins bytes.now i
+        × (n ≡ length (encoding i)) }
     ensures short { IsCut bytes.now → result ≡ Decoded.Short }
     ensures cut { result ≡ Decoded.Short → IsCut bytes.now }
-    ensures unknown { ((i : Instruction) → Begins bytes.now i → ⊥) → (IsCut bytes.now → ⊥) → result ≡ Decoded.Unknown }
-    ensures neither { result ≡ Decoded.Unknown → ((i : Instruction) → Begins bytes.now i → ⊥) × (IsCut bytes.now → ⊥) }
+    ensures unknown { ((i : Instruction) → Begins bytes.now i → ⊥) → (IsCut bytes.now → ⊥) →
+        result ≡ Decoded.Unknown }
+    ensures neither { result ≡ Decoded.Unknown → ((i : Instruction) → Begins bytes.now i → ⊥)
+        × (IsCut bytes.now → ⊥) }
 {
     bytes_known(bytes);
     first_instruction(bytes)

@@ -190,7 +190,8 @@ pub fn two(row: TwoRegisters, len: u8, p: Prefix, bytes: &[u8]) -> Decoded
 
 // A place in memory: its displacement.
 fn with_displacement(row: Memory, r: Reg, base: Reg, len: u8, bytes: &[u8]) -> Decoded
-    ensures { result ≡ with_number (λ d. made_at row r (record { base = base; disp = d })) len bytes.now }
+    ensures { result ≡ with_number
+        (λ d. made_at row r (record { base = base; disp = d })) len bytes.now }
 {
     match word(bytes) {
         Some(n) => {
@@ -209,7 +210,8 @@ fn with_displacement(row: Memory, r: Reg, base: Reg, len: u8, bytes: &[u8]) -> D
 
 // A place in memory: the SIB byte, then its displacement.
 fn with_index(row: Memory, r: Reg, base: Reg, len: u8, bytes: &[u8]) -> Decoded
-    ensures { result ≡ indexed (λ d. made_at row r (record { base = base; disp = d })) len bytes.now }
+    ensures { result ≡ indexed
+        (λ d. made_at row r (record { base = base; disp = d })) len bytes.now }
 {
     match bytes {
         [] => Decoded::Short,
@@ -239,7 +241,8 @@ pub fn at(row: Memory, len: u8, p: Prefix, bytes: &[u8]) -> Decoded
 // A place in memory: the SIB byte where the base's low bits ask for one, and the displacement.
 fn at_base(row: Memory, r: Reg, base: Reg, low: u8, len: u8, bytes: &[u8]) -> Decoded
     requires { len < 16 }
-    ensures { result ≡ displaced (λ d. made_at row r (record { base = base; disp = d })) len low bytes.now }
+    ensures { result ≡ displaced
+        (λ d. made_at row r (record { base = base; disp = d })) len low bytes.now }
 {
     if low == 4 {
         with_index(row, r, base, len + 1, bytes)

@@ -18,7 +18,8 @@ use x86_core::instr::Instr;
 /// The bytes of an instruction with zeros after them, and their number, 1 to 10. Takes no memory.
 #[tactic(auto, using(x86_core::proofs::Laws::some_bytes, x86_core::proofs::Laws::few_bytes))]
 pub fn encode_one(instr: &Instr) -> ([u8; 16], u8)
-    ensures bytes { result.0 ≡ encoding instr.now ++ replicate (16 - length (encoding instr.now)) 0 }
+    ensures bytes { result.0 ≡
+        encoding instr.now ++ replicate (16 - length (encoding instr.now)) 0 }
     ensures len { result.1 ≡ length (encoding instr.now) }
     ensures some { 1 ≤ result.1 }
     ensures few { result.1 ≤ 10 }

@@ -255,7 +255,8 @@ fn of_registers(w: bool, op: u8, reg: Reg, rm: Reg) -> Spelling
 
 // A row of two registers in the second table.
 fn of_registers_second(w: bool, op: u8, reg: Reg, rm: Reg) -> Spelling
-    ensures { result ≡ rex_if w (extended reg) (extended rm) ++ (0x0F ∷ op ∷ registers reg rm ∷ []) }
+    ensures { result ≡ rex_if w (extended reg) (extended rm) ++
+        (0x0F ∷ op ∷ registers reg rm ∷ []) }
 {
     let mut all = front(w, high(reg), high(rm));
     all.put(0x0F);
@@ -288,7 +289,8 @@ fn of_memory(w: bool, op: u8, reg: Reg, m: Mem) -> Spelling
 
 // A row of a register and a place in memory in the second table.
 fn of_memory_second(op: u8, reg: Reg, m: Mem) -> Spelling
-    ensures { result ≡ rex_if false (extended reg) (extended m.base) ++ (0x0F ∷ op ∷ memory reg m) }
+    ensures { result ≡ rex_if false (extended reg) (extended m.base) ++
+        (0x0F ∷ op ∷ memory reg m) }
 {
     let mut all = front(false, high(reg), high(m.base));
     all.put(0x0F);
