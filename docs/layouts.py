@@ -1,0 +1,109 @@
+"""Draws layouts.svg: two layouts of one object side by side, read off the images themselves.
+
+    python3 docs/layouts.py OBJECT IMAGE IMAGE > docs/layouts.svg
+
+Each column is one image. On the left stand its segments, at the height of their addresses; on the right is its code segment,
+enlarged, with the functions where their bytes are found. `checks/picture.sh` draws it anew and compares.
+"""
+
+import struct
+import sys
+
+NAMES = ["main", "start", "putchar", "getchar", "exit", "memcpy", "memset"]
+COLOURS = ["#3b6ea5", "#c0504d", "#8aa64f", "#7f63a3", "#4ba3b5", "#d68b3c", "#9c8a5a"]
+SLOTS, CODE, CODE_END = 0x10000000, 0x40000000, 0x50000000
+STACK, STACK_END = 0xBBFFF000, 0xC0000000
+
+
+def functions_of(path):
+    """The bytes of each function of an object, with None where a link is filled in."""
+    with open(path, "rb") as file:
+        data = file.read()
+    count = struct.unpack_from("<I", data, 24)[0]
+    at, functions = 40, []
+    for _ in range(count):
+        _, length, links = struct.unpack_from("<III", data, at)
+        code = list(data[at + 12 : at + 12 + length])
+        at += 12 + length
+        for link in range(links):
+            place = struct.unpack_from("<I", data, at + 8 * link)[0]
+            code[place : place + 4] = [None] * 4
+        at += 8 * links
+        functions.append(code)
+    return functions
+
+
+def segments_of(path):
+    """Address, bytes and rights of each segment of an image."""
+    with open(path, "rb") as file:
+        data = file.read()
+    segments = []
+    for n in range(struct.unpack_from("<H", data, 56)[0]):
+        _, rights, offset, address, _, size = struct.unpack_from("<IIQQQQ", data, 64 + 56 * n)
+        segments.append((address, data[offset : offset + size], rights))
+    return segments
+
+
+def stands_at(code, segment, start):
+    part = segment[start : start + len(code)]
+    return len(part) == len(code) and all(want is None or want == got for want, got in zip(code, part))
+
+
+def places_of(functions, segment):
+    """Where each function starts in a code segment; equal functions take their places in order."""
+    taken, places = set(), {}
+    for n in sorted(range(len(functions)), key=lambda n: -len(functions[n])):
+        code = functions[n]
+        for start in range(0, len(segment), 16):
+            if not taken & set(range(start, start + len(code))) and stands_at(code, segment, start):
+                taken |= set(range(start, start + len(code)))
+                places[n] = start
+                break
+    return places
+
+
+def box(x, y, width, height, fill, stroke="#333333"):
+    return f'<rect x="{x:.1f}" y="{y:.1f}" width="{width:.1f}" height="{height:.1f}" fill="{fill}" stroke="{stroke}"/>'
+
+
+def text(x, y, words, anchor="start", size=12):
+    return f'<text x="{x:.1f}" y="{y:.1f}" text-anchor="{anchor}" font-size="{size}">{words}</text>'
+
+
+def column(left, title, functions, segments):
+    """One image: its address space, and its code enlarged."""
+    top, height = 60, 420
+    scale = height / STACK_END
+    parts = [text(left + 190, 34, title, "middle", 15)]
+    parts.append(box(left + 100, top, 70, height, "#ffffff"))
+    for address, name, fill in [(SLOTS, "slots", "#555555"), (0x20000000, "data", "#bbbbbb"), (STACK, "stack", "#dddddd")]:
+        y = top + height - address * scale
+        parts += [box(left + 100, y - 10, 70, 10, fill), text(left + 94, y, f"{name} {address:x}", "end", 11)]
+    address, code, _ = segments[-1]
+    y = top + height - address * scale
+    span = (CODE_END - CODE) * scale
+    parts.append(box(left + 100, top + height - CODE_END * scale, 70, span, "#fdf3e0", "#d8b878"))
+    parts += [box(left + 100, y - 4, 70, 4, "#c0504d"), text(left + 94, y + 12, f"code {address:x}", "end", 11)]
+    zoom = height / len(code)
+    for end in (top, top + height):
+        parts.append(f'<line x1="{left + 170}" y1="{y - 2:.1f}" x2="{left + 215}" y2="{end}" stroke="#c0504d" stroke-dasharray="3 3"/>')
+    parts.append(box(left + 215, top, 80, height, "#f2f2f2"))
+    for n, start in places_of(functions, code).items():
+        size = max(len(functions[n]) * zoom, 3)
+        y = top + height - start * zoom - size
+        parts += [box(left + 215, y, 80, size, COLOURS[n % len(COLOURS)]), text(left + 301, y + size, NAMES[n], "start", 11)]
+    return parts
+
+
+def main():
+    functions = functions_of(sys.argv[1])
+    images = [segments_of(path) for path in sys.argv[2:4]]
+    parts = ['<svg xmlns="http://www.w3.org/2000/svg" width="800" height="520" font-family="sans-serif">', box(0, 0, 800, 520, "#ffffff", "#ffffff")]
+    for n, segments in enumerate(images):
+        parts += column(20 + 390 * n, f"layout {'AB'[n]}", functions, segments)
+    parts.append(text(400, 508, "One object, two layouts: what can be read stands at the same places, code elsewhere and in another order.", "middle", 12))
+    print("\n".join([*parts, "</svg>"]))
+
+
+if __name__ == "__main__":
+    main()
