@@ -3,6 +3,7 @@ pub mod Steps
 pub mod Fits
 pub mod Types
 pub mod Inits
+pub mod NameSets
 pub mod WorkedWords
 pub mod Worked
 pub mod WorkedArithmetic
