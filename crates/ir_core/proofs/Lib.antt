@@ -4,6 +4,7 @@ pub mod Fits
 pub mod Types
 pub mod Inits
 pub mod NameSets
+pub mod WrittenTypes
 pub mod WorkedWords
 pub mod Worked
 pub mod WorkedArithmetic
