@@ -1,7 +1,7 @@
 -- A set's keys are references to names: what is found among them is what is found among the names.
-use Rattle.std.proofs.Common.{◌≡◌, ℕ, zero, suc, ◌+◌, Bool, true, false, List, [], ◌∷◌, map, Option, Some, None, refl, ap, sym, ◌∙◌, Bor, arith, cond, nat_eq, nat_lt, length, if◌then◌else◌}
+use Rattle.std.proofs.Common.{◌≡◌, ℕ, suc, ◌+◌, Bool, true, false, List, [], ◌∷◌, map, Option, Some, None, refl, ap, ◌∙◌, Bor, arith, cond, nat_eq, if◌then◌else◌}
 use Rattle.std.specs.Prelude.{option_map, ◌&&◌, ◌||◌}
-use Rattle.std.specs.List.{list_any, position, position_from, position_or_len}
+use Rattle.std.specs.List.{list_any, position, position_from}
 use Rattle.std.proofs.lemmas.Iterator.Adapters.{position_from-zero}
 use Rattle.ir_core.specs.Names.{same_name, number_where}
 

@@ -1,5 +1,5 @@
 -- What the limits count: sums over the text of a module, as far as 2^64 - 1.
-use Rattle.std.specs.Prelude.{ℕ, zero, suc, ◌+◌, ◌*◌, ◌-◌, ◌^◌, List, [], ◌∷◌, ◌++◌, Bool, nat_lt, length, map, min, max, filter, Option, Some, None}
+use Rattle.std.specs.Prelude.{ℕ, zero, suc, ◌+◌, ◌*◌, ◌-◌, ◌^◌, List, [], ◌∷◌, ◌++◌, length, map, min, max, Option, Some, None}
 use Rattle.std.specs.List.{flat_map, sum_by}
 use Rattle.ir_core.specs.declared.limit.TheConstants.{MAX_NESTING, REGISTER_PARAMETERS}
 use Rattle.ir_core.specs.declared.ty.Ty.{Ty, fold-Ty}
@@ -53,7 +53,7 @@ depth_or_none depth None = 0
 
 -- with names replaced as often as n times, one inside another: what still has a name then is too deep
 abbrev pub named_depth : List NamedTy → ℕ → List ℕ → ℕ
-named_depth types zero name = MAX_NESTING + 1
+named_depth types zero name = depth_or_none (λ ty. MAX_NESTING + 1) (first_where (λ (t : NamedTy). same_name t.name name) types)
 named_depth types (suc n) name = depth_or_none (fold-Ty ℕ (depth_at (named_depth types n))) (first_where (λ (t : NamedTy). same_name t.name name) types)
 
 -- how deep arrays and structs stand one inside another; a cycle and anything too deep count one more than the limit

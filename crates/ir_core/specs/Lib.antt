@@ -14,6 +14,7 @@ pub mod Run
 pub mod Mentions
 pub mod Definitions
 pub mod Counts
+pub mod Sizes
 pub mod Typing
 pub mod Built
 pub mod Valid

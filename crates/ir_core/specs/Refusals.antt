@@ -1,12 +1,10 @@
 -- Valid modules: built, and refused for none of six reasons. Each reason has its places in the order of the text.
-use Rattle.std.specs.Prelude.{◌≡◌, ℕ, ◌+◌, List, [], ◌∷◌, ◌++◌, Bool, true, false, ◌&&◌, ◌||◌, not, nat_eq, nat_lt, length, map, filter, slice_get, Option, Some, None, codes, if◌then◌else◌}
-use Rattle.std.specs.List.{flat_map, filter_map, list_any, starts_with}
+use Rattle.std.specs.Prelude.{◌≡◌, ℕ, List, [], ◌∷◌, ◌++◌, Bool, false, ◌&&◌, ◌||◌, not, nat_eq, nat_lt, length, map, filter, slice_get, Option, Some, None, codes, if◌then◌else◌}
+use Rattle.std.specs.List.{flat_map, list_any, starts_with}
 use Rattle.rd_num.specs.declared.width.Width.TheVariants.{W32}
 use Rattle.ir_core.specs.declared.limit.Limit.{Limit}
 use Rattle.ir_core.specs.declared.limit.Spot.{Spot}
 use Rattle.ir_core.specs.declared.limit.TheConstants.{MAX_NESTING, MAX_SIZE, MAX_FUNCTIONS, MAX_INSTRUCTIONS, MAX_TOTAL, MAX_PARAMETERS, MAX_FRAME, MAX_BYTES, MAX_CODE}
-use Rattle.ir_core.specs.declared.ty.Ty.{Ty}
-use Rattle.ir_core.specs.declared.module.Block.{Block}
 use Rattle.ir_core.specs.declared.module.Param.{Param}
 use Rattle.ir_core.specs.declared.module.Extern.{Extern}
 use Rattle.ir_core.specs.declared.module.Function.{Function}
@@ -16,7 +14,7 @@ use Rattle.ir_core.specs.Kinds.{Number, Pointer, kind_of, same_kind}
 use Rattle.ir_core.specs.Calls.{same_kinds}
 use Rattle.ir_core.specs.Built.{IsBuilt}
 use Rattle.ir_core.specs.Mentions.{Mention, OfType, OfLabel, OfLocal, OfCallee, OfBase, OfSymbol, names_of, outside_functions, mentions, of_global, of_function, written_types}
-use Rattle.ir_core.specs.Definitions.{local_mark, global_mark, type_names, variable_names, extern_names, function_names, param_names, label_names, local_names, is_among, doubled, result_names}
+use Rattle.ir_core.specs.Definitions.{local_mark, global_mark, type_names, variable_names, extern_names, function_names, label_names, is_among, doubled}
 use Rattle.ir_core.specs.Counts.{told, depth_of, size_count, steps_in, total_count, parameter_counts, frame_count, bytes_count, code_count}
 use Rattle.ir_core.specs.Valid.{LocalKind, locals_of, extern_fits, type_faults}
 

@@ -1,8 +1,8 @@
 -- The rules of types for whole modules, one place after another.
-use Rattle.std.specs.Prelude.{ℕ, zero, suc, List, [], ◌∷◌, ◌++◌, Bool, true, false, ◌&&◌, ◌||◌, not, nat_eq, nat_lt, ℤ, pos, negsuc, length, map, take, filter, option_map, Option, Some, None, codes, if◌then◌else◌}
+use Rattle.std.specs.Prelude.{ℕ, List, [], ◌∷◌, ◌++◌, Bool, true, false, ◌&&◌, not, nat_eq, ℤ, pos, negsuc, length, map, take, filter, option_map, Option, Some, None, if◌then◌else◌}
 use Rattle.std.specs.List.{list_all, list_any, flat_map, enumerate_from}
 use Rattle.rd_num.specs.Number.{bits}
-use Rattle.rd_num.specs.declared.width.Width.TheVariants.{W8, W32}
+use Rattle.rd_num.specs.declared.width.Width.TheVariants.{W8}
 use Rattle.ir_core.specs.declared.limit.Spot.{Spot}
 use Rattle.ir_core.specs.declared.ty.Ty.{Ty, out-Ty, fold-Ty}
 use Rattle.ir_core.specs.declared.ty.Ty.TheOpen.{Ty-F}
@@ -28,7 +28,7 @@ use Rattle.ir_core.specs.declared.module.GlobalVar.{GlobalVar}
 use Rattle.ir_core.specs.declared.module.Module.{Module}
 use Rattle.ir_core.specs.Names.{same_name, first_where}
 use Rattle.ir_core.specs.Kinds.{Kind, Number, Pointer, kind_of, same_kind, literal}
-use Rattle.ir_core.specs.Calls.{outer_of, same_kinds}
+use Rattle.ir_core.specs.Calls.{outer_of}
 use Rattle.ir_core.specs.Typing.{Env, is_value, has_kind, operand_fits, outer_fits, arg_fits, op_fits, kind_given, is_result, labels_of, term_fits}
 
 -- a local of a function, with the kind of what it is given

@@ -21,7 +21,9 @@ pub mod memory;
 pub mod module;
 pub mod names;
 pub mod operand;
+pub mod size;
 pub mod ty;
+pub mod valid;
 
 /// How many calls can be active at once, the first call of `main` being one.
 pub const MAX_CALLS: u32 = 8192;

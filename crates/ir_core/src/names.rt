@@ -2,8 +2,10 @@
 //!
 //! Names are lent and never copied. Numbers count from 0. A lookup takes constant time.
 
-ghost use Rattle.std.specs.Prelude.{◌≡◌, ◌∷◌, ◌++◌, IfOk, OnErr, List as Row, [], not, if◌then◌else◌};
+ghost use Rattle.std.specs.Prelude.{◌≡◌, ◌∷◌, ◌++◌, IfOk, List, ℕ, [], map, not, slice_get, if◌then◌else◌};
 ghost use Rattle.std.specs.List.{list_any};
+ghost use Rattle.std.specs.Option.{option_copied};
+ghost use Rattle.ir_core.specs.Definitions.{repeated};
 ghost use Rattle.ir_core.specs.Names.{same_name, number_where};
 
 use crate::ty::Name;
@@ -24,6 +26,15 @@ impl<'a> Model for NameSet<'a> {
     ghost Value = { List (List ℕ) };
 
     ghost view = { λ s. map (λ k. k.now) s.kept.keys };
+}
+
+/// What has a name.
+pub trait Named {
+    ghost name_of: { Self → List ℕ };
+
+    /// The name, without its mark. Takes no memory.
+    fn name(&self) -> &Name
+        ensures { result.now ≡ name_of self.now };
 }
 
 impl<'a> NameSet<'a> {
@@ -52,5 +63,19 @@ impl<'a> NameSet<'a> {
         ensures { result ≡ number_where (λ n. same_name n name.now) self.now }
     {
         self.kept.get_index_of(&name)
+    }
+
+    /// Adds names until one is in the set already, and answers that one. Without one all are added.
+    pub fn add_all<T: Named>(&mut self, items: &'a [T]) -> Result<Option<&'a Name>, NoMemory>
+        ensures first { IfOk result (λ r. option_copied r ≡ slice_get (repeated self.old (map T.name_of items.now)) 0) }
+        ensures added { IfOk result (λ r. r ≡ None → self.new ≡ self.old ++ map T.name_of items.now) }
+    {
+        for item in items {
+            let name = item.name();
+            if !self.add(name)? {
+                return Ok(Some(name));
+            }
+        }
+        Ok(None)
     }
 }

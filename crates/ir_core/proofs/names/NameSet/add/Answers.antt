@@ -1,4 +1,4 @@
-use Rattle.std.proofs.Common.{◌≡◌, rules, subst, sym, ap, ◌∙◌, not, IfOk}
+use Rattle.std.proofs.Common.{ap, ◌∙◌, not}
 use Rattle.std.specs.List.{list_any}
 use Rattle.ir_core.specs.Names.{same_name}
 use Rattle.ir_core.proofs.NameSets.{any_names}

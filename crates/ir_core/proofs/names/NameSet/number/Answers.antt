@@ -1,4 +1,4 @@
-use Rattle.std.proofs.Common.{◌≡◌, ◌∙◌, ap}
+use Rattle.std.proofs.Common.{◌∙◌, ap}
 use Rattle.ir_core.specs.Names.{same_name, number_where}
 use Rattle.ir_core.proofs.NameSets.{position-now}
 use Rattle.ir_core.proofs.names.NameSet.number.Goals as goal
