@@ -3,8 +3,13 @@ pub mod Steps
 pub mod Fits
 pub mod Types
 pub mod Inits
+pub mod NameSets
+pub mod WrittenTypes
+pub mod ExtentLaws
+pub mod RowLaws
 pub mod WorkedWords
 pub mod Worked
 pub mod WorkedArithmetic
 pub mod WorkedReasons
 pub mod WorkedOutside
+pub mod WorkedRefusals

@@ -9,6 +9,7 @@ use Rattle.ir_core.specs.declared.operand.Operand.{Operand}
 use Rattle.ir_core.specs.declared.init.Init.{Init}
 use Rattle.ir_core.specs.declared.init.Init.TheVariants.{Zero, Text, Array, Struct, Packed}
 use Rattle.ir_core.specs.declared.init.Elem.{Elem}
+use Rattle.ir_core.specs.declared.instruction.BinOp.{BinOp}
 use Rattle.ir_core.specs.declared.instruction.CastOp.{CastOp}
 use Rattle.ir_core.specs.declared.instruction.Op.{Op}
 use Rattle.ir_core.specs.declared.instruction.Term.{Term}
@@ -22,17 +23,16 @@ use Rattle.ir_core.proofs.Types.{shape-int, shape-struct, shape-packed}
 use Rattle.ir_core.proofs.Inits.{init-value, init-zero, init-text, init-array, init-struct, init-packed, part-element}
 use Rattle.ir_core.proofs.WorkedWords.{i1, i8, i16, i32, i64, local, int, minus, named, gives, does, calls, runs, block, function, module_of, variable, declared_as, arg, program, left, shown}
 
--- the low byte is printed, and given as a number that isn't negative
+-- the low byte is printed, and given as a number; a third of it is returned
 abbrev prints : Module
 prints = program [] (declared_as (codes "putchar") i32 (i32 ∷ []) ∷ []) (
     calls (codes "p") i32 (codes "putchar") (arg i32 (int 511) ∷ [])
     ∷ calls (codes "q") i32 (codes "putchar") (arg i32 (int 321) ∷ [])
-    ∷ gives (codes "s") (Op.Cast CastOp.Trunc i32 (local (codes "p")) i16)
-    ∷ gives (codes "z") (Op.Cast CastOp.Sext i16 (local (codes "s")) i32)
+    ∷ gives (codes "z") (Op.Bin BinOp.Udiv i32 (local (codes "p")) (int 3))
     ∷ []) (local (codes "z"))
 
--- 511 and 321 modulo 256
-putchar_prints : source_run prints [] 5 ≡ shown (255 ∷ 65 ∷ []) 0 (Ended 255)
+-- 511 and 321 modulo 256; 255 by 3
+putchar_prints : source_run prints [] 4 ≡ shown (255 ∷ 65 ∷ []) 0 (Ended 85)
 unfolding source_run source_start source_step out-Ty out
 putchar_prints = refl
 

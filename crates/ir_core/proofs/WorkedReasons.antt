@@ -209,10 +209,55 @@ order_of_objects : source_run (relates Pred.Uge (codes "a") (int 0) (codes "b") 
 unfolding source_run source_start source_step out-Ty out
 order_of_objects = simp shape-int
 
--- nor with signs
-signed_order : source_run (relates Pred.Sle (codes "a") (int 0) (codes "a") (int 0)) [] 9 ≡ shown [] 0 (left Order)
+-- a place is at most itself
+at_most_itself : source_run (relates Pred.Ule (codes "a") (int 1) (codes "a") (int 1)) [] 9 ≡ shown [] 0 (Ended 1)
 unfolding source_run source_start source_step out-Ty out
-signed_order = simp shape-int
+at_most_itself = simp shape-int
+
+-- and not at most one in front of it
+not_at_most : source_run (relates Pred.Ule (codes "a") (int 1) (codes "a") (int 0)) [] 9 ≡ shown [] 0 (Ended 0)
+unfolding source_run source_start source_step out-Ty out
+not_at_most = simp shape-int
+
+-- it is not above itself
+not_above_itself : source_run (relates Pred.Ugt (codes "a") (int 1) (codes "a") (int 1)) [] 9 ≡ shown [] 0 (Ended 0)
+unfolding source_run source_start source_step out-Ty out
+not_above_itself = simp shape-int
+
+-- but above one in front of it
+above : source_run (relates Pred.Ugt (codes "a") (int 1) (codes "a") (int 0)) [] 9 ≡ shown [] 0 (Ended 1)
+unfolding source_run source_start source_step out-Ty out
+above = simp shape-int
+
+-- it is at least itself
+at_least_itself : source_run (relates Pred.Uge (codes "a") (int 1) (codes "a") (int 1)) [] 9 ≡ shown [] 0 (Ended 1)
+unfolding source_run source_start source_step out-Ty out
+at_least_itself = simp shape-int
+
+-- and not at least one behind it
+not_at_least : source_run (relates Pred.Uge (codes "a") (int 1) (codes "a") (int 2)) [] 9 ≡ shown [] 0 (Ended 0)
+unfolding source_run source_start source_step out-Ty out
+not_at_least = simp shape-int
+
+-- with signs there is no order
+no_signed_less : source_run (relates Pred.Slt (codes "a") (int 0) (codes "a") (int 1)) [] 9 ≡ shown [] 0 (left Order)
+unfolding source_run source_start source_step out-Ty out
+no_signed_less = simp shape-int
+
+-- none of the four
+no_signed_at_most : source_run (relates Pred.Sle (codes "a") (int 0) (codes "a") (int 0)) [] 9 ≡ shown [] 0 (left Order)
+unfolding source_run source_start source_step out-Ty out
+no_signed_at_most = simp shape-int
+
+-- not this
+no_signed_greater : source_run (relates Pred.Sgt (codes "a") (int 1) (codes "a") (int 0)) [] 9 ≡ shown [] 0 (left Order)
+unfolding source_run source_start source_step out-Ty out
+no_signed_greater = simp shape-int
+
+-- nor this
+no_signed_at_least : source_run (relates Pred.Sge (codes "a") (int 0) (codes "a") (int 0)) [] 9 ≡ shown [] 0 (left Order)
+unfolding source_run source_start source_step out-Ty out
+no_signed_at_least = simp shape-int
 
 -- places inside of two objects differ
 equal_of_objects : source_run (relates Pred.Eq (codes "a") (int 1) (codes "b") (int 1)) [] 9 ≡ shown [] 0 (Ended 0)

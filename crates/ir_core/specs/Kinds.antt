@@ -1,5 +1,7 @@
 -- What a type says of a value, and literals as numbers of a width.
 use Rattle.std.specs.Prelude.{ℕ, ◌+◌, ◌-◌, ◌%◌, ◌^◌, Bool, true, false, nat_eq, nat_lt, if◌then◌else◌, ℤ, pos, negsuc, Ok, Err}
+pub use Rattle.ir_core.specs.declared.kind.Kind.{Kind}
+pub use Rattle.ir_core.specs.declared.kind.Kind.TheVariants.{NoValue, Number, Pointer}
 use Rattle.rd_num.specs.declared.width.Width.{Width}
 use Rattle.rd_num.specs.declared.width.Width.TheVariants.{W1}
 use Rattle.rd_num.specs.Number.{bits}
@@ -8,12 +10,6 @@ use Rattle.ir_core.specs.declared.ty.Ty.TheOpen.{Ty-F}
 use Rattle.ir_core.specs.declared.memory.Value.{Value}
 use Rattle.ir_core.specs.declared.memory.Value.TheVariants.{Num, Null}
 use Rattle.ir_core.specs.Stops.{Answer, Malformed}
-
--- a number of a width, a pointer, or nothing that a local can hold
-pub data Kind : Type 0 where
-  NoValue : Kind
-  Number : (w : Width) → Kind
-  Pointer : Kind
 
 -- by the outermost word of the type
 abbrev pub kind_at : Ty-F Ty → Kind

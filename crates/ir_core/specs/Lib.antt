@@ -11,3 +11,11 @@ pub mod Globals
 pub mod Calls
 pub mod Step
 pub mod Run
+pub mod Mentions
+pub mod Definitions
+pub mod Counts
+pub mod Sizes
+pub mod Typing
+pub mod Built
+pub mod Valid
+pub mod Refusals

@@ -1,5 +1,6 @@
 -- Names, and finding things by them.
 use Rattle.std.specs.Prelude.{ℕ, suc, List, [], ◌∷◌, Bool, Option, Some, None, option_map, nat_eq, if◌then◌else◌}
+use Rattle.std.specs.List.{find}
 use Rattle.std.specs.Cmp.Lexicographic.{pointwise}
 
 -- whether two names are the same
@@ -13,5 +14,4 @@ number_where passes (x ∷ xs) = if passes x then Some 0 else option_map (λ n. 
 
 -- the first item that passes a test
 abbrev pub first_where : {X : Type 0} → (X → Bool) → List X → Option X
-first_where passes [] = None
-first_where passes (x ∷ xs) = if passes x then Some x else first_where passes xs
+first_where passes xs = find passes xs

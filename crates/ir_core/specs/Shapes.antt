@@ -5,6 +5,7 @@ use Rattle.rd_num.specs.Number.{bits}
 use Rattle.ir_core.specs.declared.ty.Ty.{Ty, fold-Ty}
 use Rattle.ir_core.specs.declared.ty.Ty.TheOpen.{Ty-F}
 use Rattle.ir_core.specs.declared.ty.NamedTy.{NamedTy}
+use Rattle.ir_core.specs.declared.limit.TheConstants.{MAX_NESTING}
 use Rattle.ir_core.specs.Names.{same_name, first_where}
 
 -- bytes, and the place of the part that a row of indices leads to, where there is one
@@ -92,6 +93,6 @@ abbrev pub named_shape : List NamedTy → ℕ → List ℕ → Shape
 named_shape types zero name = nothing
 named_shape types (suc n) name = shape_or_nothing (fold-Ty Shape (shape_at (named_shape types n))) (first_where (λ (t : NamedTy). same_name t.name name) types)
 
--- types nest at most 64 deep, and a named type is a struct
+-- types nest no deeper than the limit, and a named type is a struct
 unfoldable pub shape_of : List NamedTy → Ty → Shape
-shape_of types = fold-Ty Shape (shape_at (named_shape types 64))
+shape_of types = fold-Ty Shape (shape_at (named_shape types MAX_NESTING))

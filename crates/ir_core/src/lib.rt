@@ -15,16 +15,18 @@ ghost use Rattle.ir_core.specs.Run.{AddsByteByByte, EndsAsModules, StaysStopped}
 
 pub mod init;
 pub mod instruction;
+pub mod kind;
+pub mod limit;
 pub mod memory;
 pub mod module;
+pub mod names;
 pub mod operand;
+pub mod size;
 pub mod ty;
+pub mod valid;
 
 /// How many calls can be active at once, the first call of `main` being one.
 pub const MAX_CALLS: u32 = 8192;
-
-/// How many parameters a function, a declaration or a call can have.
-pub const MAX_PARAMETERS: u32 = 32;
 
 /// What every run of a module has: a step prints at most one byte or takes at most one and then the
 /// run goes on, a run that has stopped stays as it is, and none comes to an ending of machines alone.

@@ -2,6 +2,7 @@
 
 use crate::init::Init;
 use crate::instruction::{Inst, Term};
+use crate::names::Named;
 use crate::ty::{Name, NamedTy, Ty};
 use rd_num::list::List;
 
@@ -53,4 +54,44 @@ pub struct Module {
     pub globals: List<GlobalVar>,
     pub externs: List<Extern>,
     pub functions: List<Function>,
+}
+
+impl Named for Block {
+    ghost name_of = { λ x. x.label };
+
+    fn name(&self) -> &Name {
+        &self.label
+    }
+}
+
+impl Named for Param {
+    ghost name_of = { λ x. x.name };
+
+    fn name(&self) -> &Name {
+        &self.name
+    }
+}
+
+impl Named for Function {
+    ghost name_of = { λ x. x.name };
+
+    fn name(&self) -> &Name {
+        &self.name
+    }
+}
+
+impl Named for Extern {
+    ghost name_of = { λ x. x.name };
+
+    fn name(&self) -> &Name {
+        &self.name
+    }
+}
+
+impl Named for GlobalVar {
+    ghost name_of = { λ x. x.name };
+
+    fn name(&self) -> &Name {
+        &self.name
+    }
 }

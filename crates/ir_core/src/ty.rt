@@ -1,5 +1,6 @@
 //! Types, and the types of a module that have a name.
 
+use crate::names::Named as HasName;
 use rd_num::boxed::Boxed;
 use rd_num::list::List;
 use rd_num::width::Width;
@@ -24,4 +25,12 @@ pub enum Ty {
 pub struct NamedTy {
     pub name: Name,
     pub fields: Ty,
+}
+
+impl HasName for NamedTy {
+    ghost name_of = { λ t. t.name };
+
+    fn name(&self) -> &Name {
+        &self.name
+    }
 }
