@@ -1,0 +1,9 @@
+pub mod Sets
+pub mod Heads
+pub mod Alike
+pub mod Nests
+pub mod Again
+pub mod Told
+pub mod Exact
+pub mod Closed
+pub mod Rows
