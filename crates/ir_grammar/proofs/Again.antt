@@ -1,28 +1,15 @@
 -- What derives is read, whatever follows that makes it no longer.
-use Rattle.std.proofs.Common.{◌≡◌, ℕ, zero, suc, ◌≤◌, Bool, true, false, List, [], ◌∷◌, ◌++◌, length, length-append, refl, sym, ◌∙◌, ap, inl, inr, arith, append_assoc}
+use Rattle.std.proofs.Common.{◌≡◌, ℕ, zero, suc, ◌≤◌, true, false, List, [], ◌∷◌, ◌++◌, length, length-append, refl, sym, ◌∙◌, ap, inl, inr, arith, append_assoc}
 use Rattle.std.specs.Prelude.{◌&&◌, not}
 use Rattle.ir_lex.specs.declared.token.TokenKind.{TokenKind}
-use Rattle.ir_grammar.specs.Tokens.{mark, Sort, starts, sort_of}
-use Rattle.ir_grammar.specs.Grammar.{Grammar, give, token, both, either, many, nest, Row, Derives}
+use Rattle.ir_grammar.specs.Tokens.{mark, starts}
+use Rattle.ir_grammar.specs.Grammar.{Grammar, give, token, both, either, many, nest, loop, Row, Derives}
 use Rattle.ir_grammar.specs.Reading.{null, first, next, where_null, apart, fine, done, read_row, read}
-use Rattle.ir_grammar.proofs.Sets.{and_left, and_right, not_true, apart_has, starts_neither, same_sort-refl}
+use Rattle.ir_grammar.proofs.Sets.{and_left, and_right, not_true, starts_neither, same_sort-refl}
 use Rattle.ir_grammar.proofs.Heads.{nulls, heads}
+use Rattle.ir_grammar.proofs.Stops.{stops_before, begins}
+use Rattle.ir_grammar.proofs.Loops.{looped, again_loop}
 use Rattle.ir_grammar.proofs.Nests.{closing_is, scan_again}
-
-where_starts : (b : Bool) (ss : List Sort) (ts : List TokenKind) → b ≡ true → starts (where_null b ss) ts ≡ false → starts ss ts ≡ false
-where_starts true ss ts e h = h
-where_starts false ss ts e h = absurd (cc)
-
--- what follows a derivation stops the one before it
-stops_before : {B : Type 0} (rs : List Sort) (h : Grammar B) (b : B) (front rest : List TokenKind) → apart rs (first h) ≡ true → Derives h b front
-    → starts (where_null (null h) rs) rest ≡ false → starts rs (front ++ rest) ≡ false
-stops_before rs h b [] rest ok d stop = where_starts (null h) rs rest (nulls h b [] refl d) stop
-stops_before rs h b (t ∷ front) rest ok d stop = apart_has rs (first h) (sort_of t) ok (heads h b t front d)
-
--- a derivation of something begins so
-begins : {A : Type 0} (g : Grammar A) (v : A) (front rest : List TokenKind) → null g ≡ false → Derives g v front → starts (first g) (front ++ rest) ≡ true
-begins g v [] rest some d = absurd (let none = nulls g v [] refl d in let e : true ≡ false = sym none ∙ some in cc)
-begins g v (t ∷ front) rest some d = heads g v t front d
 
 -- a row, where as many may be read as there are tokens
 again_row : {A : Type 0} (g : Grammar A) → null g ≡ false → apart (next g) (first g) ≡ true
@@ -89,3 +76,8 @@ again (many g) ok v front rest d stop =
     again_row g some split (λ w us vs. again g good w us vs) (length (front ++ rest)) v front rest (omega arith) d stops.0 stops.1
 again (nest o c) ok v front rest (t, us, cut, s, k) stop =
     rw cut (rw s (rw (same_sort-refl (mark o)) (scan_again c us rest (closing_is c ok) k)))
+again (loop s g h) ok v front rest d stop =
+    let k = looped s g h ok in
+    let stops = starts_neither (first s) (next g ++ next h) rest stop in
+    let parts = starts_neither (next g) (next h) rest stops.1 in
+    again_loop s g h k (λ w us vs. again s k.good_s w us vs) (λ w us vs. again g k.good_g w us vs) (λ w us vs. again h k.good_h w us vs) v front rest d stops.0 parts.0 parts.1

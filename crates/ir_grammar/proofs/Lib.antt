@@ -2,6 +2,9 @@ pub mod Sets
 pub mod Heads
 pub mod Alike
 pub mod Nests
+pub mod Stops
+pub mod Chains
+pub mod Loops
 pub mod Again
 pub mod Told
 pub mod Exact

@@ -1,86 +1,17 @@
 -- What is read tells how the tokens begin: a derivation, or the first stray token.
-use Rattle.std.proofs.Common.{◌≡◌, ℕ, zero, suc, ◌<◌, ◌≤◌, ◌⊎◌, Bool, true, false, List, [], ◌∷◌, ◌++◌, length, length-append, refl, sym, ◌∙◌, ap, subst, inl, inr, arith, append_assoc, map, if◌then◌else◌}
+use Rattle.std.proofs.Common.{◌≡◌, ℕ, zero, suc, ◌<◌, ◌≤◌, ◌⊎◌, Bool, true, false, List, [], ◌∷◌, ◌++◌, length, length-append, refl, sym, ◌∙◌, ap, subst, inl, inr, arith, if◌then◌else◌}
 use Rattle.std.specs.Prelude.{◌&&◌, not}
 use Rattle.std.proofs.lemmas.Bool.{cases_Bool}
 use Rattle.ir_lex.specs.declared.token.TokenKind.{TokenKind}
 use Rattle.ir_grammar.specs.Tokens.{Sort, has, starts, sort_of, example}
-use Rattle.ir_grammar.specs.Grammar.{Grammar, give, token, both, either, many, nest, Row, Derives}
+use Rattle.ir_grammar.specs.Grammar.{Grammar, give, token, both, either, many, nest, loop, Row, Derives}
 use Rattle.ir_grammar.specs.Reading.{null, first, next, apart, fine, Read, done, fault, ◌>>=◌, read_one, read_row, read, ending, ending_value}
 use Rattle.ir_grammar.proofs.Sets.{and_left, and_right, not_true}
-use Rattle.ir_grammar.proofs.Heads.{nulls, ends, map-append, has-example}
-use Rattle.ir_grammar.proofs.Alike.{SameHead, same_behind, starts_same, starts_cut, Took, Told}
+use Rattle.ir_grammar.proofs.Heads.{nulls, ends, has-example}
+use Rattle.ir_grammar.proofs.Alike.{SameHead, starts_same, starts_cut, Took, Told}
+use Rattle.ir_grammar.proofs.Chains.{widen, chain, chain_told}
 use Rattle.ir_grammar.proofs.Nests.{nest_told}
-
--- what is told of a part is told of the whole
-widen : {A : Type 0} (D E : A → List TokenKind → Type 0) (r q : List TokenKind → Read A) (ts : List TokenKind) (x : Read A)
-    → ((v : A) (us : List TokenKind) → D v us → E v us)
-    → ((front rest other : List TokenKind) → ts ≡ front ++ rest → SameHead rest other → q (front ++ other) ≡ r (front ++ other))
-    → Told D r ts x → Told E q ts x
-widen D E r q ts (done v rest) wide as_r t = record {
-  front = t.front;
-  cut = t.cut;
-  derives = wide v t.front t.derives;
-  local = λ other same. as_r t.front rest other t.cut same ∙ t.local other same;
-}
-widen D E r q ts (fault left) wide as_r t = record {
-  front = t.front;
-  rest = t.rest;
-  cut = t.cut;
-  left_is = t.left_is;
-  more = t.more;
-  value = t.value;
-  derives = wide t.value (t.front ++ map example t.more) t.derives;
-  local = λ other same. as_r t.front t.rest other t.cut same ∙ t.local other same;
-}
-
-module _ {A B C : Type 0} (D : A → List TokenKind → Type 0) (E : B → List TokenKind → Type 0) (F : C → List TokenKind → Type 0)
-    (r : List TokenKind → Read A) (q : List TokenKind → Read B) (f : A → B → C) where
-  abbrev pub chain : List TokenKind → Read C
-  chain ts = r ts >>= λ a us. q us >>= λ b vs. done (f a b) vs
-
-  -- one part, and the next behind it
-  chain_next : (ts : List TokenKind) (a : A) (us : List TokenKind) (y : Read B)
-      → ((a : A) (b : B) (ts left right : List TokenKind) → ts ≡ left ++ right → D a left → E b right → F (f a b) ts)
-      → Took D r ts a us → Told E q us y → Told F chain ts (y >>= λ b vs. done (f a b) vs)
-  chain_next ts a us (done b vs) join t k = record {
-    front = t.front ++ k.front;
-    cut = t.cut ∙ ap (λ x. t.front ++ x) k.cut ∙ sym (append_assoc t.front k.front vs);
-    derives = join a b (t.front ++ k.front) t.front k.front refl t.derives k.derives;
-    local = λ other same.
-        ap chain (append_assoc t.front k.front other)
-        ∙ ap (λ x. x >>= λ a us. q us >>= λ b vs. done (f a b) vs) (t.local (k.front ++ other) (subst (λ x. SameHead x (k.front ++ other)) (sym k.cut) (same_behind k.front vs other same)))
-        ∙ ap (λ x. x >>= λ b vs. done (f a b) vs) (k.local other same);
-  }
-  chain_next ts a us (fault left) join t k = record {
-    front = t.front ++ k.front;
-    rest = k.rest;
-    cut = t.cut ∙ ap (λ x. t.front ++ x) k.cut ∙ sym (append_assoc t.front k.front k.rest);
-    left_is = k.left_is;
-    more = k.more;
-    value = f a k.value;
-    derives = join a k.value ((t.front ++ k.front) ++ map example k.more) t.front (k.front ++ map example k.more) (append_assoc t.front k.front (map example k.more)) t.derives k.derives;
-    local = λ other same.
-        ap chain (append_assoc t.front k.front other)
-        ∙ ap (λ x. x >>= λ a us. q us >>= λ b vs. done (f a b) vs) (t.local (k.front ++ other) (subst (λ x. SameHead x (k.front ++ other)) (sym k.cut) (same_behind k.front k.rest other same)))
-        ∙ ap (λ x. x >>= λ b vs. done (f a b) vs) (k.local other same);
-  }
-
-  -- two parts, where there is a text of the second
-  chain_told : (ts : List TokenKind) (x : Read A) (end : List Sort) (b : B)
-      → ((a : A) (b : B) (ts left right : List TokenKind) → ts ≡ left ++ right → D a left → E b right → F (f a b) ts)
-      → E b (map example end) → Told D r ts x → ((us : List TokenKind) (a : A) → x ≡ done a us → Told E q us (q us)) → Told F chain ts (x >>= λ a us. q us >>= λ b vs. done (f a b) vs)
-  chain_told ts (done a us) end b join e t k = chain_next ts a us (q us) join t (k us a refl)
-  chain_told ts (fault left) end b join e t k = record {
-    front = t.front;
-    rest = t.rest;
-    cut = t.cut;
-    left_is = t.left_is;
-    more = t.more ++ end;
-    value = f t.value b;
-    derives = join t.value b (t.front ++ map example (t.more ++ end)) (t.front ++ map example t.more) (map example end)
-        (ap (λ x. t.front ++ x) (map-append example t.more end) ∙ sym (append_assoc t.front (map example t.more) (map example end))) t.derives e;
-    local = λ other same. ap (λ x. x >>= λ a us. q us >>= λ b vs. done (f a b) vs) (t.local other same);
-  }
+use Rattle.ir_grammar.proofs.Loops.{looped, loop_told}
 
 -- rows, each item of which takes a token
 module _ {A : Type 0} (D : A → List TokenKind → Type 0) (r : List TokenKind → Read A) (sorts : List Sort) where
@@ -138,11 +69,11 @@ module _ {A : Type 0} (D : A → List TokenKind → Type 0) (r : List TokenKind 
   some_told : Shrinks → (ts : List TokenKind) → starts sorts ts ≡ true → Told D r ts (r ts)
       → ((us : List TokenKind) (v : A) → r ts ≡ done v us → Told (Row D) row us (row us)) → Told (Row D) row ts (row ts)
   some_told shrinks ts e item go =
-      let stepped : List TokenKind → Read (List A) = chain D (Row D) (Row D) r row (λ v vs. v ∷ vs) in
+      let stepped : List TokenKind → Read (List A) = chain D (λ _. Row D) (Row D) r (λ _. row) (λ v vs. v ∷ vs) in
       subst (Told (Row D) row ts) (sym (row-step shrinks ts e))
       (widen (Row D) (Row D) stepped row ts (stepped ts) (λ v us d. d)
       (λ front rest other cut same. row-step shrinks (front ++ other) (starts_cut sorts ts front rest other cut same ∙ e))
-      (chain_told D (Row D) (Row D) r row (λ v vs. v ∷ vs) ts (r ts) [] [] join_row refl item go))
+      (chain_told D (λ _. Row D) (Row D) r (λ _. row) (λ v vs. v ∷ vs) ts (r ts) [] [] join_row (λ _. refl) item (λ us a q. go us a q)))
 
   row_told : Shrinks → ((ts : List TokenKind) → Told D r ts (r ts)) → (n : ℕ) (ts : List TokenKind) → length ts ≤ n → Told (Row D) row ts (row ts)
   row_told shrinks item zero [] le = none_told [] refl
@@ -222,8 +153,8 @@ told (both f g h) ok ts =
     let good_g = and_left (fine g) (fine h && apart (next g) (first h)) ok in
     let more = and_right (fine g) (fine h && apart (next g) (first h)) ok in
     let good_h = and_left (fine h) (apart (next g) (first h)) more in
-    chain_told (Derives g) (Derives h) (Derives (both f g h)) (read g) (read h) f ts (read g ts) (ending h) (ending_value h)
-    (λ a b us left right cut d e. (a, b, left, right, cut, d, e, refl)) (ends h) (told g good_g ts) (λ us a q. told h good_h us)
+    chain_told (Derives g) (λ _. Derives h) (Derives (both f g h)) (read g) (λ _. read h) f ts (read g ts) (ending h) (ending_value h)
+    (λ a b us left right cut d e. (a, b, left, right, cut, d, e, refl)) (λ _. ends h) (told g good_g ts) (λ us a q. told h good_h us)
 told (either g h) ok ts =
     let good_g = and_left (fine g) (fine h && (not (null g) && apart (first g) (first h))) ok in
     let more = and_right (fine g) (fine h && (not (null g) && apart (first g) (first h))) ok in
@@ -235,3 +166,6 @@ told (many g) ok ts =
     let some = not_true (null g) (and_left (not (null g)) (apart (next g) (first g)) more) in
     row_told (Derives g) (read g) (first g) (shrinks_of g some (λ us. told g good us)) (λ us. told g good us) (length ts) ts (omega arith)
 told (nest o c) ok ts = nest_told o c ts
+told (loop s g h) ok ts =
+    let k = looped s g h ok in
+    loop_told s g h k (λ us. told s k.good_s us) (λ us. told g k.good_g us) (λ us. told h k.good_h us) ts

@@ -4,7 +4,9 @@ use Rattle.ir_lex.specs.declared.token.TokenKind.{TokenKind}
 use Rattle.ir_grammar.specs.Tokens.{Sort, mark, sort_of, example, has}
 use Rattle.ir_grammar.specs.Brackets.{Closed}
 
--- a grammar whose texts have values
+-- A grammar whose texts have values: nothing, a token of one of these sorts, one part behind another, one
+-- of two, a row, what stands in a pair of brackets with these marks, and a row behind separators that one
+-- other thing may end, behind a separator too.
 pub data Grammar : Type 0 → Type 1 where
   give : {A : Type 0} → A → Grammar A
   token : {A : Type 0} → Sort → List Sort → (TokenKind → A) → Grammar A
@@ -12,11 +14,21 @@ pub data Grammar : Type 0 → Type 1 where
   either : {A : Type 0} → Grammar A → Grammar A → Grammar A
   many : {A : Type 0} → Grammar A → Grammar (List A)
   nest : ℕ → ℕ → Grammar (Unit {0})
+  loop : {A B : Type 0} → Grammar (Unit {0}) → Grammar A → Grammar B → Grammar (List A × Option B)
 
 -- several, one behind another
 abbrev pub Row : {A : Type 0} → (A → List TokenKind → Type 0) → List A → List TokenKind → Type 0
 Row D [] ts = ts ≡ []
 Row {A} D (v ∷ vs) ts = (front : List TokenKind) × (rest : List TokenKind) × (ts ≡ front ++ rest) × D v front × Row D vs rest
+
+-- one or none
+abbrev pub Perhaps : {A : Type 0} → (A → List TokenKind → Type 0) → Option A → List TokenKind → Type 0
+Perhaps D None ts = ts ≡ []
+Perhaps D (Some v) ts = D v ts
+
+-- something behind tokens that have no value, as a comma
+abbrev pub Behind : {A : Type 0} → (List TokenKind → Type 0) → (A → List TokenKind → Type 0) → A → List TokenKind → Type 0
+Behind S D v ts = (front : List TokenKind) × (rest : List TokenKind) × (ts ≡ front ++ rest) × S front × D v rest
 
 -- the tokens derive from the grammar, with this value
 abbrev pub Derives : {A : Type 0} → Grammar A → A → List TokenKind → Type 0
@@ -27,6 +39,10 @@ Derives (both {A} {B} f g h) v ts =
 Derives (either g h) v ts = Derives g v ts ⊎ Derives h v ts
 Derives (many {A} g) v ts = Row (λ (a : A) (us : List TokenKind). Derives g a us) v ts
 Derives (nest o c) v ts = (t : TokenKind) × (rest : List TokenKind) × (ts ≡ t ∷ rest) × (sort_of t ≡ mark o) × Closed c rest
+Derives (loop {A} {B} s g h) v ts =
+    (front : List TokenKind) × (rest : List TokenKind) × (ts ≡ front ++ rest)
+    × Row (Behind (λ us. Derives s tt us) (λ (a : A) (us : List TokenKind). Derives g a us)) v.0 front
+    × Perhaps (Behind (λ us. Derives s tt us) (λ (b : B) (us : List TokenKind). Derives h b us)) v.1 rest
 
 -- some text begins with the tokens; what is added are examples, which have spellings
 pub record Viable {A : Type 0} (g : Grammar A) (ts : List TokenKind) : Type 0 where
