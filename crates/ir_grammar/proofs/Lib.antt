@@ -10,3 +10,5 @@ pub mod Told
 pub mod Exact
 pub mod Closed
 pub mod Rows
+pub mod LoopRows
+pub mod Worked

@@ -106,7 +106,7 @@ module _ {A B : Type 0} (D : A ⊎ B → List TokenKind → Type 0) (r : List To
           rw e (rw (go us (omega arith) (omega arith)) refl)
       by_round (done (inr v) us) e go = rw e refl
 
-  rounds_step : Shrinks → (ts : List TokenKind) → starts sorts ts ≡ true → rounds ts ≡ r ts >>= λ x us. unless_last x rounds us >>= λ y vs. done (with_round x y) vs
+  pub rounds_step : Shrinks → (ts : List TokenKind) → starts sorts ts ≡ true → rounds ts ≡ r ts >>= λ x us. unless_last x rounds us >>= λ y vs. done (with_round x y) vs
   rounds_step shrinks [] e = absurd (cc)
   rounds_step shrinks (t ∷ ts) e = rw e (by_round (r (t ∷ ts)) refl)
     where
@@ -213,7 +213,7 @@ module _ {A B : Type 0} (s : Grammar (Unit {0})) (g : Grammar A) (h : Grammar B)
         chain_told (Derives s) (λ _. Choice (Derives g) (Derives h)) OneRound (read s) (λ _. one_choice) (λ _ x. x) ts (read s ts) (ending g) (inl (ending_value g))
         join_choice (λ _. ends g) (told_s ts) (λ us _ q. choice_told us)
 
-    rounds_shrink : Shrinks OneRound one_round (first s)
+    pub rounds_shrink : Shrinks OneRound one_round (first s)
     rounds_shrink ts x rest e = by_took (subst (Told OneRound one_round ts) e (one_round_told ts))
       where
         by_took : Took OneRound one_round ts x rest → length rest < length ts

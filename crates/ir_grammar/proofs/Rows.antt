@@ -21,7 +21,7 @@ put_put all v (fault left) = refl
 
 module _ {A : Type 0} (g : Grammar A) (item : Item g) where
   -- what is read begins with one of the first sorts
-  starts_item : (ts : List TokenKind) (v : A) (us : List TokenKind) → read g ts ≡ done v us → starts (first g) ts ≡ true
+  pub starts_item : (ts : List TokenKind) (v : A) (us : List TokenKind) → read g ts ≡ done v us → starts (first g) ts ≡ true
   starts_item ts v us e = by_took (subst (Told (Derives g) (read g) ts) e (told g item.good ts))
     where
       by_front : (front : List TokenKind) → ts ≡ front ++ us → Derives g v front → starts (first g) ts ≡ true

@@ -167,3 +167,8 @@ put_before xs (fault left) = fault left
 abbrev pub applied : {A B : Type 0} → A → Read (A → B) → Read B
 applied a (done f ts) = done (f a) ts
 applied a (fault left) = fault left
+
+-- what was read before, in front of a row behind separators, and without what ends it
+abbrev pub put_row : {A B : Type 0} → List A → Read (List A × Option B) → Read (List A)
+put_row xs (done y ts) = done (xs ++ y.0) ts
+put_row xs (fault left) = fault left
