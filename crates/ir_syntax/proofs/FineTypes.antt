@@ -1,11 +1,11 @@
 -- One token ahead is enough for types.
-use Rattle.std.proofs.Common.{◌≡◌, ℕ, zero, suc, true, false, List, [], ◌∷◌, ◌++◌, refl, append-nil}
+use Rattle.std.proofs.Common.{◌≡◌, ℕ, zero, suc, false, [], ◌∷◌, ◌++◌, refl, append-nil}
 use Rattle.std.specs.Prelude.{codes}
 use Rattle.ir_core.specs.declared.ty.Ty.{Ty}
-use Rattle.ir_grammar.specs.Tokens.{Sort, word, mark, local, has}
+use Rattle.ir_grammar.specs.Tokens.{word, mark, local, has}
 use Rattle.ir_grammar.specs.Grammar.{Grammar, either}
 use Rattle.ir_grammar.specs.Parts.{behind_comma}
-use Rattle.ir_grammar.specs.Reading.{first, next, null, fine}
+use Rattle.ir_grammar.specs.Reading.{first}
 use Rattle.ir_grammar.proofs.Closed.{Closed}
 use Rattle.ir_grammar.proofs.Rows.{Item}
 use Rattle.ir_syntax.specs.Words.{words_from}

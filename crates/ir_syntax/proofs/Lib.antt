@@ -1,1 +1,2 @@
 pub mod FineTypes
+pub mod FineValues

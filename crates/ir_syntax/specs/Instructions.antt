@@ -1,5 +1,5 @@
 -- Instructions, each with the alignment and the attachments that may stand behind it.
-use Rattle.std.specs.Prelude.{ℕ, List, ◌∷◌, Option, Some, None, codes}
+use Rattle.std.specs.Prelude.{ℕ, ◌∷◌, Option, Some, None, codes}
 use Rattle.ir_core.specs.declared.ty.Ty.{Ty}
 use Rattle.ir_core.specs.declared.operand.Operand.{Operand}
 use Rattle.ir_core.specs.declared.operand.Operand.TheVariants as operand
@@ -8,17 +8,13 @@ use Rattle.ir_core.specs.declared.instruction.Op.TheVariants as op_of
 use Rattle.ir_core.specs.declared.instruction.Arg.{Arg}
 use Rattle.ir_core.specs.declared.instruction.Entry.{Entry}
 use Rattle.ir_core.specs.declared.instruction.Inst.{Inst}
-use Rattle.ir_grammar.specs.Grammar.{Grammar, give, both, either, many, optional, ◌▸◌, ◌▹◌}
+use Rattle.ir_grammar.specs.Grammar.{Grammar, give, either, loop, ◌▸◌, ◌▹◌}
 use Rattle.ir_grammar.specs.Parts.{the_word, the_mark, a_count, a_local, skip}
 use Rattle.ir_syntax.specs.Words.{one_word, maybe, a_comma, plain_global, a_debug_global, plain_hash, a_debug_hash, aligned, bin_word, cast_word, pred_word, flag, convention, function_word}
 use Rattle.ir_syntax.specs.Types.{ty, itype, rtype}
 use Rattle.ir_syntax.specs.Values.{value}
 use Rattle.ir_syntax.specs.Metadata.{pgroup, group, attach, attaches, align_tail}
 use Rattle.ir_syntax.specs.Parameters.{pattr, args}
-
--- stand-in
-abbrev loop : {A B : Type 0} → Grammar (Unit {0}) → Grammar A → Grammar B → Grammar (List A × Option B)
-loop {A} {B} s g h = both (λ (vs : List A) (b : Option B). (vs, b)) (many (give (λ x. x) ▹ s ▸ g)) (optional (give (λ x. x) ▹ s ▸ h))
 
 -- BIN { FLAG } type value "," value
 unfoldable pub binary : Grammar Op
