@@ -1,2 +1,4 @@
 pub mod FineTypes
 pub mod FineValues
+pub mod FineInstructions
+pub mod FineModule

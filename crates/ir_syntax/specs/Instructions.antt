@@ -119,6 +119,10 @@ named_inst = give (λ n o. Some (record { result = Some n; op = o })) ▸ a_loca
 unfoldable pub void_inst : Grammar (Option Inst)
 void_inst = give without_name ▸ either (give Some ▸ store) void_call
 
+-- Hash group, where the Hash begins with `dbg_`: it leaves no trace
+unfoldable pub debug_inst : Grammar (Option Inst)
+debug_inst = give None ▹ a_debug_hash ▹ group
+
 -- inst = Local "=" op { "," attach } | void { "," attach } | Hash group, where the Hash begins with `dbg_`
 unfoldable pub inst : Grammar (Option Inst)
-inst = either named_inst (either void_inst (give None ▹ a_debug_hash ▹ group))
+inst = either named_inst (either void_inst debug_inst)
