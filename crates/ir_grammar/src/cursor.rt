@@ -14,7 +14,7 @@ pub enum Stop {
 }
 
 /// Whether a token is this word.
-fn is_word(kind: &TokenKind, text: &[u8]) -> bool
+pub fn is_word(kind: &TokenKind, text: &[u8]) -> bool
     ensures { result ≡ same_sort (word text.now) (sort_of kind.now) }
 {
     match kind {

@@ -2,3 +2,4 @@ pub mod FineTypes
 pub mod FineValues
 pub mod FineInstructions
 pub mod FineModule
+pub mod Skips

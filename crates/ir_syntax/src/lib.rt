@@ -8,4 +8,6 @@
 #![tactic(auto)]
 
 pub mod item;
+pub mod names;
 pub mod parameter;
+pub mod words;
