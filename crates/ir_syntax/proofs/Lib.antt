@@ -2,4 +2,5 @@ pub mod FineTypes
 pub mod FineValues
 pub mod FineInstructions
 pub mod FineModule
+pub mod Levels
 pub mod Skips

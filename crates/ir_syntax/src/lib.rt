@@ -10,4 +10,5 @@
 pub mod item;
 pub mod names;
 pub mod parameter;
+pub mod types;
 pub mod words;
