@@ -11,4 +11,5 @@ pub mod item;
 pub mod names;
 pub mod parameter;
 pub mod types;
+pub mod values;
 pub mod words;
