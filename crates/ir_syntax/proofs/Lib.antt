@@ -3,4 +3,5 @@ pub mod FineValues
 pub mod FineInstructions
 pub mod FineModule
 pub mod Levels
+pub mod InitLevels
 pub mod Skips

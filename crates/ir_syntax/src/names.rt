@@ -184,6 +184,16 @@ pub fn int<'a>(tokens: &'a [Token]) -> Result<(i128, &'a [Token]), Stop>
     }
 }
 
+/// Whether the next token is a `c".."`.
+pub fn at_cstr(tokens: &[Token]) -> bool
+    ensures { result ≡ starts (a_cstr_sort ∷ []) (kinds tokens.now) }
+{
+    match tokens {
+        [next, ..] => matches!(next.kind, TokenKind::CStr(_)),
+        _ => false,
+    }
+}
+
 /// The bytes of a `c".."`, and the tokens behind it.
 pub fn cstr<'a>(alloc: Global, tokens: &'a [Token]) -> Result<(List<u8>, &'a [Token]), Stop>
     ensures { Gives (λ x. done x.0 (kinds x.1.now)) result (read a_cstr (kinds tokens.now)) }

@@ -46,7 +46,7 @@ pub fn const_value<'a>(tokens: &'a [Token]) -> Result<(Operand, &'a [Token]), St
 
 /// Whether a value that is one token, and no local, stands first.
 #[tactic(auto, unfolding(crate::specs::Values::plain_value, crate::specs::Values::const_value))]
-fn at_plain_value(tokens: &[Token]) -> bool
+pub fn at_plain_value(tokens: &[Token]) -> bool
     ensures { result ≡ starts (first a_plain_value) (kinds tokens.now) }
 {
     at_int(tokens) || at_one_of(tokens, &VALUE_WORDS) || at_global(tokens)
