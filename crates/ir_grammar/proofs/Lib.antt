@@ -12,3 +12,4 @@ pub mod Closed
 pub mod Rows
 pub mod LoopRows
 pub mod Worked
+pub mod Groups

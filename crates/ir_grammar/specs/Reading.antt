@@ -5,7 +5,9 @@ use Rattle.ir_lex.specs.declared.token.TokenKind.{TokenKind}
 use Rattle.ir_grammar.specs.declared.cursor.Stop.{Stop}
 use Rattle.ir_grammar.specs.declared.cursor.Stop.TheVariants as stop
 use Rattle.ir_grammar.specs.Tokens.{Sort, mark, same_sort, sort_of, example, has, starts}
-use Rattle.ir_grammar.specs.Brackets.{Shape, opens, closes, plain, mark_shape, shape_of}
+use Rattle.ir_grammar.specs.declared.bracket.Shape.{Shape}
+use Rattle.ir_grammar.specs.declared.bracket.Shape.TheVariants.{Opens, Closes, Plain}
+use Rattle.ir_grammar.specs.Brackets.{mark_shape, shape_of}
 use Rattle.ir_grammar.specs.Grammar.{Grammar, give, token, both, either, many, nest, loop}
 
 -- whether no token derives
@@ -47,9 +49,9 @@ apart [] ss = true
 apart (r ∷ rs) ss = not (has ss r) && apart rs ss
 
 abbrev pub is_closing : Shape → Bool
-is_closing (opens c) = false
-is_closing (closes c) = true
-is_closing plain = false
+is_closing (Opens c) = false
+is_closing (Closes c) = true
+is_closing Plain = false
 
 -- whether a separator ends before either part, the parts are apart, and the first ends before a separator
 abbrev pub is_looped : {S A B : Type 0} → Grammar S → Grammar A → Grammar B → Bool
@@ -111,9 +113,9 @@ read_rounds (suc n) sorts r ts =
 
 -- to the end of the groups that are open, with these closing marks
 abbrev pub by_shape : Shape → ℕ → List ℕ → ℕ → (List ℕ → Read (Unit {0})) → Read (Unit {0})
-by_shape (opens d) c cs left go = go (d ∷ c ∷ cs)
-by_shape (closes d) c cs left go = if d == c then go cs else fault left
-by_shape plain c cs left go = go (c ∷ cs)
+by_shape (Opens d) c cs left go = go (d ∷ c ∷ cs)
+by_shape (Closes d) c cs left go = if d == c then go cs else fault left
+by_shape Plain c cs left go = go (c ∷ cs)
 
 abbrev pub scan : List TokenKind → List ℕ → Read (Unit {0})
 scan ts [] = done tt ts
