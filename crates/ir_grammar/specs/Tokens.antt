@@ -1,6 +1,7 @@
 -- What the grammar asks of single tokens.
 use Rattle.std.specs.Prelude.{ℕ, ◌||◌, Bool, true, false, List, [], ◌∷◌, ◌==◌, codes, ℤ, pos, negsuc, nat_lt, map, ◌&&◌}
 use Rattle.std.specs.Char.{is_ascii_digit}
+use Rattle.std.specs.List.{list_all}
 use Rattle.std.specs.Cmp.Lexicographic.{pointwise}
 use Rattle.ir_lex.specs.declared.token.Token.{Token}
 use Rattle.ir_lex.specs.declared.token.TokenKind.{TokenKind}
@@ -35,14 +36,10 @@ begins_with [] ys = true
 begins_with (x ∷ xs) [] = false
 begins_with (x ∷ xs) (y ∷ ys) = x == y && begins_with xs ys
 
-abbrev pub all_digits : List ℕ → Bool
-all_digits [] = true
-all_digits (b ∷ bs) = is_ascii_digit b && all_digits bs
-
 -- one digit or more
 abbrev pub is_digits : List ℕ → Bool
 is_digits [] = false
-is_digits (b ∷ bs) = all_digits (b ∷ bs)
+is_digits (b ∷ bs) = list_all is_ascii_digit (b ∷ bs)
 
 abbrev pub chosen : Bool → Sort → Sort → Sort
 chosen true s r = s

@@ -9,6 +9,7 @@
 
 pub mod initialiser;
 pub mod item;
+pub mod metadata;
 pub mod names;
 pub mod parameter;
 pub mod types;
