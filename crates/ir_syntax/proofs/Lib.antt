@@ -5,3 +5,4 @@ pub mod FineModule
 pub mod Levels
 pub mod InitLevels
 pub mod Skips
+pub mod Attributes

@@ -10,7 +10,7 @@ use Rattle.ir_syntax.specs.declared.item.Item.TheVariants as item_of
 use Rattle.ir_syntax.specs.Words.{maybe, plain_global, a_debug_global, a_hash, aligned, in_section, link, function_word}
 use Rattle.ir_syntax.specs.Types.{rtype}
 use Rattle.ir_syntax.specs.Metadata.{pgroup, attach}
-use Rattle.ir_syntax.specs.Parameters.{pattr, params, declared_params, numbered_from, named_from, name_or}
+use Rattle.ir_syntax.specs.Parameters.{pattr, params, declared_params, name_or}
 use Rattle.ir_syntax.specs.Instructions.{inst}
 use Rattle.ir_syntax.specs.Terminators.{term}
 
@@ -39,7 +39,7 @@ defined_tail = either declared_tail attach
 -- name of digits.
 unfoldable pub define : Grammar Function
 define =
-    give (λ t n ps bs. record { name = n; ret = t; params = named_from 0 ps; blocks = bs (decimal (numbered_from 0 ps)) })
+    give (λ t n ps bs. record { name = n; ret = t; params = ps.named; blocks = bs (decimal ps.numbered) })
     ▹ the_word (codes "define") ▹ skip link ▹ skip pattr ▸ rtype ▸ a_global ▸ params ▹ skip defined_tail ▹ the_mark 123 ▸ body ▹ the_mark 125
 
 -- what a declaration has behind its type: a name and parameters, or a Global that begins with `llvm.dbg.` and

@@ -9,3 +9,4 @@ pub mod Terminators
 pub mod Functions
 pub mod Items
 pub mod ModuleText
+pub mod Naming

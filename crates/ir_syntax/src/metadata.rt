@@ -56,7 +56,7 @@ fn are_digits(text: &[u8]) -> bool
 }
 
 /// Whether bytes are one digit or more.
-fn is_number(text: &[u8]) -> bool
+pub fn is_number(text: &[u8]) -> bool
     ensures { result ≡ is_digits text.now }
 {
     match text {
