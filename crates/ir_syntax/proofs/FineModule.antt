@@ -10,7 +10,7 @@ use Rattle.ir_syntax.specs.declared.item.Item.TheVariants as item_of
 use Rattle.ir_syntax.specs.Words.{words_from, link, parameter_word, function_word}
 use Rattle.ir_syntax.specs.Metadata.{group, metadata, attach, attaches}
 use Rattle.ir_syntax.specs.Parameters.{pattr}
-use Rattle.ir_syntax.specs.Terminators.{target, ret, br, case, switch, unreachable, term}
+use Rattle.ir_syntax.specs.Terminators.{target, ret, br, case, switch, unreachable, ending, term}
 use Rattle.ir_syntax.specs.Functions.{block, labelled, body, declared_tail, defined_tail, define, declared, declare}
 use Rattle.ir_syntax.specs.Items.{source_item, target_item, type_item, global_tail, global_item, attributes_item, metadata_item, item}
 use Rattle.ir_syntax.specs.ModuleText.{module_text}
@@ -55,18 +55,19 @@ known-unreachable = record { good = refl; some = refl; first_is = refl; next_is 
 abbrev pub term_firsts : List Sort
 term_firsts = words_from [] (codes "ret br switch unreachable")
 
-known-end : Known (either ret (either br (either switch unreachable))) term_firsts []
-known-end =
+known-ending : Known ending term_firsts []
+unfolding ending
+known-ending =
     known-either ret _ _ _ _ _ known-ret (known-either br _ _ _ _ _ known-br (known-either switch unreachable _ _ _ _ known-switch known-unreachable refl) refl) refl
 
 pub known-term : Known term term_firsts comma
 unfolding term attaches attach metadata group
 known-term =
-    let f = known-end.good in let s = known-end.some in let b = known-end.first_is in let e = known-end.next_is in
+    let f = known-ending.good in let s = known-ending.some in let b = known-ending.first_is in let e = known-ending.next_is in
     record { good = simp (f, s, b, e); some = simp s; first_is = simp (s, b); next_is = simp (e, s) }
 
 -- blocks
-known-block : Known block (inst_firsts ++ term_firsts) comma
+pub known-block : Known block (inst_firsts ++ term_firsts) comma
 unfolding block
 known-block =
     let f = known-inst.good in let s = known-inst.some in let b = known-inst.first_is in let e = known-inst.next_is in
@@ -98,7 +99,7 @@ pub item-defined_tail : Item defined_tail
 unfolding defined_tail declared_tail function_word attach metadata group
 item-defined_tail = record { good = refl; some = refl }
 
-known-define : Known define (word (codes "define") ∷ []) []
+pub known-define : Known define (word (codes "define") ∷ []) []
 unfolding define link pattr parameter_word defined_tail declared_tail function_word attach metadata group
 known-define =
     let rf = closed-rtype.good in let rs = closed-rtype.some in let re = closed-rtype.ends in
@@ -117,7 +118,7 @@ abbrev pub declare_ends : List Sort
 declare_ends =
     mark 40 ∷ hash ∷ debug_hash ∷ words_from [] (codes "align section unnamed_addr local_unnamed_addr nounwind noreturn uwtable noinline optnone alwaysinline mustprogress willreturn norecurse nofree nosync nocallback cold hot memory readnone readonly writeonly")
 
-known-declare : Known declare (word (codes "declare") ∷ []) declare_ends
+pub known-declare : Known declare (word (codes "declare") ∷ []) declare_ends
 unfolding declare link pattr parameter_word declared_tail function_word attach metadata group
 known-declare =
     let rf = closed-rtype.good in let rs = closed-rtype.some in let re = closed-rtype.ends in

@@ -6,3 +6,4 @@ pub mod Levels
 pub mod InitLevels
 pub mod Skips
 pub mod Attributes
+pub mod Firsts

@@ -37,6 +37,10 @@ switch = give term_of.Switch ▹ the_word (codes "switch") ▸ ty ▸ value ▹ 
 unfoldable pub unreachable : Grammar Term
 unreachable = give term_of.Unreachable ▹ the_word (codes "unreachable")
 
+-- term
+unfoldable pub ending : Grammar Term
+ending = either ret (either br (either switch unreachable))
+
 -- term { "," attach }
 unfoldable pub term : Grammar Term
-term = give (λ t. t) ▸ either ret (either br (either switch unreachable)) ▹ attaches
+term = give (λ t. t) ▸ ending ▹ attaches

@@ -90,6 +90,14 @@ fn simple<'a>(alloc: Global, tokens: &'a [Token]) -> Result<(Ty, &'a [Token]), S
     }
 }
 
+/// Whether a type stands first.
+#[tactic(auto, using(crate::proofs::Firsts::first_type), unfolding(crate::specs::Types::simple_type))]
+pub fn at_type(tokens: &[Token]) -> bool
+    ensures { result ≡ starts (first whole_ty) (kinds tokens.now) }
+{
+    at_simple(tokens) || at_mark(tokens, b'[') || at_mark(tokens, b'{') || at_mark(tokens, b'<')
+}
+
 /// A type, with so many levels left.
 #[cycle(ty)]
 #[tactic(auto, using(crate::proofs::Levels::shallow, crate::proofs::Levels::deep_simple, crate::proofs::Levels::deep_array, crate::proofs::Levels::deep_struct))]
