@@ -1,0 +1,15 @@
+pub mod Sets
+pub mod Heads
+pub mod Alike
+pub mod Nests
+pub mod Stops
+pub mod Chains
+pub mod Loops
+pub mod Again
+pub mod Told
+pub mod Exact
+pub mod Closed
+pub mod Rows
+pub mod LoopRows
+pub mod Worked
+pub mod Groups

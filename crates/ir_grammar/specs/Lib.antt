@@ -1,0 +1,5 @@
+pub mod Tokens
+pub mod Brackets
+pub mod Grammar
+pub mod Parts
+pub mod Reading

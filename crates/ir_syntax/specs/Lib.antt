@@ -1,0 +1,12 @@
+pub mod Words
+pub mod Types
+pub mod Values
+pub mod Initialisers
+pub mod Metadata
+pub mod Parameters
+pub mod Instructions
+pub mod Terminators
+pub mod Functions
+pub mod Items
+pub mod ModuleText
+pub mod Naming
