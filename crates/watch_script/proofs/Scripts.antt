@@ -4,7 +4,8 @@ use Rattle.std.proofs.lemmas.Bool.Decides.{nat_tests}
 use Rattle.std.proofs.lemmas.List.{append-nil}
 use Rattle.watch_script.specs.declared.event.Event.{Event}
 use Rattle.watch_script.specs.Events.{are_in_order, is_script, last_after}
-use Rattle.watch_script.specs.Script.{number_behind, below, numeral, IsLine, AreLines, ScriptOf, IsFirstBad}
+use Rattle.rd_num.specs.Numeral.{number_behind, below, numeral}
+use Rattle.watch_script.specs.Script.{IsLine, AreLines, ScriptOf, IsFirstBad}
 use Rattle.watch_script.specs.Reading.{IsNext, HasNoNext}
 
 -- the lines before the rest are those of the events

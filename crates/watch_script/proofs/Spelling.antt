@@ -3,7 +3,8 @@ use Rattle.std.proofs.Common.{◌≡◌, ℕ, ◌+◌, ◌*◌, ◌<◌, ◌≤�
 use Rattle.std.specs.Cmp.Lexicographic.{pointwise}
 use Rattle.std.proofs.lemmas.Bool.Decides.{nat_tests}
 use Rattle.watch_script.specs.declared.event.Event.{Event}
-use Rattle.watch_script.specs.Script.{digit_value, number_behind, below, numeral, IsLine}
+use Rattle.rd_num.specs.Numeral.{digit_value, number_behind, below, numeral}
+use Rattle.watch_script.specs.Script.{IsLine}
 use Rattle.watch_script.specs.Reading.{split_at, event_by, by_length, by_word, by_steps, event_of, IsNext, HasNoNext}
 use Rattle.watch_script.proofs.Parting.{Lacks, lacks_both, split_found, split_is}
 

@@ -4,7 +4,8 @@ use Rattle.std.specs.Prelude.{◌≡◌, ◌==◌, ℕ, ◌+◌, ◌^◌, ◌≤
 use Rattle.std.specs.List.{position}
 use Rattle.std.specs.Cmp.Lexicographic.{pointwise}
 use Rattle.watch_script.specs.declared.event.Event.{Event}
-use Rattle.watch_script.specs.Script.{numeral, IsLine}
+use Rattle.rd_num.specs.Numeral.{numeral}
+use Rattle.watch_script.specs.Script.{IsLine}
 
 abbrev pub at_place : List ℕ → Option ℕ → Option (List ℕ × List ℕ)
 at_place xs None = None

@@ -4,7 +4,8 @@ ghost use Rattle.std.specs.Prelude.{◌≡◌, None, Some, MatchOption};
 ghost use Rattle.watch_script.specs.Reading.{event_by, by_length, by_word, by_steps, event_of, split_at, IsNext, HasNoNext};
 
 use crate::event::Event;
-use crate::fields::{decimal, hexadecimal, split};
+use crate::fields::split;
+use rd_num::numeral::{decimal, hexadecimal};
 
 /// The event of the parts of a line.
 fn event(steps: &[u8], address: &[u8], length: &[u8]) -> Option<Event>

@@ -1,6 +1,6 @@
 use Rattle.std.proofs.Common.{◌≡◌, ◌<◌, ◌^◌, drop}
-use Rattle.watch_script.specs.Script.{number_behind}
-use Rattle.watch_script.proofs.fields.hexadecimal.Given as goal
+use Rattle.rd_num.specs.Numeral.{number_behind}
+use Rattle.rd_num.proofs.numeral.hexadecimal.Given as goal
 
 -- the digits so far are in the number
 abbrev pub invariant-loop-c : goal.invariant-loop-c

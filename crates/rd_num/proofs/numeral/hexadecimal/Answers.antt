@@ -1,6 +1,6 @@
 use Rattle.std.proofs.Common.{ℕ, ◌≤◌, ◌^◌, arith, lit<}
 use Rattle.std.proofs.Math.Nat.{pow-le-pow_right}
-use Rattle.watch_script.proofs.fields.hexadecimal.Goals as goal
+use Rattle.rd_num.proofs.numeral.hexadecimal.Goals as goal
 
 -- at most sixteen digits came before
 few : (k : ℕ) → k ≤ 16 → 16 ^ k ≤ 16 ^ 16
