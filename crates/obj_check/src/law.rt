@@ -15,3 +15,8 @@ pub fn bytes_have_one_cut()
 pub fn violations_are_of_others()
     ensures { (o : Program) (v : Violation) → IsFirstViolation o v → IsWellFormed o → ⊥ }
 {}
+
+/// An object has one first violation at most.
+pub fn one_violation_is_first()
+    ensures { (o : Program) (v w : Violation) → IsFirstViolation o v → IsFirstViolation o w → v ≡ w }
+{}

@@ -11,5 +11,6 @@ pub mod Totals
 pub mod Looked
 pub mod Fronts
 pub mod Written
+pub mod Landing
 pub mod Worked
 pub mod SmallWell

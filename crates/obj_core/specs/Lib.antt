@@ -4,6 +4,7 @@ pub mod Cut
 pub mod Saved
 pub mod WellFormed
 pub mod SymbolicMachine
+pub mod Landing
 pub mod Placement
 pub mod Runs
 pub mod Plans
