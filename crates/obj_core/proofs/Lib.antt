@@ -12,5 +12,6 @@ pub mod Looked
 pub mod Fronts
 pub mod Written
 pub mod Landing
+pub mod Strays
 pub mod Worked
 pub mod SmallWell

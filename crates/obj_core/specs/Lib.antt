@@ -8,4 +8,5 @@ pub mod Landing
 pub mod Placement
 pub mod Runs
 pub mod Plans
+pub mod Layout
 pub mod Small

@@ -14,7 +14,7 @@ use Rattle.obj_core.specs.declared.object.Slot.{Slot}
 use Rattle.obj_core.specs.declared.object.CodeAt.{CodeAt}
 use Rattle.obj_core.specs.Slots.{positions}
 use Rattle.obj_core.specs.Placement.{filler, piece, order, starts, address}
-use Rattle.obj_lay.specs.Layout.{code_bytes, slot_bytes, layout}
+use Rattle.obj_core.specs.Layout.{code_bytes, slot_bytes, layout}
 
 abbrev plain : List ℕ → List Link → Func
 plain bytes links = record { kind = FuncKind.Plain; bytes = bytes; links = links }
