@@ -1,12 +1,12 @@
 -- Which words land: those of slots, each at its own slot.
-use Rattle.std.proofs.Common.{◌≡◌, ℕ, zero, suc, ◌+◌, ◌*◌, ◌<◌, ◌⊎◌, inl, inr, Bool, true, false, List, [], ◌∷◌, length, Option, Some, None, if◌then◌else◌, refl, sym, ◌∙◌, ap, subst, arith}
+use Rattle.std.proofs.Common.{◌≡◌, ℕ, zero, suc, ◌+◌, ◌*◌, ◌<◌, ◌⊎◌, inl, inr, Bool, true, false, List, [], ◌∷◌, length, Option, Some, if◌then◌else◌, refl, sym, ◌∙◌, ap, subst, arith}
 use Rattle.std.specs.Prelude.{nat_eq, slice_index}
 use Rattle.std.proofs.lemmas.Bool.{eqb-true, eq-eqb, ne_eqb}
-use Rattle.rd_draw.specs.Draw.{keystream_word, shuffled}
+use Rattle.rd_draw.specs.Draw.{keystream_word}
 use Rattle.rd_draw.proofs.Permuted.{shuffled_long, shuffled_apart}
 use Rattle.obj_core.specs.declared.object.Object.{Object}
 use Rattle.obj_core.specs.declared.object.Place.{Place}
-use Rattle.obj_core.specs.Slots.{slot_base, slot_purpose, slot_start, positions}
+use Rattle.obj_core.specs.Slots.{slot_base, slot_purpose, positions}
 use Rattle.obj_core.specs.SymbolicMachine.{landing_from, symbolic_land}
 use Rattle.obj_core.specs.Landing.{LandsAt}
 
@@ -51,8 +51,8 @@ AreApart ps = (i j : ℕ) → i < length ps → j < length ps → slice_index ps
 passed : (q r w at k : ℕ) (rest : Option Place) → (q ≡ r → ⊥) → (at ≡ 0) ⊎ (at ≡ 5) → w ≡ slot_base + 16 * r + at →
     (if nat_eq w (slot_base + 16 * q) then Some (Place.Slot k 0) else (if nat_eq w (slot_base + 16 * q + 5) then Some (Place.Slot k 5) else rest)) ≡ rest
 passed q r w at k rest differ landing word =
-    let small : at < 6 = elim landing [ | inl e ↦ omega (arith, e) | inr e ↦ omega (arith, e) ] in
-    let five : (at ≡ 5) ⊎ (at < 5) = elim landing [ | inl e ↦ inr (omega (arith, e)) | inr e ↦ inl e ] in
+    let small : at < 6 = elim landing [ inl e ↦ omega (arith, e) | inr e ↦ omega (arith, e) ] in
+    let five : (at ≡ 5) ⊎ (at < 5) = elim landing [ inl e ↦ inr (omega (arith, e)) | inr e ↦ inl e ] in
     let first : nat_eq w (slot_base + 16 * q) ≡ false = ne_eqb w (slot_base + 16 * q) (λ e. differ (omega (arith, e, word, small))) in
     let second : nat_eq w (slot_base + 16 * q + 5) ≡ false = ne_eqb w (slot_base + 16 * q + 5) (λ e. differ (omega (arith, e, word, small))) in
     ap (λ t. if t then Some (Place.Slot k 0) else (if nat_eq w (slot_base + 16 * q + 5) then Some (Place.Slot k 5) else rest)) first ∙

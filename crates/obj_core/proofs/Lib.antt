@@ -1,4 +1,4 @@
-pub mod Cuts
+pub mod Spelling
 pub mod Stands
 pub mod Kept
 pub mod Inside

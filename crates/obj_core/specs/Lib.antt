@@ -1,6 +1,6 @@
 pub mod Object
 pub mod Slots
-pub mod Cut
+pub mod Disassembly
 pub mod Saved
 pub mod WellFormed
 pub mod SymbolicMachine

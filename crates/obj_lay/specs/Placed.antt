@@ -15,7 +15,7 @@ use Rattle.obj_core.specs.declared.object.Func.{Func}
 use Rattle.obj_core.specs.declared.object.Slot.{Slot}
 use Rattle.obj_core.specs.declared.object.Place.{Place}
 use Rattle.obj_core.specs.Slots.{slot_start}
-use Rattle.obj_core.specs.Cut.{size_of}
+use Rattle.obj_core.specs.Disassembly.{size_of}
 use Rattle.obj_core.specs.SymbolicMachine.{link_before, target, at_code}
 
 -- segments that may be neither read nor written

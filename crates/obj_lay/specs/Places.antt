@@ -8,14 +8,14 @@ use Rattle.obj_core.specs.declared.object.Func.{Func}
 use Rattle.obj_core.specs.declared.object.Slot.{Slot}
 use Rattle.obj_core.specs.declared.object.Place.{Place}
 use Rattle.obj_core.specs.Slots.{slot_start}
-use Rattle.obj_core.specs.Cut.{found, starts_at}
+use Rattle.obj_core.specs.Disassembly.{found, starts_at}
 use Rattle.obj_core.specs.SymbolicMachine.{link_before, target, at_code}
 use Rattle.obj_lay.specs.Placed.{AreHidden, IsAt, IsAtTo, HasInstr}
 
 -- the starts of instructions
 abbrev pub is_code_place : Option (List Instr) → ℕ → Bool
 is_code_place None off = false
-is_code_place (Some cut) off = starts_at (found cut) off
+is_code_place (Some instrs) off = starts_at (found instrs) off
 
 -- the starts of a slot's instructions, and the byte behind its call
 abbrev pub is_slot_place : Option Slot → ℕ → Bool
@@ -24,10 +24,10 @@ is_slot_place (Some (Slot.Indirect back)) at = nat_eq at 0 || (nat_eq at 1 || (n
 is_slot_place (Some (Slot.System back)) at = nat_eq at 0 || (nat_eq at 2 || (nat_eq at 3 || (nat_eq at 4 || nat_eq at 5)))
 is_slot_place (Some s) at = nat_eq at 0 || nat_eq at 5
 
--- the places of an object whose functions have these cuts
+-- the places of an object whose functions have these disassemblies
 abbrev pub is_step_place : Object → List (List Instr) → Place → Bool
-is_step_place o cuts (Place.Code n off) = is_code_place (slice_get cuts n) off
-is_step_place o cuts (Place.Slot k at) = is_slot_place (slice_get o.slots k) at
+is_step_place o disassemblies (Place.Code n off) = is_code_place (slice_get disassemblies n) off
+is_step_place o disassemblies (Place.Slot k at) = is_slot_place (slice_get o.slots k) at
 
 module _ (exec : List Segment) (place : Place → ℕ) (o : Object) where
   -- the bytes of an instruction of a function: a branch leads to the address of its target, and all others are as they were
@@ -48,10 +48,10 @@ module _ (exec : List Segment) (place : Place → ℕ) (o : Object) where
       IsAt exec (place (Place.Slot k 0)) Syscall × IsAt exec (place (Place.Slot k 2)) Nop × IsAt exec (place (Place.Slot k 3)) Nop ×
       IsAt exec (place (Place.Slot k 4)) Nop × IsAtTo exec (place (Place.Slot k 5)) Jmp (place (at_code back))
 
-  -- hidden bytes hold each instruction and each slot of an object with these cuts, and neighbours in a function are neighbours
-  pub record IsLaid (cuts : List (List Instr)) : Type 0 where
+  -- hidden bytes hold each instruction and each slot of an object with these disassemblies, and neighbours in a function are neighbours
+  pub record IsLaid (disassemblies : List (List Instr)) : Type 0 where
     pub hidden : AreHidden exec
-    pub code : (n off : ℕ) → is_code_place (slice_get cuts n) off ≡ true → (s : HasInstr o n off) → CodeBytes s.func n off s.instr
-    pub neighbours : (n off size : ℕ) → is_code_place (slice_get cuts n) off ≡ true → is_code_place (slice_get cuts n) (off + size) ≡ true → place (Place.Code n (off + size)) ≡ (place (Place.Code n off) + size) % 2 ^ 64
+    pub code : (n off : ℕ) → is_code_place (slice_get disassemblies n) off ≡ true → (s : HasInstr o n off) → CodeBytes s.func n off s.instr
+    pub neighbours : (n off size : ℕ) → is_code_place (slice_get disassemblies n) off ≡ true → is_code_place (slice_get disassemblies n) (off + size) ≡ true → place (Place.Code n (off + size)) ≡ (place (Place.Code n off) + size) % 2 ^ 64
     pub slots : (k : ℕ) (s : Slot) → slice_get o.slots k ≡ Some s → SlotBytes k s
     pub addresses : (k at : ℕ) → place (Place.Slot k at) ≡ slot_start o k + at

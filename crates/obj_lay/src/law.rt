@@ -24,7 +24,7 @@ ghost use Rattle.obj_lay.specs.Hidden.{ShowsObject};
 /// Bytes that hold each instruction and each slot of a well-formed object hold the object.
 pub fn laid_is_placed()
     ensures { (exec : Row Segment) (place : Place → ℕ) (o : Object) (well : IsWellFormed o) →
-        IsLaid exec place o well.cuts → Placed exec place (is_step_place o well.cuts) o }
+        IsLaid exec place o well.disassemblies → Placed exec place (is_step_place o well.disassemblies) o }
 {}
 
 /// An image that holds an object shows what the object shows, wherever it has its code.

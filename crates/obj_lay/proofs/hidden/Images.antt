@@ -20,7 +20,7 @@ use Rattle.obj_core.specs.WellFormed.{IsWellFormed}
 use Rattle.obj_core.specs.SymbolicMachine.{symbolic_start, symbolic_step, symbolic_run, symbolic_behavior}
 use Rattle.obj_lay.specs.Placed.{Placed, HoldsObject}
 use Rattle.obj_lay.specs.Places.{is_step_place, IsLaid}
-use Rattle.obj_lay.specs.Hidden.{ShowsObject, HasDataOf, Look, replies, image_shown, object_shown, RepliesAsObject, ShowTheSame}
+use Rattle.obj_lay.specs.Hidden.{ShowsObject, HasDataOf, replies, image_shown, object_shown, RepliesAsObject, ShowTheSame}
 use Rattle.obj_lay.proofs.lockstep.Closed.{laid_placed}
 use Rattle.obj_lay.proofs.lockstep.Images.{image_shows, image_agrees, image_preserves}
 use Rattle.obj_core.specs.Placement.{code_base}
@@ -44,7 +44,7 @@ entry_is o seed = refl
 
 module _ (o : Object) (w : IsWellFormed o) (seed : ℕ) where
   -- the layout holds each instruction and each slot
-  laid : IsLaid (exec o w seed) (at_place o w seed) o w.cuts
+  laid : IsLaid (exec o w seed) (at_place o w seed) o w.disassemblies
   laid = record {
     hidden = all_hidden (slot_bytes o seed) (code_base seed) (code_bytes o seed);
     code = code_laid o w seed;
@@ -53,9 +53,9 @@ module _ (o : Object) (w : IsWellFormed o) (seed : ℕ) where
     addresses = λ k at. refl;
   }
 
-  pub is_image : HoldsObject (layout o seed) (at_place o w seed) (is_step_place o w.cuts) o
+  pub is_image : HoldsObject (layout o seed) (at_place o w seed) (is_step_place o w.disassemblies) o
   is_image = record {
-    placed = subst (λ ss. Placed ss (at_place o w seed) (is_step_place o w.cuts) o) (sym (code_is o seed)) (laid_placed o w (exec o w seed) (at_place o w seed) laid);
+    placed = subst (λ ss. Placed ss (at_place o w seed) (is_step_place o w.disassemblies) o) (sym (code_is o seed)) (laid_placed o w (exec o w seed) (at_place o w seed) laid);
     readable = data_is o seed;
     entry = entry_is o seed;
     some_slot = let some = w.few.some_slot in omega (arith, some);
@@ -63,15 +63,15 @@ module _ (o : Object) (w : IsWellFormed o) (seed : ℕ) where
 
 -- a run of a layout shows what the object shows
 pub hidden_layout : (o : Object) → IsWellFormed o → (seed : ℕ) (input : List ℕ) (acts : List Act) → (symbolic_run o input acts).ending ≢ Strayed → observe (machine_run (layout o seed) input acts) ≡ observe (symbolic_run o input acts)
-hidden_layout o w seed input acts straight = image_shows (layout o seed) (at_place o w seed) (is_step_place o w.cuts) o (is_image o w seed) input acts straight
+hidden_layout o w seed input acts straight = image_shows (layout o seed) (at_place o w seed) (is_step_place o w.disassemblies) o (is_image o w seed) input acts straight
 
 -- after each step the same moment
 pub layout_agrees : (o : Object) → IsWellFormed o → (seed : ℕ) (input : List ℕ) (n : ℕ) → (symbolic_behavior o input n).ending ≢ Strayed → Agrees (symbolic_behavior o input n) (machine_behavior (layout o seed) input n)
-layout_agrees o w seed input n straight = image_agrees (layout o seed) (at_place o w seed) (is_step_place o w.cuts) o (is_image o w seed) input n straight
+layout_agrees o w seed input n straight = image_agrees (layout o seed) (at_place o w seed) (is_step_place o w.disassemblies) o (is_image o w seed) input n straight
 
 -- what the object preserves, a layout does
 pub layout_preserves : (o : Object) → IsWellFormed o → (seed : ℕ) (A : Behavior) → ((input : List ℕ) → AreBytes input → (k : ℕ) → (A input k).ending ≢ Strayed) → Preserves A (symbolic_behavior o) → Preserves A (machine_behavior (layout o seed))
-layout_preserves o w seed A straight p = image_preserves (layout o seed) (at_place o w seed) (is_step_place o w.cuts) o (is_image o w seed) A straight p
+layout_preserves o w seed A straight p = image_preserves (layout o seed) (at_place o w seed) (is_step_place o w.disassemblies) o (is_image o w seed) A straight p
 
 module _ (o : Object) (known : ∥ IsWellFormed o ∥₁) where
   -- observations are equal in one way at most, so a checked object need not say how it is disassembled

@@ -1,4 +1,4 @@
--- The instructions of a cut, each at its offset.
+-- The instructions of a disassembly, each at its offset.
 use Rattle.std.proofs.Common.{◌≡◌, ℕ, ◌+◌, ◌-◌, ◌≤◌, ◌⊎◌, inl, inr, true, ◌||◌, List, [], ◌∷◌, ◌++◌, length, drop, Some, refl, sym, ◌∙◌, ap, subst, arith, length-append}
 use Rattle.std.specs.Prelude.{ℤ, pos, negsuc}
 use Rattle.std.proofs.lemmas.Bool.{eqb-true, or_cases, and_parts}
@@ -9,9 +9,9 @@ use Rattle.x86_core.specs.declared.instr.Instr.TheVariants.{Jcc, Jmp}
 use Rattle.x86_core.specs.Encoding.{encoding}
 use Rattle.obj_core.specs.declared.object.Link.{Link}
 use Rattle.obj_core.specs.Object.{Each}
-use Rattle.obj_core.specs.Cut.{Found, found_from, size_of, spelled, starts_at}
+use Rattle.obj_core.specs.Disassembly.{Found, found_from, size_of, spelled, starts_at}
 use Rattle.obj_core.specs.WellFormed.{displacement, is_zero, fills_zero, is_linked, goes_well, bad_branches}
-use Rattle.obj_lay.proofs.lockstep.Starts.{other_empty}
+use Rattle.obj_core.proofs.Kept.{other_empty}
 
 -- an instruction of a row that begins at an offset stands at another one
 abbrev pub IsIn : ℕ → List Instr → ℕ → Instr → Type 0

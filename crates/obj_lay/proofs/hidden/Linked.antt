@@ -1,6 +1,6 @@
 -- What the bytes of a function have at its instructions once the displacements of its links are filled in.
 use Rattle.std.proofs.Common.{◌≡◌, ℕ, ◌+◌, ◌-◌, ◌<◌, ◌≤◌, ◌⊎◌, inl, inr, Bool, true, false, List, [], ◌∷◌, ◌++◌, length, drop, Option, Some, None, if◌then◌else◌, refl, sym, ◌∙◌, ap, arith}
-use Rattle.std.specs.Prelude.{nat_eq, nat_lt, slice_set, ℤ, pos}
+use Rattle.std.specs.Prelude.{nat_eq, slice_set, ℤ, pos}
 use Rattle.std.proofs.lemmas.Bool.{eqb-true, eqb-false, ne_eqb, ltb-true, and_parts}
 use Rattle.std.proofs.lemmas.List.{set-append_right, drop-set-lt, drop-set-add}
 use Rattle.x86_core.specs.declared.instr.Instr.{Instr}
@@ -8,10 +8,10 @@ use Rattle.x86_core.specs.declared.instr.Cond.{Cond}
 use Rattle.x86_core.specs.declared.instr.Instr.TheVariants.{Jcc, Jmp}
 use Rattle.x86_core.specs.Encoding.{encoding, number32}
 use Rattle.obj_core.specs.declared.object.Link.{Link}
-use Rattle.obj_core.specs.Cut.{Found, found, size_of}
+use Rattle.obj_core.specs.Disassembly.{Found, found, size_of}
 use Rattle.obj_core.specs.SymbolicMachine.{link_before}
 use Rattle.obj_core.specs.WellFormed.{fills_zero, is_good_link, bad_links}
-use Rattle.obj_lay.proofs.lockstep.Starts.{other_empty}
+use Rattle.obj_core.proofs.Kept.{good_parts, good_first}
 use Rattle.obj_core.specs.Placement.{displacement, overlaid, slot_in}
 use Rattle.obj_core.specs.Layout.{linked}
 use Rattle.obj_lay.proofs.hidden.Instrs.{IsIn, Front, apart, FillsZero, which_fills, IsZeroBranch, zero_branch}
@@ -70,15 +70,6 @@ test_filled c bs d at off by e same h =
       begins = ap (λ x. drop off (overlaid bs at x)) same ∙ drop_within off bs (number32 by) 2 at whole ∙ ap (λ xs. overlaid xs 2 (number32 by)) h.begins;
     }
 
--- a link that is good
-good_parts : (before : Option ℕ) (xs : List Found) (slots : ℕ) (l : Link) → is_good_link before xs slots l ≡ true → (fills_zero xs l.at ≡ true) × (nat_lt l.slot slots ≡ true)
-good_parts None xs slots l e = and_parts _ _ e
-good_parts (Some b) xs slots l e = and_parts _ _ (and_parts _ _ e).1
-
--- the first link, and the others
-good_first : (before : Option ℕ) (xs : List Found) (slots : ℕ) (l : Link) (ls : List Link) → bad_links before xs slots (l ∷ ls) ≡ [] → (is_good_link before xs slots l ≡ true) × (bad_links (Some l.at) xs slots ls ≡ [])
-good_first before xs slots l ls e = other_empty (is_good_link before xs slots l) l.at _ _ e
-
 -- no later link has the place of an earlier one
 pub no_later : (xs : List Found) (slots b b2 : ℕ) (ls : List Link) → b ≤ b2 → bad_links (Some b2) xs slots ls ≡ [] → link_before ls (b + 4) ≡ None
 no_later xs slots b b2 [] le e = refl
@@ -97,8 +88,7 @@ link_good before is slots k end (l ∷ ls) e f = by_test (link_good (Some l.at) 
     by_test later true same f =
         let good = good_parts before (found is) slots l (good_first before (found is) slots l ls e).0 in
         let this : l.slot ≡ k = cc in
-        let small = ltb-true l.slot slots good.1 in
-        (omega (arith, small, this), (l.at, eqb-true (l.at + 4) end same, which_fills 0 is l.at good.0))
+        (omega (arith, good.1, this), (l.at, eqb-true (l.at + 4) end same, which_fills 0 is l.at good.0))
     by_test later false same f = later f
 
 -- a branch has its four bytes

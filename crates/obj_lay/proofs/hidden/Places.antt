@@ -1,13 +1,11 @@
 -- The addresses of an object's places in a layout, and how far they lie apart.
-use Rattle.std.proofs.Common.{◌≡◌, ℕ, ◌+◌, ◌-◌, ◌<◌, ◌≤◌, List, ◌++◌, length, drop, Some, refl, sym, ◌∙◌, ap, subst, arith}
+use Rattle.std.proofs.Common.{◌≡◌, ℕ, ◌+◌, ◌-◌, ◌<◌, ◌≤◌, List, ◌++◌, length, drop, Some, refl, sym, ◌∙◌, ap, arith}
 use Rattle.std.specs.Prelude.{slice_get, slice_index, map, sum, option_map}
-use Rattle.std.specs.List.{range_with_len, sum_by}
-use Rattle.std.specs.List.Sorted.{IsPermutation}
+use Rattle.std.specs.List.{sum_by}
 use Rattle.std.proofs.lemmas.Option.{slice_get-get_or, slice_get-map, slice_get_within}
-use Rattle.std.proofs.lemmas.List.{length-map}
-use Rattle.std.proofs.lemmas.List.Sorted.{sum_by-IsPermutation}
+use Rattle.std.proofs.lemmas.List.Sums.{sum-map}
 use Rattle.rd_draw.specs.Draw.{keystream_word, shuffled}
-use Rattle.rd_draw.proofs.Permuted.{shuffled_long, shuffled_permutes}
+use Rattle.rd_draw.proofs.Permuted.{shuffled_long}
 use Rattle.obj_core.specs.declared.object.Object.{Object}
 use Rattle.obj_core.specs.declared.object.Func.{Func}
 use Rattle.obj_core.specs.declared.object.CodeAt.{CodeAt}
@@ -18,27 +16,18 @@ use Rattle.obj_core.specs.Placement.{order_purpose, gap_purpose, Piece, whole, p
 use Rattle.obj_core.specs.Layout.{code_from, code_bytes, linked}
 use Rattle.obj_core.proofs.Pieces.{pieces_as_many}
 use Rattle.obj_core.proofs.Orders.{StandsAt, shuffled_stands, place_again, index_below, inverse_index, inverse_get}
-use Rattle.obj_lay.proofs.hidden.Standing.{piece_stands, piece_below, piece_is, size, sizes_of, sizes_mapped, address_known}
+use Rattle.obj_core.proofs.Totals.{piece_len, order_sum, order_long, order_as_many}
+use Rattle.obj_lay.proofs.hidden.Standing.{piece_stands, piece_below, piece_is, address_known}
 
 module _ (o : Object) (seed : ℕ) where
   -- where a function starts
   unfoldable pub start : ℕ → ℕ
   start n = slice_index (starts o seed) (place_of (order o seed) n)
 
-  -- each function has one place in the order
-  order_long : length (order o seed) ≡ length o.functions
-  unfolding order
-  order_long = shuffled_long (keystream_word seed order_purpose 0) (length (pieces o.functions)) ∙ pieces_as_many o.functions
-
-  -- and stands there
+  -- each function has a place in the order
   order_stands : (n : ℕ) → n < length o.functions → StandsAt (order o seed) n
   unfolding order
   order_stands n lt = shuffled_stands (keystream_word seed order_purpose 0) (length (pieces o.functions)) n (let long = pieces_as_many o.functions in omega (arith, long, lt))
-
-  -- the order is one of the numbers of functions
-  order_permutes : IsPermutation (range_with_len 0 (length o.functions)) (order o seed)
-  unfolding order
-  order_permutes = subst (λ n. IsPermutation (range_with_len 0 n) (shuffled (keystream_word seed order_purpose 0) (length (pieces o.functions)))) (pieces_as_many o.functions) (shuffled_permutes (keystream_word seed order_purpose 0) (length (pieces o.functions)))
 
   -- the pieces in their order
   abbrev row : List Piece
@@ -57,10 +46,6 @@ module _ (o : Object) (seed : ℕ) where
   code_is : code_bytes o seed ≡ code_from (positions o) (code_base seed) (starts_from words 1 (code_base seed) row) row
   unfolding code_bytes starts
   code_is = refl
-
-  -- as many bytes as all functions have
-  row_size : sum_by size row ≡ sum (map (λ (f : Func). length f.bytes) o.functions)
-  row_size = sizes_mapped o.functions (order o seed) ∙ sum_by-IsPermutation (λ k. size (piece o.functions k)) (range_with_len 0 (length o.functions)) (order o seed) order_permutes ∙ sizes_of o.functions
 
   -- a function in the row
   row_has : (n : ℕ) (f : Func) → slice_get o.functions n ≡ Some f → slice_get row (place_of (order o seed) n) ≡ Some (whole n f)
@@ -84,8 +69,8 @@ module _ (o : Object) (seed : ℕ) where
       let reach = piece_below words 1 (code_base seed) row (place_of (order o seed) n) (whole n f) (row_has n f e) in
       let same : start n ≡ slice_index (starts_from words 1 (code_base seed) row) (place_of (order o seed) n) = ap (λ ss. slice_index ss (place_of (order o seed) n)) starts_are in
       let from : code_base seed ≤ slice_index (starts_from words 1 (code_base seed) row) (place_of (order o seed) n) = x.from in
-      let whole_size = row_size in
-      let long : length row ≡ length o.functions = length-map (order o seed) (piece o.functions) ∙ order_long in
+      let whole_size : sum_by piece_len row ≡ sum (map (λ (f : Func). length f.bytes) o.functions) = order_sum o seed ∙ sym (sum-map (λ (f : Func). length f.bytes) o.functions) in
+      let long : length row ≡ length o.functions = order_long o seed in
       let code : sum (map (λ (f : Func). length f.bytes) o.functions) ≤ 67108864 = few.code in
       let functions : length o.functions ≤ 4112 = few.functions in
       let base : code_base seed ≤ 1342173184 = omega arith in
@@ -110,7 +95,7 @@ module _ (o : Object) (seed : ℕ) where
   unfolding start address
   address_is c f e lt =
       let within = slice_get_within o.functions c.function f e in
-      let long = order_long in
+      let long = order_as_many o seed in
       address_known (inverse (order o seed)) (starts o seed) c o.functions f e lt ∙
       ap (λ q. slice_index (starts o seed) q + c.offset) (inverse_index (order o seed) c.function (omega (arith, within, long)))
 
@@ -129,8 +114,3 @@ module _ (o : Object) (seed : ℕ) where
       let long = shuffled_long (keystream_word o.slot_seed slot_purpose 0) (length o.slots) in
       inverse_get (shuffled (keystream_word o.slot_seed slot_purpose 0) (length o.slots)) (slice_index (shuffled (keystream_word o.slot_seed slot_purpose 0) (length o.slots)) k) (omega (arith, below, long)) ∙
       ap Some (place_again (keystream_word o.slot_seed slot_purpose 0) (length o.slots) k lt)
-
-  -- each slot has a position
-  pub positions_long : length (positions o) ≡ length o.slots
-  unfolding positions
-  positions_long = shuffled_long (keystream_word o.slot_seed slot_purpose 0) (length o.slots)

@@ -13,7 +13,7 @@ use Rattle.obj_core.specs.declared.object.Slot.{Slot}
 use Rattle.obj_core.specs.declared.object.CodeAt.{CodeAt}
 use Rattle.obj_core.specs.declared.object.Place.{Place}
 use Rattle.obj_core.specs.Slots.{slot_base, slot_start}
-use Rattle.obj_core.specs.Cut.{size_of}
+use Rattle.obj_core.specs.Disassembly.{size_of}
 use Rattle.obj_core.specs.SymbolicMachine.{at_code}
 use Rattle.obj_core.specs.WellFormed.{is_start, is_good_slot, IsWellFormed}
 use Rattle.obj_lay.specs.Placed.{IsAt, IsAtTo}
@@ -33,11 +33,11 @@ use Rattle.obj_lay.proofs.hidden.Functions.{exec, at_place, near_code}
 module _ (o : Object) (w : IsWellFormed o) (seed : ℕ) where
   -- where a slot leads is a place
   abbrev Starts : ℕ → ℕ → Type 0
-  Starts n off = is_code_place (slice_get w.cuts n) off ≡ true
+  Starts n off = is_code_place (slice_get w.disassemblies n) off ≡ true
 
   -- a function begins with an instruction
-  begins_known : (f : ℕ) → nat_lt f (length w.cuts) ≡ true → Starts f 0
-  begins_known f h = function_starts o.functions w.cuts w.cut f (ltb-true f (length w.cuts) h)
+  begins_known : (f : ℕ) → nat_lt f (length w.disassemblies) ≡ true → Starts f 0
+  begins_known f h = function_starts o.functions w.disassemblies w.disassembled f (ltb-true f (length w.disassemblies) h)
 
   -- the bytes of a slot
   abbrev bytes_of : ℕ → Slot → List ℕ
@@ -105,17 +105,17 @@ module _ (o : Object) (w : IsWellFormed o) (seed : ℕ) where
     )
 
     -- the jump back of a slot
-    returns : (back : CodeAt) (s : Slot) (a b c d x : ℕ) → slice_get o.slots k ≡ Some s → is_start w.cuts back ≡ true → bytes_of k s ≡ (a ∷ b ∷ c ∷ d ∷ x ∷ []) ++ (jump (address o seed back) (here + 10) ++ filler 6) → Goes 5 Jmp (at_code back)
+    returns : (back : CodeAt) (s : Slot) (a b c d x : ℕ) → slice_get o.slots k ≡ Some s → is_start w.disassemblies back ≡ true → bytes_of k s ≡ (a ∷ b ∷ c ∷ d ∷ x ∷ []) ++ (jump (address o seed back) (here + 10) ++ filler 6) → Goes 5 Jmp (at_code back)
     returns back s a b c d x e ok same =
-        leads k s e Jmp 5 (omega arith) back.function back.offset (sym (is_start_code w.cuts back) ∙ ok) (λ x. refl) (λ x y. y)
+        leads k s e Jmp 5 (omega arith) back.function back.offset (sym (is_start_code w.disassemblies back) ∙ ok) (λ x. refl) (λ x y. y)
         (λ by z more. record { more = filler 6 ++ more; begins = ap (λ bs. drop 5 (bs ++ more)) same ∙ ap (λ y. ((0xE9 ∷ y) ++ filler 6) ++ more) z })
 
     -- by the kind of slot
-    slot_of : (s : Slot) → slice_get o.slots k ≡ Some s → is_good_slot w.cuts s ≡ true → SlotBytes (exec o w seed) (at_place o w seed) o k s
+    slot_of : (s : Slot) → slice_get o.slots k ≡ Some s → is_good_slot w.disassemblies s ≡ true → SlotBytes (exec o w seed) (at_place o w seed) o k s
     slot_of (Slot.Entry f) e good = enters f (Slot.Entry f) e (begins_known f good) refl
     slot_of (Slot.Jump f) e good = enters f (Slot.Jump f) e (begins_known f good) refl
     slot_of (Slot.Call f back) e good =
-        let both = and_parts (nat_lt f (length w.cuts)) (is_start w.cuts back) good in (
+        let both = and_parts (nat_lt f (length w.disassemblies)) (is_start w.disassemblies back) good in (
           leads k (Slot.Call f back) e Call 0 (omega arith) f 0 (begins_known f both.0) (λ x. refl) (λ x y. y)
               (λ by d more. record { more = jump (address o seed back) (here + 10) ++ (filler 6 ++ more); begins = ap (λ x. ((0xE8 ∷ x) ++ (jump (address o seed back) (here + 10) ++ filler 6)) ++ more) d }),
           returns back (Slot.Call f back) _ _ _ _ _ e both.1 refl,
@@ -136,4 +136,4 @@ module _ (o : Object) (w : IsWellFormed o) (seed : ℕ) where
 
     -- the bytes of each slot
     pub slot_laid : (s : Slot) → slice_get o.slots k ≡ Some s → SlotBytes (exec o w seed) (at_place o w seed) o k s
-    slot_laid s e = slot_of s e (slot_keeps o w.cuts w.kept k s e)
+    slot_laid s e = slot_of s e (slot_keeps o w.disassemblies w.kept k s e)

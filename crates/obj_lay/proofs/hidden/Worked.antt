@@ -18,7 +18,7 @@ use Rattle.obj_core.specs.declared.object.Func.{Func}
 use Rattle.obj_core.specs.declared.object.FuncKind.{FuncKind}
 use Rattle.obj_core.specs.declared.object.Slot.{Slot}
 use Rattle.obj_core.specs.Object.{Each, IsByte, IsFunc, IsObject}
-use Rattle.obj_core.specs.Cut.{spelled}
+use Rattle.obj_core.specs.Disassembly.{spelled}
 use Rattle.obj_core.specs.SymbolicMachine.{symbolic_behavior}
 use Rattle.obj_core.specs.WellFormed.{AreFew, IsWellFormed}
 use Rattle.obj_core.specs.Layout.{layout}
@@ -93,8 +93,8 @@ seven_well : IsWellFormed seven
 seven_well = record {
   object = seven_is;
   few = seven_few;
-  cuts = main_cut ∷ start_cut ∷ [];
-  cut = (record { instructions = (omega arith, (omega arith, (omega arith, (omega arith, (tt, tt))))); whole = refl }, (record { instructions = (omega arith, tt); whole = refl }, tt));
+  disassemblies = main_cut ∷ start_cut ∷ [];
+  disassembled = (record { instructions = (omega arith, (omega arith, (omega arith, (omega arith, (tt, tt))))); whole = refl }, (record { instructions = (omega arith, tt); whole = refl }, tt));
   kept = refl;
 }
 

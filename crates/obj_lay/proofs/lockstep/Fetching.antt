@@ -17,7 +17,7 @@ use Rattle.obj_core.specs.declared.object.Slot.{Slot}
 use Rattle.obj_core.specs.declared.object.CodeAt.{CodeAt}
 use Rattle.obj_core.specs.declared.object.Place.{Place}
 use Rattle.obj_core.specs.Slots.{slot_start}
-use Rattle.obj_core.specs.Cut.{size_of}
+use Rattle.obj_core.specs.Disassembly.{size_of}
 use Rattle.obj_core.specs.SymbolicMachine.{link_before, target, by_decoded, in_function, in_slot, at_code, symbolic_fetch}
 use Rattle.obj_lay.specs.Placed.{IsAt, HasInstr, Leads, CodeStands, Idles, SlotStands, Placed}
 use Rattle.obj_lay.proofs.lockstep.Natural.{addressed, StaysWithin}

@@ -1,9 +1,8 @@
 -- A run of an image shows what the object's run shows, so two images of one object show the same.
-use Rattle.std.proofs.Common.{◌≡◌, ◌≢◌, ℕ, zero, suc, Bool, List, refl, sym, ◌∙◌, ap, arith}
+use Rattle.std.proofs.Common.{◌≡◌, ◌≢◌, ℕ, Bool, List, refl, sym, ◌∙◌, ap, arith}
 use Rattle.std.specs.Prelude.{replicate}
 use Rattle.behavior.specs.Ending.{Strayed, common}
 use Rattle.behavior.specs.Moment.{Agrees, Behavior, AreBytes}
-use Rattle.behavior.specs.System.{iter}
 use Rattle.behavior.specs.Preserves.{Preserves}
 use Rattle.behavior.proofs.Laws.{preserves_straight}
 use Rattle.x86_core.proofs.Acts.{steps_are_acts}
@@ -11,7 +10,7 @@ use Rattle.x86_core.specs.declared.image.Image.{Image}
 use Rattle.x86_core.specs.Memory.{code_of}
 use Rattle.x86_core.specs.Data.{stack_end}
 use Rattle.x86_core.specs.Observation.{Observation, observe}
-use Rattle.x86_core.specs.Run.{Act, Step, run_over, started}
+use Rattle.x86_core.specs.Run.{Act, Step, started}
 use Rattle.x86_core.specs.Step.{State}
 use Rattle.x86_core.specs.Machine.{machine_step, machine_segments, machine_start, machine_run, machine_behavior}
 use Rattle.obj_core.specs.declared.object.Object.{Object}

@@ -1,26 +1,27 @@
 -- Where instructions start in a row of them, and what the rules of objects say at such a start.
-use Rattle.std.proofs.Common.{◌≡◌, ℕ, ◌+◌, Bool, true, false, ◌||◌, List, [], ◌∷◌, ◌++◌, length, refl, sym, ◌∙◌, ap, subst, if◌then◌else◌, arith, append_assoc, length-append}
+use Rattle.std.proofs.Common.{◌≡◌, ℕ, ◌+◌, Bool, true, false, ◌||◌, List, [], ◌∷◌, ◌++◌, length, refl, sym, ◌∙◌, ap, subst, arith, append_assoc, length-append}
 use Rattle.std.specs.Prelude.{nat_eq, slice_get}
 use Rattle.std.proofs.lemmas.Bool.{eqb-true, eq-eqb, or_right}
 use Rattle.x86_core.specs.declared.instr.Instr.{Instr}
 use Rattle.x86_core.specs.Encoding.{encoding}
 use Rattle.obj_core.specs.declared.object.Link.{Link}
 use Rattle.obj_core.specs.declared.object.CodeAt.{CodeAt}
-use Rattle.obj_core.specs.Cut.{Found, found_from, starts_at, spelled, size_of}
+use Rattle.obj_core.specs.Disassembly.{Found, found_from, starts_at, spelled, size_of}
 use Rattle.obj_core.specs.WellFormed.{is_start, is_slots_own, forbidden_in, displacement, is_linked, goes_well, bad_branches, is_end, open_end}
-use Rattle.obj_core.proofs.Cuts.{length-spelled-append}
+use Rattle.obj_core.proofs.Spelling.{length-spelled-append}
+use Rattle.obj_core.proofs.Kept.{one_empty, other_empty}
 use Rattle.obj_lay.specs.Places.{is_code_place}
 
 -- where a slot may lead back to is a start
-pub is_start_code : (cuts : List (List Instr)) (c : CodeAt) → is_start cuts c ≡ is_code_place (slice_get cuts c.function) c.offset
-is_start_code cuts c = refl
+pub is_start_code : (disassemblies : List (List Instr)) (c : CodeAt) → is_start disassemblies c ≡ is_code_place (slice_get disassemblies c.function) c.offset
+is_start_code disassemblies c = refl
 
 -- an instruction of a row, and how far it stands from the start
-pub record IsIn (cut : List Instr) (at off : ℕ) : Type 0 where
+pub record IsIn (instrs : List Instr) (at off : ℕ) : Type 0 where
   pub before : List Instr
   pub instr : Instr
   pub after : List Instr
-  pub split : cut ≡ before ++ instr ∷ after
+  pub split : instrs ≡ before ++ instr ∷ after
   pub offset : off ≡ at + length (spelled before)
 
 -- an instruction of the others is one of the row
@@ -39,7 +40,7 @@ by_first i is at off more true e h = let same = eqb-true at off e in record { be
 by_first i is at off more false e h = further i is at off (more h)
 
 -- where a start is, an instruction is
-pub start_is_in : (cut : List Instr) (at off : ℕ) → starts_at (found_from at cut) off ≡ true → IsIn cut at off
+pub start_is_in : (instrs : List Instr) (at off : ℕ) → starts_at (found_from at instrs) off ≡ true → IsIn instrs at off
 start_is_in [] at off h = absurd (cc)
 start_is_in (i ∷ is) at off h = by_first i is at off (start_is_in is (at + size_of i) off) (nat_eq at off) refl h
 
@@ -51,16 +52,6 @@ behind_first b bs at off e = omega (arith, e, length-append (encoding b) (spelle
 pub is_in_start : (before : List Instr) (i : Instr) (after : List Instr) (at off : ℕ) → off ≡ at + length (spelled before) → starts_at (found_from at (before ++ i ∷ after)) off ≡ true
 is_in_start [] i after at off e = ap (λ t. t || starts_at (found_from (at + size_of i) after) off) (eq-eqb at off (omega (arith, e)))
 is_in_start (b ∷ bs) i after at off e = or_right (nat_eq at off) _ (is_in_start bs i after (at + size_of b) off (behind_first b bs at off e))
-
--- an empty list by a test has no element by it
-one_empty : (t : Bool) (n : ℕ) (xs ys : List ℕ) → (if t then n ∷ xs else ys) ≡ [] → (t ≡ false) × (ys ≡ [])
-one_empty true n xs ys h = absurd (cc)
-one_empty false n xs ys h = (refl, h)
-
--- the same with the answers exchanged
-pub other_empty : (t : Bool) (n : ℕ) (xs ys : List ℕ) → (if t then ys else n ∷ xs) ≡ [] → (t ≡ true) × (ys ≡ [])
-other_empty true n xs ys h = (refl, h)
-other_empty false n xs ys h = absurd (cc)
 
 -- no instruction of a function is one that only slots have
 pub none_of_slots : (before : List Instr) (i : Instr) (after : List Instr) (at : ℕ) → forbidden_in (found_from at (before ++ i ∷ after)) ≡ [] → is_slots_own i ≡ false
@@ -95,4 +86,4 @@ pub next_start : (before : List Instr) (i : Instr) (after : List Instr) (off : �
 next_start before i after off e n =
     let shift : before ++ i ∷ after ≡ (before ++ i ∷ []) ++ n.first ∷ n.others = ap (λ r. before ++ i ∷ r) n.split ∙ sym (append_assoc before (i ∷ []) (n.first ∷ n.others)) in
     let long : off + size_of i ≡ 0 + length (spelled (before ++ i ∷ [])) = omega (arith, e, length-spelled-append before (i ∷ []), length-append (encoding i) []) in
-    subst (λ cut. starts_at (found_from 0 cut) (off + size_of i) ≡ true) (sym shift) (is_in_start (before ++ i ∷ []) n.first n.others 0 (off + size_of i) long)
+    subst (λ instrs. starts_at (found_from 0 instrs) (off + size_of i) ≡ true) (sym shift) (is_in_start (before ++ i ∷ []) n.first n.others 0 (off + size_of i) long)

@@ -3,7 +3,7 @@ use Rattle.std.proofs.Common.{◌≡◌, ◌+◌, List, [], ◌∷◌, ◌++◌,
 use Rattle.x86_core.specs.declared.instr.Instr.{Instr}
 use Rattle.x86_core.specs.Encoding.{encoding}
 use Rattle.obj_core.specs.Object.{Each}
-use Rattle.obj_core.specs.Cut.{spelled}
+use Rattle.obj_core.specs.Disassembly.{spelled}
 
 pub spelled-append : (xs ys : List Instr) → spelled (xs ++ ys) ≡ spelled xs ++ spelled ys
 spelled-append [] ys = refl

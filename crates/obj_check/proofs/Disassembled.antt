@@ -1,14 +1,14 @@
--- Functions cut one after another.
+-- Functions disassembled one after another.
 use Rattle.std.proofs.Common.{◌≡◌, ℕ, ◌+◌, ◌<◌, ◌≤◌, List, [], ◌∷◌, ◌++◌, length, map, sum, take, drop, get_or, sym, ◌∙◌, ap, subst, arith}
 use Rattle.std.proofs.lemmas.List.{take_more, take-append-drop, drop_more, length-take-le}
 use Rattle.std.proofs.lemmas.List.Sums.{get_or-le-sum_by, sum-map}
 use Rattle.x86_core.specs.declared.instr.Instr.{Instr}
 use Rattle.obj_core.specs.declared.object.Func.{Func}
-use Rattle.obj_core.specs.Cut.{IsCut, AreCuts}
+use Rattle.obj_core.specs.Disassembly.{IsDisassembly, AreDisassemblies}
 use Rattle.obj_core.specs.WellFormed.{IsStuck, IsFirstStuck}
-use Rattle.obj_check.specs.declared.notes.Cut.{Cut}
-use Rattle.obj_check.specs.Pieces.{cut_of}
-use Rattle.obj_check.specs.Cuts.{IsCutUp, AreCutUp, cuts_of}
+use Rattle.obj_check.specs.declared.notes.Notes.{Notes}
+use Rattle.obj_check.specs.Instrs.{disassembly_of}
+use Rattle.obj_check.specs.Disassembled.{IsNoted, AreNoted, disassemblies_of}
 
 -- a function is not longer than all of them
 one_of_all : (fs : List Func) (n : ℕ) (f : Func) → n < length fs → length (get_or fs n f).bytes ≤ sum (map (λ (g : Func). length g.bytes) fs)
@@ -25,40 +25,40 @@ one_bounded fs gs n f bytes same few h e same_bytes =
     let d : sum (map (λ (g : Func). length g.bytes) fs) ≡ sum (map (λ (g : Func). length g.bytes) gs) = ap (λ (hs : List Func). sum (map (λ (g : Func). length g.bytes) hs)) same in
     omega arith
 
-cut_push : (fs : List Func) (cs : List Cut) (f : Func) (c : Cut) → AreCutUp fs cs → IsCutUp f.bytes c → AreCutUp (fs ++ f ∷ []) (cs ++ c ∷ [])
+cut_push : (fs : List Func) (cs : List Notes) (f : Func) (c : Notes) → AreNoted fs cs → IsNoted f.bytes c → AreNoted (fs ++ f ∷ []) (cs ++ c ∷ [])
 cut_push [] [] f c h k = (k, tt)
 cut_push [] (d ∷ cs) f c h k = absurd h
 cut_push (g ∷ fs) [] f c h k = absurd h
 cut_push (g ∷ fs) (d ∷ cs) f c h k = (h.0, cut_push fs cs f c h.1 k)
 
 -- one function more
-pub cut_more : (fs : List Func) (n : ℕ) (cs : List Cut) (f : Func) (bytes : List ℕ) (c : Cut) → n < length fs → f ≡ get_or fs n f → bytes ≡ f.bytes → AreCutUp (take n fs) cs → IsCutUp bytes c → AreCutUp (take (n + 1) fs) (cs ++ c ∷ [])
-cut_more fs n cs f bytes c h e same_bytes are k =
+pub note_more : (fs : List Func) (n : ℕ) (cs : List Notes) (f : Func) (bytes : List ℕ) (c : Notes) → n < length fs → f ≡ get_or fs n f → bytes ≡ f.bytes → AreNoted (take n fs) cs → IsNoted bytes c → AreNoted (take (n + 1) fs) (cs ++ c ∷ [])
+note_more fs n cs f bytes c h e same_bytes are k =
     let more : take (n + 1) fs ≡ take n fs ++ f ∷ [] = take_more fs n f h ∙ ap (λ (g : Func). take n fs ++ g ∷ []) (sym e) in
-    subst (λ gs. AreCutUp gs (cs ++ c ∷ [])) (sym more) (cut_push (take n fs) cs f c are (subst (λ bs. IsCutUp bs c) same_bytes k))
+    subst (λ gs. AreNoted gs (cs ++ c ∷ [])) (sym more) (cut_push (take n fs) cs f c are (subst (λ bs. IsNoted bs c) same_bytes k))
 
-one_cut : (f : Func) (fs : List Func) (row : List Instr) (cuts : List (List Instr)) → IsCut f.bytes row → 1 ≤ length row → AreCuts fs cuts → AreCuts (f ∷ fs) (row ∷ cuts)
-one_cut f fs [] cuts c some h = absurd (omega arith)
-one_cut f fs (i ∷ row) cuts c some h = (c, h)
+one_disassembly : (f : Func) (fs : List Func) (row : List Instr) (disassemblies : List (List Instr)) → IsDisassembly f.bytes row → 1 ≤ length row → AreDisassemblies fs disassemblies → AreDisassemblies (f ∷ fs) (row ∷ disassemblies)
+one_disassembly f fs [] disassemblies c some h = absurd (omega arith)
+one_disassembly f fs (i ∷ row) disassemblies c some h = (c, h)
 
-pub are_cuts : (fs : List Func) (cs : List Cut) → AreCutUp fs cs → AreCuts fs (cuts_of fs)
-are_cuts [] [] h = tt
-are_cuts [] (c ∷ cs) h = absurd h
-are_cuts (f ∷ fs) [] h = absurd h
-are_cuts (f ∷ fs) (c ∷ cs) h = one_cut f fs (cut_of f.bytes) (cuts_of fs) h.0.cut h.0.some (are_cuts fs cs h.1)
+pub are_disassemblies : (fs : List Func) (cs : List Notes) → AreNoted fs cs → AreDisassemblies fs (disassemblies_of fs)
+are_disassemblies [] [] h = tt
+are_disassemblies [] (c ∷ cs) h = absurd h
+are_disassemblies (f ∷ fs) [] h = absurd h
+are_disassemblies (f ∷ fs) (c ∷ cs) h = one_disassembly f fs (disassembly_of f.bytes) (disassemblies_of fs) h.0.disassembly h.0.some (are_disassemblies fs cs h.1)
 
-first_stuck : (fs : List Func) (n off : ℕ) (cs : List Cut) (f : Func) → n < length fs → f ≡ get_or fs n f → AreCutUp (take n fs) cs → IsStuck f.bytes off → IsFirstStuck fs n off
+first_stuck : (fs : List Func) (n off : ℕ) (cs : List Notes) (f : Func) → n < length fs → f ≡ get_or fs n f → AreNoted (take n fs) cs → IsStuck f.bytes off → IsFirstStuck fs n off
 first_stuck fs n off cs f h e are k = record {
-  cuts = cuts_of (take n fs);
+  disassemblies = disassemblies_of (take n fs);
   before = take n fs;
   stuck = f;
   others = drop (n + 1) fs;
   functions = sym (take-append-drop n fs) ∙ ap (λ gs. take n fs ++ gs) (drop_more fs n f h ∙ ap (λ (g : Func). g ∷ drop (n + 1) fs) (sym e));
   number = sym (length-take-le n fs (omega arith));
-  cut = are_cuts (take n fs) cs are;
+  disassembled = are_disassemblies (take n fs) cs are;
   here = k;
 }
 
-pub stuck_first : (fs gs : List Func) (n off : ℕ) (cs : List Cut) (f : Func) (bytes : List ℕ) → fs ≡ gs → n < length fs → f ≡ get_or fs n f → bytes ≡ f.bytes → AreCutUp (take n fs) cs → IsStuck bytes off → IsFirstStuck gs n off
+pub stuck_first : (fs gs : List Func) (n off : ℕ) (cs : List Notes) (f : Func) (bytes : List ℕ) → fs ≡ gs → n < length fs → f ≡ get_or fs n f → bytes ≡ f.bytes → AreNoted (take n fs) cs → IsStuck bytes off → IsFirstStuck gs n off
 stuck_first fs gs n off cs f bytes same h e same_bytes are k =
     subst (λ hs. IsFirstStuck hs n off) same (first_stuck fs n off cs f h e are (subst (λ bs. IsStuck bs off) same_bytes k))

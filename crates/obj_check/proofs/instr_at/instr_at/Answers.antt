@@ -2,7 +2,7 @@ use Rattle.std.proofs.Common.{refl, subst}
 use Rattle.std.proofs.lemmas.List.{take_rest}
 use Rattle.x86_core.specs.Encoding.{Begins}
 use Rattle.obj_check.proofs.Rows.{stands_at}
-use Rattle.obj_check.proofs.piece.piece_at.Goals as goal
+use Rattle.obj_check.proofs.instr_at.instr_at.Goals as goal
 
 -- the instruction that was decoded stands at the offset
 pub returns-in-One : goal.returns-in-One
