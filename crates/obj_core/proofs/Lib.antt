@@ -14,4 +14,5 @@ pub mod Written
 pub mod Landing
 pub mod Strays
 pub mod Worked
+pub mod WorkedSaved
 pub mod SmallWell
