@@ -10,13 +10,13 @@ and_true : (b : Bool) → b ≡ (b && true)
 and_true true = refl
 and_true false = refl
 
-colors_by : (reg_seed n : ℕ) (cut : List Instr) → are_colored (five_of reg_seed name_purpose n) (λ r. occurs r cut) ≡ are_first_colors reg_seed n cut
-colors_by reg_seed n cut =
-    let t : ℕ → Bool = λ k. is_colored (five_of reg_seed name_purpose n) (λ r. occurs r cut) k in
+colors_by : (reg_seed n : ℕ) (instrs : List Instr) → are_colored (five_of reg_seed name_purpose n) (λ r. occurs r instrs) ≡ are_first_colors reg_seed n instrs
+colors_by reg_seed n instrs =
+    let t : ℕ → Bool = λ k. is_colored (five_of reg_seed name_purpose n) (λ r. occurs r instrs) k in
     ap (λ (b : Bool). t 0 && (t 1 && (t 2 && (t 3 && b)))) (and_true (t 4))
 
 -- registers that are used where they occur have the first colours where those that occur have them
-pub colors_are : (reg_seed n : ℕ) (cut : List Instr) (used : Reg → Bool) → ((r : Reg) → used r ≡ occurs r cut) → are_colored (five_of reg_seed name_purpose n) used ≡ are_first_colors reg_seed n cut
-colors_are reg_seed n cut used h =
-    let same : used ≡ (λ (r : Reg). occurs r cut) = λ i r. h r i in
-    ap (are_colored (five_of reg_seed name_purpose n)) same ∙ colors_by reg_seed n cut
+pub colors_are : (reg_seed n : ℕ) (instrs : List Instr) (used : Reg → Bool) → ((r : Reg) → used r ≡ occurs r instrs) → are_colored (five_of reg_seed name_purpose n) used ≡ are_first_colors reg_seed n instrs
+colors_are reg_seed n instrs used h =
+    let same : used ≡ (λ (r : Reg). occurs r instrs) = λ i r. h r i in
+    ap (are_colored (five_of reg_seed name_purpose n)) same ∙ colors_by reg_seed n instrs

@@ -3,8 +3,9 @@ pub mod Rows
 pub mod Tables
 pub mod Noting
 pub mod Walk
-pub mod Cuts
+pub mod Disassembled
 pub mod Functions
 pub mod Colors
 pub mod Judged
 pub mod Unique
+pub mod Eaches

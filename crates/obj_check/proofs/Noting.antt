@@ -4,16 +4,16 @@ use Rattle.std.specs.Prelude.{nat_eq, if◌then◌else◌}
 use Rattle.x86_core.specs.declared.instr.Instr.{Instr}
 use Rattle.x86_core.specs.declared.reg.Reg.{Reg}
 use Rattle.x86_core.specs.Encoding.{encoding}
-use Rattle.obj_core.specs.Cut.{Found, found, found_from, size_of, spelled, starts_at, IsCut}
+use Rattle.obj_core.specs.Disassembly.{Found, found, found_from, size_of, spelled, starts_at, IsDisassembly}
 use Rattle.obj_core.specs.Saved.{registers_of, is_push_or_pop, is_among, occurs}
 use Rattle.obj_core.specs.WellFormed.{displacement, is_zero, is_slots_own, is_end, end_of, fills_zero, forbidden_in, open_end}
-use Rattle.obj_check.specs.declared.piece.Piece.{Piece}
-use Rattle.obj_check.specs.declared.notes.Cut.{Cut}
-use Rattle.obj_check.specs.Pieces.{StandsAt}
-use Rattle.obj_check.specs.Noted.{HasRoom, KeepsRoom, Notes, NotesMore}
+use Rattle.obj_check.specs.declared.instr_at.InstrAt.{InstrAt}
+use Rattle.obj_check.specs.declared.notes.Notes.{Notes}
+use Rattle.obj_check.specs.Instrs.{StandsAt}
+use Rattle.obj_check.specs.Noted.{HasRoom, KeepsRoom, AreNotesOf, AddsNote}
 use Rattle.obj_check.specs.Least.{lesser_of, least_with}
-use Rattle.obj_check.specs.Cuts.{IsCutUp}
-use Rattle.obj_check.proofs.Rows.{RowTo, row_more, row_cut, some_row, cut_is}
+use Rattle.obj_check.specs.Disassembled.{IsNoted}
+use Rattle.obj_check.proofs.Rows.{RowTo, row_more, row_disassembly, some_row, disassembly_is}
 use Rattle.obj_check.proofs.Tables.{least_append}
 
 or_swap : (a b c : Bool) → (a || (b || c)) ≡ (b || (a || c))
@@ -76,7 +76,7 @@ open_push xs x = ap (least_with None) (end_push xs x) ∙ by_end (is_end x.instr
 abbrev at_end : List Instr → Instr → Found
 at_end row i = record { at = 0 + length (spelled row); instr = i }
 
-pub notes_more : (row : List Instr) (old new : Cut) (p : Piece) → Notes row old → NotesMore old p new → p.at ≡ length (spelled row) → p.end ≡ p.at + size_of p.instr → Notes (row ++ p.instr ∷ []) new
+pub notes_more : (row : List Instr) (old new : Notes) (p : InstrAt) → AreNotesOf row old → AddsNote old p new → p.at ≡ length (spelled row) → p.end ≡ p.at + size_of p.instr → AreNotesOf (row ++ p.instr ∷ []) new
 notes_more row old new p h m e z =
     let x = at_end row p.instr in
     let here : p.at ≡ x.at = omega arith in
@@ -100,13 +100,13 @@ notes_more row old new p h m e z =
     }
 
 -- the bytes up to an offset are instructions, and these are noted
-pub record NotedTo (bytes : List ℕ) (at : ℕ) (c : Cut) : Type 0 where
+pub record NotedTo (bytes : List ℕ) (at : ℕ) (c : Notes) : Type 0 where
   pub instrs : List Instr
   pub row : RowTo bytes at instrs
-  pub notes : Notes instrs c
+  pub notes : AreNotesOf instrs c
   pub room : HasRoom (length bytes) c
 
-pub noted_more : (bytes : List ℕ) (at : ℕ) (old new : Cut) (p : Piece) → NotedTo bytes at old → StandsAt bytes at p → KeepsRoom old new → NotesMore old p new → NotedTo bytes p.end new
+pub noted_more : (bytes : List ℕ) (at : ℕ) (old new : Notes) (p : InstrAt) → NotedTo bytes at old → StandsAt bytes at p → KeepsRoom old new → AddsNote old p new → NotedTo bytes p.end new
 noted_more bytes at old new p h s keeps more =
     let a = h.room.starts in
     let b = h.room.zeros in
@@ -117,16 +117,16 @@ noted_more bytes at old new p h s keeps more =
     record {
       instrs = h.instrs ++ p.instr ∷ [];
       row = row_more bytes at h.instrs p h.row s;
-      notes = notes_more h.instrs old new p h.notes more (s.here ∙ h.row.long) s.is_piece.end;
+      notes = notes_more h.instrs old new p h.notes more (s.here ∙ h.row.long) s.is_whole.end;
       room = record { starts = omega arith; zeros = omega arith; registers = omega arith };
     }
 
-pub noted_whole : (bytes : List ℕ) (at : ℕ) (c : Cut) → 0 < length bytes → NotedTo bytes at c → length bytes ≤ at → IsCutUp bytes c
+pub noted_whole : (bytes : List ℕ) (at : ℕ) (c : Notes) → 0 < length bytes → NotedTo bytes at c → length bytes ≤ at → IsNoted bytes c
 noted_whole bytes at c some h past =
-    let cut = row_cut bytes at h.instrs h.row past in
-    let same = sym (cut_is bytes h.instrs cut) in
+    let all = row_disassembly bytes at h.instrs h.row past in
+    let same = sym (disassembly_is bytes h.instrs all) in
     record {
-      cut = subst (λ (row : List Instr). IsCut bytes row) same cut;
-      some = subst (λ (row : List Instr). 1 ≤ length row) same (some_row bytes h.instrs some cut);
-      notes = subst (λ (row : List Instr). Notes row c) same h.notes;
+      disassembly = subst (λ (row : List Instr). IsDisassembly bytes row) same all;
+      some = subst (λ (row : List Instr). 1 ≤ length row) same (some_row bytes h.instrs some all);
+      notes = subst (λ (row : List Instr). AreNotesOf row c) same h.notes;
     }

@@ -1,4 +1,4 @@
--- Bytes cut into instructions, one after another.
+-- Bytes disassembled, one instruction after another.
 use Rattle.std.proofs.Common.{◌≡◌, ℕ, zero, suc, ◌+◌, ◌<◌, ◌≤◌, List, [], ◌∷◌, ◌++◌, length, drop, refl, sym, ◌∙◌, ap, inl, inr, append_assoc, length-append, length-drop, arith}
 use Rattle.std.specs.Prelude.{None}
 use Rattle.std.proofs.Math.Seq.{drop-append_seam}
@@ -9,13 +9,13 @@ use Rattle.x86_core.specs.Decoding.{decode}
 use Rattle.x86_core.proofs.Back.{decode_back}
 use Rattle.x86_core.proofs.Laws.{some_bytes}
 use Rattle.obj_core.specs.Object.{Each}
-use Rattle.obj_core.specs.Cut.{spelled, IsCut}
+use Rattle.obj_core.specs.Disassembly.{spelled, IsDisassembly}
 use Rattle.obj_core.specs.WellFormed.{IsStuck}
-use Rattle.obj_core.proofs.Cuts.{spelled-append, each_append}
-use Rattle.obj_check.specs.declared.piece.Piece.{Piece}
-use Rattle.obj_check.specs.Pieces.{StandsAt, IsPieceAt, and_behind, first_instrs, cut_of}
+use Rattle.obj_core.proofs.Spelling.{spelled-append, each_append}
+use Rattle.obj_check.specs.declared.instr_at.InstrAt.{InstrAt}
+use Rattle.obj_check.specs.Instrs.{StandsAt, IsInstrAt, and_behind, first_instrs, disassembly_of}
 
--- an instruction that bytes begin with stands there as a piece
+-- an instruction that bytes begin with stands there
 pub stands_at : (bytes : List ℕ) (at : ℕ) (i : Instr) (n : ℕ) → Begins (drop at bytes) i → n ≡ length (encoding i) → StandsAt bytes at (record { at = at; end = at + n; instr = i })
 stands_at bytes at i n b e =
     let whole : length (drop at bytes) ≡ length (encoding i) + length (drop (length (encoding i)) (drop at bytes)) = ap length b.begins ∙ length-append (encoding i) (drop (length (encoding i)) (drop at bytes)) in
@@ -23,7 +23,7 @@ stands_at bytes at i n b e =
     let some : 1 ≤ length (encoding i) = some_bytes i in
     record {
       here = refl;
-      is_piece = record { end = ap (λ (k : ℕ). at + k) e; some = omega arith; inside = omega arith };
+      is_whole = record { end = ap (λ (k : ℕ). at + k) e; some = omega arith; inside = omega arith };
       is_instr = b.is_instr;
       bytes_are = b.begins ∙ ap (λ r. encoding i ++ r) (drop-drop (length (encoding i)) at bytes ∙ ap (λ (k : ℕ). drop (at + k) bytes) (sym e));
     }
@@ -41,19 +41,19 @@ row_none bytes = record { within = omega arith; instructions = tt; whole = refl;
 spelled_push : (row : List Instr) (i : Instr) → spelled (row ++ i ∷ []) ≡ spelled row ++ encoding i
 spelled_push row i = spelled-append row (i ∷ []) ∙ ap (λ r. spelled row ++ r) (append-nil (encoding i))
 
-pub row_more : (bytes : List ℕ) (at : ℕ) (row : List Instr) (p : Piece) → RowTo bytes at row → StandsAt bytes at p → RowTo bytes p.end (row ++ p.instr ∷ [])
+pub row_more : (bytes : List ℕ) (at : ℕ) (row : List Instr) (p : InstrAt) → RowTo bytes at row → StandsAt bytes at p → RowTo bytes p.end (row ++ p.instr ∷ [])
 row_more bytes at row p r s = record {
-  within = s.is_piece.inside;
+  within = s.is_whole.inside;
   instructions = each_append IsInstr row (p.instr ∷ []) r.instructions (s.is_instr, tt);
   whole = r.whole ∙ ap (λ t. spelled row ++ t) s.bytes_are ∙ sym (append_assoc (spelled row) (encoding p.instr) (drop p.end bytes)) ∙ ap (λ t. t ++ drop p.end bytes) (sym (spelled_push row p.instr));
-  long = s.is_piece.end ∙ ap (λ (k : ℕ). k + length (encoding p.instr)) (s.here ∙ r.long) ∙ sym (length-append (spelled row) (encoding p.instr)) ∙ ap length (sym (spelled_push row p.instr));
+  long = s.is_whole.end ∙ ap (λ (k : ℕ). k + length (encoding p.instr)) (s.here ∙ r.long) ∙ sym (length-append (spelled row) (encoding p.instr)) ∙ ap length (sym (spelled_push row p.instr));
 }
 
 some_instrs : (row : List Instr) (bytes : List ℕ) → 0 < length bytes → spelled row ≡ bytes → 1 ≤ length row
 some_instrs [] bytes h e = let none : 0 ≡ length bytes = ap length e in absurd (omega arith)
 some_instrs (i ∷ row) bytes h e = omega arith
 
--- the instructions that bytes begin with are those of their cut
+-- the instructions that bytes begin with are those of their disassembly
 first_are : (n : ℕ) (row : List Instr) → Each IsInstr row → length (spelled row) ≤ n → first_instrs n (spelled row) ≡ row
 unfolding decode
 first_are zero [] h k = refl
@@ -65,17 +65,17 @@ first_are (suc n) (i ∷ row) h k =
     ap (λ (bs : List ℕ). i ∷ first_instrs n bs) (drop-append_seam (encoding i) (spelled row)) ∙
     ap (λ (is : List Instr). i ∷ is) (first_are n row h.1 few)
 
-pub cut_is : (bytes : List ℕ) (row : List Instr) → IsCut bytes row → cut_of bytes ≡ row
-unfolding cut_of
-cut_is bytes row h = ap (λ (bs : List ℕ). first_instrs (length bytes) bs) (sym h.whole) ∙ first_are (length bytes) row h.instructions (let e : length (spelled row) ≡ length bytes = ap length h.whole in omega arith)
+pub disassembly_is : (bytes : List ℕ) (row : List Instr) → IsDisassembly bytes row → disassembly_of bytes ≡ row
+unfolding disassembly_of
+disassembly_is bytes row h = ap (λ (bs : List ℕ). first_instrs (length bytes) bs) (sym h.whole) ∙ first_are (length bytes) row h.instructions (let e : length (spelled row) ≡ length bytes = ap length h.whole in omega arith)
 
-pub row_cut : (bytes : List ℕ) (at : ℕ) (row : List Instr) → RowTo bytes at row → length bytes ≤ at → IsCut bytes row
-row_cut bytes at row r past = record { instructions = r.instructions; whole = sym (r.whole ∙ ap (λ t. spelled row ++ t) (drop_all at bytes past) ∙ append-nil (spelled row)) }
+pub row_disassembly : (bytes : List ℕ) (at : ℕ) (row : List Instr) → RowTo bytes at row → length bytes ≤ at → IsDisassembly bytes row
+row_disassembly bytes at row r past = record { instructions = r.instructions; whole = sym (r.whole ∙ ap (λ t. spelled row ++ t) (drop_all at bytes past) ∙ append-nil (spelled row)) }
 
-pub some_row : (bytes : List ℕ) (row : List Instr) → 0 < length bytes → IsCut bytes row → 1 ≤ length row
+pub some_row : (bytes : List ℕ) (row : List Instr) → 0 < length bytes → IsDisassembly bytes row → 1 ≤ length row
 some_row bytes row h c = some_instrs row bytes h c.whole
 
-pub row_stuck : (bytes : List ℕ) (at : ℕ) (row : List Instr) → RowTo bytes at row → at < length bytes → IsPieceAt bytes at None → IsStuck bytes at
+pub row_stuck : (bytes : List ℕ) (at : ℕ) (row : List Instr) → RowTo bytes at row → at < length bytes → IsInstrAt bytes at None → IsStuck bytes at
 row_stuck bytes at row r h none = record {
   before = row;
   rest = drop at bytes;

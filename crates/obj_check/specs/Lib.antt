@@ -1,8 +1,9 @@
-pub mod Pieces
+pub mod Instrs
 pub mod Marked
 pub mod Least
 pub mod Noted
-pub mod Cuts
+pub mod Disassembled
 pub mod Failing
 pub mod Orders
 pub mod Told
+pub mod Ranges

@@ -10,11 +10,11 @@ use Rattle.obj_check.specs.Least.{spot_of, violation_of}
 
 -- the first of rules 6 and 7 that fails
 abbrev pub slot_violation : List Slot → List (List Instr) → Option Violation
-slot_violation slots cuts = or_else (in_slots 6 (λ k s. is_good_slot cuts s) 0 slots) (in_slots 7 agrees_with 0 slots)
+slot_violation slots disassemblies = or_else (in_slots 6 (λ k s. is_good_slot disassemblies s) 0 slots) (in_slots 7 agrees_with 0 slots)
 
 -- the first of rules 6 to 8 that fails
 abbrev pub later_violation : Object → List (List Instr) → Option Violation
-later_violation o cuts = or_else (slot_violation o.slots cuts) (in_functions 8 (λ n f cut. zero_unless (is_saved_well o.reg_seed n f cut)) 0 o.functions cuts)
+later_violation o disassemblies = or_else (slot_violation o.slots disassemblies) (in_functions 8 (λ n f instrs. zero_unless (is_saved_well o.reg_seed n f instrs)) 0 o.functions disassemblies)
 
 -- nothing is wrong, or this comes first
 abbrev pub Judges : Object → Option Broken → Type 0

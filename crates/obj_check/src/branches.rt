@@ -3,17 +3,17 @@
 
 ghost use Rattle.std.specs.Prelude.{◌≡◌, ◌++◌, ◌+◌, ◌≤◌, ◌||◌, if◌then◌else◌, None, IfOk, length};
 ghost use Rattle.x86_core.specs.Arithmetic.{moved};
-ghost use Rattle.obj_core.specs.Cut.{found};
+ghost use Rattle.obj_core.specs.Disassembly.{found};
 ghost use Rattle.obj_core.specs.WellFormed.{displacement, is_good_link, bad_links, is_linked, goes_well, bad_branches};
-ghost use Rattle.obj_check.specs.Pieces.{cut_of};
-ghost use Rattle.obj_check.specs.Cuts.{IsCutUp};
+ghost use Rattle.obj_check.specs.Instrs.{disassembly_of};
+ghost use Rattle.obj_check.specs.Disassembled.{IsNoted};
 ghost use Rattle.obj_check.specs.Least.{lesser_of, least_with};
 ghost use Rattle.obj_check.specs.Failing.{MarksBelow};
 
 use crate::asked::displacement;
+use crate::instr_at::{InstrAt, instr_at};
 use crate::marks::{Table, blank, is_marked, mark};
-use crate::notes::{Cut, lesser};
-use crate::piece::{Piece, piece_at};
+use crate::notes::{Notes, lesser};
 use obj_core::object::{Func, Link};
 use rd_num::width::NoMemory;
 use std::alloc::Global;
@@ -23,15 +23,15 @@ pub fn first_bad_branch(
     alloc: Global,
     slots: usize,
     function: &Func,
-    cut: &Cut,
+    notes: &Notes,
 ) -> Result<Option<u32>, NoMemory>
-    requires cut { IsCutUp function.now.bytes cut.now }
+    requires noted { IsNoted function.now.bytes notes.now }
     requires few { length function.now.bytes ≤ 67108864 }
-    ensures { IfOk result (λ r. r ≡ least_with None (bad_links None (found (cut_of function.now.bytes)) slots function.now.links ++ bad_branches function.now.links (found (cut_of function.now.bytes)) (found (cut_of function.now.bytes)))) }
+    ensures { IfOk result (λ r. r ≡ least_with None (bad_links None (found (disassembly_of function.now.bytes)) slots function.now.links ++ bad_branches function.now.links (found (disassembly_of function.now.bytes)) (found (disassembly_of function.now.bytes)))) }
 {
     let linked = linked_of(alloc, function)?;
-    let least = first_bad_link(function, cut, slots);
-    Ok(first_bad_goal(function, cut, &linked, least))
+    let least = first_bad_link(function, notes, slots);
+    Ok(first_bad_goal(function, notes, &linked, least))
 }
 
 /// The places at which the four bytes of a link end.
@@ -47,11 +47,17 @@ fn linked_of(alloc: Global, function: &Func) -> Result<Table, NoMemory>
 }
 
 /// Whether a link stands behind the one before it, at a displacement of 0, and names a slot.
-fn is_good_link(function: &Func, cut: &Cut, slots: usize, before: Option<u32>, link: Link) -> bool
-    requires { IsCutUp function.now.bytes cut.now }
-    ensures { result ≡ is_good_link before (found (cut_of function.now.bytes)) slots link }
+fn is_good_link(
+    function: &Func,
+    notes: &Notes,
+    slots: usize,
+    before: Option<u32>,
+    link: Link,
+) -> bool
+    requires { IsNoted function.now.bytes notes.now }
+    ensures { result ≡ is_good_link before (found (disassembly_of function.now.bytes)) slots link }
 {
-    let fills = is_marked(&cut.zeros, link.at as usize + 4) && (link.slot as usize) < slots;
+    let fills = is_marked(&notes.zeros, link.at as usize + 4) && (link.slot as usize) < slots;
     match before {
         None => fills,
         Some(last) => last < link.at && fills,
@@ -59,15 +65,15 @@ fn is_good_link(function: &Func, cut: &Cut, slots: usize, before: Option<u32>, l
 }
 
 /// The least place of a link that isn't good.
-fn first_bad_link(function: &Func, cut: &Cut, slots: usize) -> Option<u32>
-    requires { IsCutUp function.now.bytes cut.now }
-    ensures { result ≡ least_with None (bad_links None (found (cut_of function.now.bytes)) slots function.now.links) }
+fn first_bad_link(function: &Func, notes: &Notes, slots: usize) -> Option<u32>
+    requires { IsNoted function.now.bytes notes.now }
+    ensures { result ≡ least_with None (bad_links None (found (disassembly_of function.now.bytes)) slots function.now.links) }
 {
     let mut least = None;
     let mut before = None;
     let links = function.links.as_slice();
     for link in links {
-        if !is_good_link(function, cut, slots, before, *link) {
+        if !is_good_link(function, notes, slots, before, *link) {
             least = lesser(least, link.at);
         }
         before = Some(link.at);
@@ -76,13 +82,13 @@ fn first_bad_link(function: &Func, cut: &Cut, slots: usize) -> Option<u32>
 }
 
 /// Whether an instruction is no branch, or goes to the start of an instruction.
-fn goes_well(function: &Func, cut: &Cut, piece: &Piece) -> bool
-    requires { IsCutUp function.now.bytes cut.now }
-    ensures { result ≡ goes_well (found (cut_of function.now.bytes)) piece.now.end (displacement piece.now.instr) }
+fn goes_well(function: &Func, notes: &Notes, here: &InstrAt) -> bool
+    requires { IsNoted function.now.bytes notes.now }
+    ensures { result ≡ goes_well (found (disassembly_of function.now.bytes)) here.now.end (displacement here.now.instr) }
 {
-    match displacement(&piece.instr) {
+    match displacement(&here.instr) {
         None => true,
-        Some(by) => is_marked(&cut.starts, moved_by(piece.end, by) as usize),
+        Some(by) => is_marked(&notes.starts, moved_by(here.end, by) as usize),
     }
 }
 
@@ -96,36 +102,41 @@ fn moved_by(place: u32, by: i32) -> u64
 /// The least of an offset and that of an instruction that has no link and goes to no instruction.
 fn with_goal(
     function: &Func,
-    cut: &Cut,
+    notes: &Notes,
     linked: &Table,
     least: Option<u32>,
-    piece: &Piece,
+    here: &InstrAt,
 ) -> Option<u32>
-    requires cut { IsCutUp function.now.bytes cut.now }
+    requires noted { IsNoted function.now.bytes notes.now }
     requires linked { MarksBelow (length function.now.bytes + 1) linked.now (is_linked function.now.links) }
-    requires inside { piece.now.end ≤ length function.now.bytes }
-    ensures { result ≡ (if is_linked function.now.links piece.now.end || goes_well (found (cut_of function.now.bytes)) piece.now.end (displacement piece.now.instr) then least else lesser_of least piece.now.at) }
+    requires inside { here.now.end ≤ length function.now.bytes }
+    ensures { result ≡ (if is_linked function.now.links here.now.end || goes_well (found (disassembly_of function.now.bytes)) here.now.end (displacement here.now.instr) then least else lesser_of least here.now.at) }
 {
-    if is_marked(linked, piece.end as usize) || goes_well(function, cut, piece) {
+    if is_marked(linked, here.end as usize) || goes_well(function, notes, here) {
         least
     } else {
-        lesser(least, piece.at)
+        lesser(least, here.at)
     }
 }
 
 /// The least of an offset and those of branches that have no link and go to no instruction.
-fn first_bad_goal(function: &Func, cut: &Cut, linked: &Table, before: Option<u32>) -> Option<u32>
-    requires cut { IsCutUp function.now.bytes cut.now }
+fn first_bad_goal(
+    function: &Func,
+    notes: &Notes,
+    linked: &Table,
+    before: Option<u32>,
+) -> Option<u32>
+    requires noted { IsNoted function.now.bytes notes.now }
     requires few { length function.now.bytes ≤ 67108864 }
     requires linked { MarksBelow (length function.now.bytes + 1) linked.now (is_linked function.now.links) }
-    ensures { result ≡ least_with before (bad_branches function.now.links (found (cut_of function.now.bytes)) (found (cut_of function.now.bytes))) }
+    ensures { result ≡ least_with before (bad_branches function.now.links (found (disassembly_of function.now.bytes)) (found (disassembly_of function.now.bytes))) }
 {
     let bytes = function.bytes.as_slice();
     let mut least = before;
     let mut at = 0;
-    while let Some(piece) = piece_at(bytes, at) {
-        least = with_goal(function, cut, linked, least, &piece);
-        at = piece.end as usize;
+    while let Some(here) = instr_at(bytes, at) {
+        least = with_goal(function, notes, linked, least, &here);
+        at = here.end as usize;
     }
     least
 }

@@ -2,14 +2,14 @@
 
 ghost use Rattle.std.specs.Prelude.{◌≡◌, ◌≤◌, None, IfOk, length};
 ghost use Rattle.obj_core.specs.WellFormed.{AreFew, in_functions};
-ghost use Rattle.obj_check.specs.Pieces.{cut_of};
-ghost use Rattle.obj_check.specs.Cuts.{IsCutUp, AreCutUp, cuts_of};
+ghost use Rattle.obj_check.specs.Instrs.{disassembly_of};
+ghost use Rattle.obj_check.specs.Disassembled.{IsNoted, AreNoted, disassemblies_of};
 ghost use Rattle.obj_check.specs.Least.{least_with, told_of};
 ghost use Rattle.obj_check.specs.Failing.{rule_number, failing};
 
 use crate::branches::first_bad_branch;
 use crate::fault::{Broken, ShapeSpot};
-use crate::notes::Cut;
+use crate::notes::Notes;
 use crate::saved::is_saved_well;
 use obj_core::object::{Func, Object};
 use rd_num::width::NoMemory;
@@ -45,15 +45,15 @@ pub fn first_in_functions(
     alloc: Global,
     rule: CodeRule,
     o: &Object,
-    cuts: &[Cut],
+    noted: &[Notes],
 ) -> Result<Option<Broken>, NoMemory>
-    requires cut { AreCutUp o.now.functions cuts.now }
+    requires noted { AreNoted o.now.functions noted.now }
     requires few { AreFew o.now }
-    ensures { IfOk result (λ r. told_of r ≡ in_functions (rule_number rule) (failing rule o.now) 0 o.now.functions (cuts_of o.now.functions)) }
+    ensures { IfOk result (λ r. told_of r ≡ in_functions (rule_number rule) (failing rule o.now) 0 o.now.functions (disassemblies_of o.now.functions)) }
 {
     let functions = o.functions.as_slice();
     for (n, function) in functions.iter().enumerate() {
-        match first_in_function(alloc, rule, o, n as u32, function, &cuts[n])? {
+        match first_in_function(alloc, rule, o, n as u32, function, &noted[n])? {
             None => {}
             Some(offset) => {
                 return Ok(Some(Broken {
@@ -74,18 +74,18 @@ fn first_in_function(
     o: &Object,
     n: u32,
     function: &Func,
-    cut: &Cut,
+    notes: &Notes,
 ) -> Result<Option<u32>, NoMemory>
-    requires cut { IsCutUp function.now.bytes cut.now }
+    requires noted { IsNoted function.now.bytes notes.now }
     requires few { length function.now.bytes ≤ 67108864 }
-    ensures { IfOk result (λ r. r ≡ least_with None (failing rule o.now n function.now (cut_of function.now.bytes))) }
+    ensures { IfOk result (λ r. r ≡ least_with None (failing rule o.now n function.now (disassembly_of function.now.bytes))) }
 {
     match rule {
-        CodeRule::Transfers => Ok(cut.transfer),
-        CodeRule::Branches => first_bad_branch(alloc, o.slots.len(), function, cut),
-        CodeRule::Ends => Ok(cut.last_open),
+        CodeRule::Transfers => Ok(notes.transfer),
+        CodeRule::Branches => first_bad_branch(alloc, o.slots.len(), function, notes),
+        CodeRule::Ends => Ok(notes.last_open),
         CodeRule::Saved => {
-            if is_saved_well(alloc, o.reg_seed, n, function, cut)? {
+            if is_saved_well(alloc, o.reg_seed, n, function, notes)? {
                 Ok(None)
             } else {
                 Ok(Some(0))

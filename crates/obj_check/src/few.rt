@@ -2,7 +2,6 @@
 
 ghost use Rattle.std.specs.Prelude.{◌≡◌, ◌+◌, ◌≤◌, ◌<◌, ◌^◌, ◌↔◌, IsTrue, length, sum, map};
 ghost use Rattle.obj_core.specs.declared.object.Func.{Func as Function};
-ghost use Rattle.obj_core.specs.Object.{IsObject};
 ghost use Rattle.obj_core.specs.WellFormed.{AreFew};
 
 use obj_core::object::{Func, Object};
@@ -15,7 +14,6 @@ const MOST_BYTES: usize = 67_108_864;
 
 /// Whether an object has functions and slots, and none of its sizes is past its bound.
 pub fn is_few(o: &Object) -> bool
-    requires { IsObject o.now }
     ensures { IsTrue result ↔ AreFew o.now }
 {
     let functions = o.functions.len();
@@ -29,10 +27,10 @@ pub fn is_few(o: &Object) -> bool
 }
 
 fn is_little_data(o: &Object) -> bool
-    requires { IsObject o.now }
     ensures { IsTrue result ↔ (length o.now.ro + length o.now.rw ≤ 67108864) }
 {
-    o.ro.len() + o.rw.len() <= MOST_BYTES
+    let ro = o.ro.len();
+    ro <= MOST_BYTES && o.rw.len() <= MOST_BYTES - ro
 }
 
 fn is_little_code(functions: &[Func]) -> bool

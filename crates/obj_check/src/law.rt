@@ -1,17 +1,22 @@
-//! Laws of cuts and violations, as the contracts of functions that do nothing.
+//! Laws of disassemblies and violations, as the contracts of functions that do nothing.
 
 ghost use Rattle.std.specs.Prelude.{◌≡◌, ℕ, List as Row};
 ghost use Rattle.x86_core.specs.declared.instr.Instr.{Instr as Instruction};
 ghost use Rattle.obj_core.specs.declared.object.Object.{Object as Program};
-ghost use Rattle.obj_core.specs.Cut.{IsCut};
+ghost use Rattle.obj_core.specs.Disassembly.{IsDisassembly};
 ghost use Rattle.obj_core.specs.WellFormed.{Violation, IsWellFormed, IsFirstViolation};
 
-/// Bytes are cut into instructions in one way: two rows of instructions that spell them are equal.
-pub fn bytes_have_one_cut()
-    ensures { (bytes : Row ℕ) (one other : Row Instruction) → IsCut bytes one → IsCut bytes other → one ≡ other }
+/// Bytes are disassembled in one way: two lists of instructions that spell them are equal.
+pub fn bytes_have_one_disassembly()
+    ensures { (bytes : Row ℕ) (one other : Row Instruction) → IsDisassembly bytes one → IsDisassembly bytes other → one ≡ other }
 {}
 
 /// No well-formed object has a first violation: what is refused is never well formed.
 pub fn violations_are_of_others()
     ensures { (o : Program) (v : Violation) → IsFirstViolation o v → IsWellFormed o → ⊥ }
+{}
+
+/// An object has one first violation at most.
+pub fn one_violation_is_first()
+    ensures { (o : Program) (v w : Violation) → IsFirstViolation o v → IsFirstViolation o w → v ≡ w }
 {}

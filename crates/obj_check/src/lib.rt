@@ -1,43 +1,44 @@
 //! The verifier of objects: takes exactly the well-formed ones.
 //!
-//! Eight rules are asked in order: sizes (`few`), whole instructions (`cut`), transfers and ends
+//! Eight rules are asked in order: sizes (`few`), whole instructions (`disassembly`), transfers and ends
 //! (`code`), branches and links (`branches`), the goals of slots and the entry (`slots`), and saved
 //! registers (`saved`). The first rule that fails is told, with the first function or slot in which it
 //! fails and the least offset there.
 //!
-//! Code is decoded twice: by `cut`, which notes what the rules ask (`notes`), and by `branches`, when
+//! Code is decoded twice: by `disassembly`, which notes what the rules ask (`notes`), and by `branches`, when
 //! all starts are known. No instruction is kept: where one starts is a bit of a table (`marks`). Time
 //! is linear in the object; memory is two bits a byte of code, and a third for the function whose
 //! branches are looked at.
 #![tactic(auto)]
 
 ghost use Rattle.std.specs.Prelude.{◌≡◌, IfOk, IfErr};
-ghost use Rattle.obj_core.specs.Object.{IsObject};
 ghost use Rattle.obj_core.specs.WellFormed.{AreFew, IsWellFormed, violation};
-ghost use Rattle.obj_check.specs.Cuts.{AreCutUp, cuts_of};
+ghost use Rattle.obj_check.specs.Disassembled.{AreNoted, disassemblies_of};
 ghost use Rattle.obj_check.specs.Least.{told_of};
 ghost use Rattle.obj_check.specs.Told.{later_violation, Judges, Explains};
 
 mod asked;
 mod branches;
 mod code;
-mod cut;
+mod disassembly;
 pub mod fault;
 mod few;
+mod instr_at;
+mod known;
 pub mod law;
 mod marks;
 mod notes;
-mod piece;
 mod saved;
 mod slots;
 #[cfg(test)]
 mod tests;
 
 use code::{CodeRule, first_in_functions};
-use cut::{Cuts, cut_all};
+use disassembly::{AllNoted, note_all};
 use fault::{Broken, Refused, ShapeFault, ShapeSpot};
 use few::is_few;
-use notes::Cut;
+use known::numbers_known;
+use notes::Notes;
 use obj_core::checked::Checked;
 use obj_core::object::Object;
 use rd_num::width::NoMemory;
@@ -47,7 +48,6 @@ use std::alloc::Global;
 /// Takes a well-formed object, and hands any other one back unchanged with the first thing that is
 /// wrong with it. Takes time and memory linear in the object.
 pub fn check(alloc: Global, o: Object) -> Result<Checked, Refused>
-    requires { IsObject o }
     ensures taken { IfOk result (λ c. c.object ≡ o) }
     ensures well_formed { IfOk result (λ c. IsWellFormed o) }
     ensures back { IfErr result (λ r. r.object ≡ o) }
@@ -72,9 +72,9 @@ pub fn check(alloc: Global, o: Object) -> Result<Checked, Refused>
 
 /// The first rule that fails, where it fails first.
 fn first_broken(alloc: Global, o: &Object) -> Result<Option<Broken>, NoMemory>
-    requires { IsObject o.now }
     ensures { IfOk result (λ r. Judges o.now r) }
 {
+    numbers_known(o);
     if !is_few(o) {
         return Ok(Some(Broken {
             rule: 1,
@@ -82,12 +82,12 @@ fn first_broken(alloc: Global, o: &Object) -> Result<Option<Broken>, NoMemory>
             offset: 0,
         }));
     }
-    match cut_all(alloc, o)? {
-        Cuts::All { cuts } => {
-            let broken = first_in_cuts(alloc, o, cuts.as_slice())?;
+    match note_all(alloc, o)? {
+        AllNoted::All { noted } => {
+            let broken = first_in_noted(alloc, o, noted.as_slice())?;
             Ok(broken)
         }
-        Cuts::Stuck { function, offset } => Ok(Some(Broken {
+        AllNoted::Stuck { function, offset } => Ok(Some(Broken {
             rule: 2,
             spot: ShapeSpot::Function(function),
             offset,
@@ -96,31 +96,31 @@ fn first_broken(alloc: Global, o: &Object) -> Result<Option<Broken>, NoMemory>
 }
 
 /// The first of rules 3 to 8 that fails.
-fn first_in_cuts(alloc: Global, o: &Object, cuts: &[Cut]) -> Result<Option<Broken>, NoMemory>
-    requires cut { AreCutUp o.now.functions cuts.now }
+fn first_in_noted(alloc: Global, o: &Object, noted: &[Notes]) -> Result<Option<Broken>, NoMemory>
+    requires noted { AreNoted o.now.functions noted.now }
     requires few { AreFew o.now }
-    ensures { IfOk result (λ r. told_of r ≡ violation o.now (cuts_of o.now.functions)) }
+    ensures { IfOk result (λ r. told_of r ≡ violation o.now (disassemblies_of o.now.functions)) }
 {
-    if let Some(broken) = first_in_functions(alloc, CodeRule::Transfers, o, cuts)? {
+    if let Some(broken) = first_in_functions(alloc, CodeRule::Transfers, o, noted)? {
         return Ok(Some(broken));
     }
-    if let Some(broken) = first_in_functions(alloc, CodeRule::Branches, o, cuts)? {
+    if let Some(broken) = first_in_functions(alloc, CodeRule::Branches, o, noted)? {
         return Ok(Some(broken));
     }
-    if let Some(broken) = first_in_functions(alloc, CodeRule::Ends, o, cuts)? {
+    if let Some(broken) = first_in_functions(alloc, CodeRule::Ends, o, noted)? {
         return Ok(Some(broken));
     }
-    first_in_rest(alloc, o, cuts)
+    first_in_rest(alloc, o, noted)
 }
 
 /// The first of rules 6 to 8 that fails.
-fn first_in_rest(alloc: Global, o: &Object, cuts: &[Cut]) -> Result<Option<Broken>, NoMemory>
-    requires cut { AreCutUp o.now.functions cuts.now }
+fn first_in_rest(alloc: Global, o: &Object, noted: &[Notes]) -> Result<Option<Broken>, NoMemory>
+    requires noted { AreNoted o.now.functions noted.now }
     requires few { AreFew o.now }
-    ensures { IfOk result (λ r. told_of r ≡ later_violation o.now (cuts_of o.now.functions)) }
+    ensures { IfOk result (λ r. told_of r ≡ later_violation o.now (disassemblies_of o.now.functions)) }
 {
-    match first_bad_slot(o.functions.as_slice(), cuts, o.slots.as_slice()) {
+    match first_bad_slot(o.functions.as_slice(), noted, o.slots.as_slice()) {
         Some(broken) => Ok(Some(broken)),
-        None => first_in_functions(alloc, CodeRule::Saved, o, cuts),
+        None => first_in_functions(alloc, CodeRule::Saved, o, noted),
     }
 }

@@ -1,4 +1,4 @@
-//! What the rules ask of a function's instructions, noted while they are cut one after another.
+//! What the rules ask of a function's instructions, noted while they are decoded one after another.
 
 ghost use Rattle.std.specs.Prelude.{◌≡◌, ℕ, ◌<◌, ◌≤◌, ◌||◌, ◌&&◌, false, nat_eq, if◌then◌else◌, None, Some, [], IfOk};
 ghost use Rattle.x86_core.specs.declared.reg.Reg.{Reg as Register};
@@ -6,18 +6,18 @@ ghost use Rattle.x86_core.specs.Registers.{number_of};
 ghost use Rattle.obj_core.specs.Saved.{registers_of, is_push_or_pop, is_among};
 ghost use Rattle.obj_core.specs.WellFormed.{displacement, is_zero, is_slots_own, is_end};
 ghost use Rattle.obj_check.specs.Marked.{room, marked};
-ghost use Rattle.obj_check.specs.Noted.{HasRoom, KeepsRoom, Notes, NotesMore};
+ghost use Rattle.obj_check.specs.Noted.{HasRoom, KeepsRoom, AreNotesOf, AddsNote};
 ghost use Rattle.obj_check.specs.Least.{lesser_of};
 
 use crate::asked::{is_end, is_push_or_pop, is_slots_own, is_zero_branch, mark_registers};
+use crate::instr_at::InstrAt;
 use crate::marks::{Table, blank, mark};
-use crate::piece::Piece;
 use rd_num::width::NoMemory;
 use std::alloc::Global;
 
 /// What the rules ask of a function's instructions.
 #[derive(Drop)]
-pub struct Cut {
+pub struct Notes {
     /// The offsets at which an instruction starts.
     pub starts: Table,
     /// The offsets at which a branch with displacement 0 ends.
@@ -31,14 +31,14 @@ pub struct Cut {
 }
 
 /// What is noted of no instruction, for a function of a size.
-pub fn no_notes(alloc: Global, size: usize) -> Result<Cut, NoMemory>
+pub fn no_notes(alloc: Global, size: usize) -> Result<Notes, NoMemory>
     ensures room { IfOk result (λ c. HasRoom size c) }
-    ensures notes { IfOk result (λ c. Notes [] c) }
+    ensures notes { IfOk result (λ c. AreNotesOf [] c) }
 {
     let starts = blank(alloc, size)?;
     let zeros = blank(alloc, size)?;
     let registers = blank(alloc, 15)?;
-    Ok(Cut {
+    Ok(Notes {
         starts,
         zeros,
         registers,
@@ -58,59 +58,59 @@ pub fn lesser(least: Option<u32>, offset: u32) -> Option<u32>
 }
 
 /// Notes where a branch with displacement 0 ends.
-fn note_zero(zeros: &mut Table, piece: &Piece)
-    requires { piece.now.end < room zeros.old }
+fn note_zero(zeros: &mut Table, here: &InstrAt)
+    requires { here.now.end < room zeros.old }
     ensures room { room zeros.new ≡ room zeros.old }
-    ensures marks { (k : ℕ) → marked zeros.new k ≡ ((nat_eq piece.now.end k && is_zero (displacement piece.now.instr)) || marked zeros.old k) }
+    ensures marks { (k : ℕ) → marked zeros.new k ≡ ((nat_eq here.now.end k && is_zero (displacement here.now.instr)) || marked zeros.old k) }
 {
-    if is_zero_branch(&piece.instr) {
-        mark(zeros, piece.end as usize);
+    if is_zero_branch(&here.instr) {
+        mark(zeros, here.end as usize);
     }
 }
 
 /// Notes the registers of an instruction other than a push or a pop.
-fn note_registers(registers: &mut Table, piece: &Piece)
+fn note_registers(registers: &mut Table, here: &InstrAt)
     requires { 16 ≤ room registers.old }
     ensures room { room registers.new ≡ room registers.old }
-    ensures marks { (r : Register) → marked registers.new (number_of r) ≡ ((if is_push_or_pop piece.now.instr then false else is_among r (registers_of piece.now.instr)) || marked registers.old (number_of r)) }
+    ensures marks { (r : Register) → marked registers.new (number_of r) ≡ ((if is_push_or_pop here.now.instr then false else is_among r (registers_of here.now.instr)) || marked registers.old (number_of r)) }
 {
-    if !is_push_or_pop(&piece.instr) {
-        mark_registers(registers, &piece.instr);
+    if !is_push_or_pop(&here.instr) {
+        mark_registers(registers, &here.instr);
     }
 }
 
 /// The least offset of a transfer, with one instruction more.
-fn transfer_with(before: Option<u32>, piece: &Piece) -> Option<u32>
-    ensures { result ≡ (if is_slots_own piece.now.instr then lesser_of before piece.now.at else before) }
+fn transfer_with(before: Option<u32>, here: &InstrAt) -> Option<u32>
+    ensures { result ≡ (if is_slots_own here.now.instr then lesser_of before here.now.at else before) }
 {
-    if is_slots_own(&piece.instr) {
-        lesser(before, piece.at)
+    if is_slots_own(&here.instr) {
+        lesser(before, here.at)
     } else {
         before
     }
 }
 
 /// The offset of an instruction that lets the next byte run.
-fn open_at(piece: &Piece) -> Option<u32>
-    ensures { result ≡ (if is_end piece.now.instr then None else Some piece.now.at) }
+fn open_at(here: &InstrAt) -> Option<u32>
+    ensures { result ≡ (if is_end here.now.instr then None else Some here.now.at) }
 {
-    if is_end(&piece.instr) {
+    if is_end(&here.instr) {
         None
     } else {
-        Some(piece.at)
+        Some(here.at)
     }
 }
 
 /// Notes one instruction more.
-pub fn note(cut: &mut Cut, piece: &Piece)
-    requires room { HasRoom piece.now.end cut.old }
-    requires some { piece.now.at ≤ piece.now.end }
-    ensures room { KeepsRoom cut.old cut.new }
-    ensures notes { NotesMore cut.old piece.now cut.new }
+pub fn note(notes: &mut Notes, here: &InstrAt)
+    requires room { HasRoom here.now.end notes.old }
+    requires some { here.now.at ≤ here.now.end }
+    ensures room { KeepsRoom notes.old notes.new }
+    ensures notes { AddsNote notes.old here.now notes.new }
 {
-    mark(&mut cut.starts, piece.at as usize);
-    note_zero(&mut cut.zeros, piece);
-    note_registers(&mut cut.registers, piece);
-    cut.transfer = transfer_with(cut.transfer, piece);
-    cut.last_open = open_at(piece);
+    mark(&mut notes.starts, here.at as usize);
+    note_zero(&mut notes.zeros, here);
+    note_registers(&mut notes.registers, here);
+    notes.transfer = transfer_with(notes.transfer, here);
+    notes.last_open = open_at(here);
 }

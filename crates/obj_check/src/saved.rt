@@ -1,15 +1,15 @@
 //! The rule of saved registers: how a saved function begins, and which of the five it uses.
 
 ghost use Rattle.std.specs.Prelude.{◌≡◌, ◌++◌, ◌<◌, ◌&&◌, nat_lt, slice_index, IfOk, OnOk, length};
-ghost use Rattle.obj_core.specs.Cut.{spelled};
+ghost use Rattle.obj_core.specs.Disassembly.{spelled};
 ghost use Rattle.obj_core.specs.Saved.{saved_register, five_of, prologue, begins_with, one_if, agree, are_first_colors};
 ghost use Rattle.obj_core.specs.WellFormed.{is_saved_well};
-ghost use Rattle.obj_check.specs.Pieces.{cut_of};
-ghost use Rattle.obj_check.specs.Cuts.{IsCutUp};
+ghost use Rattle.obj_check.specs.Instrs.{disassembly_of};
+ghost use Rattle.obj_check.specs.Disassembled.{IsNoted};
 ghost use Rattle.obj_check.specs.Orders.{pushes_in, used_in, count_used, are_colored};
 
 use crate::marks::{Table, is_marked};
-use crate::notes::Cut;
+use crate::notes::Notes;
 use obj_core::object::{Func, FuncKind};
 use rd_draw::{perm, shuffle_known};
 use rd_num::list::List;
@@ -25,14 +25,14 @@ pub fn is_saved_well(
     reg_seed: u64,
     n: u32,
     function: &Func,
-    cut: &Cut,
+    notes: &Notes,
 ) -> Result<bool, NoMemory>
-    requires { IsCutUp function.now.bytes cut.now }
-    ensures { IfOk result (λ r. r ≡ is_saved_well reg_seed n function.now (cut_of function.now.bytes)) }
+    requires { IsNoted function.now.bytes notes.now }
+    ensures { IfOk result (λ r. r ≡ is_saved_well reg_seed n function.now (disassembly_of function.now.bytes)) }
 {
     match function.kind {
         FuncKind::Plain => Ok(true),
-        FuncKind::Saved => is_saved(alloc, reg_seed, n, function, cut),
+        FuncKind::Saved => is_saved(alloc, reg_seed, n, function, notes),
     }
 }
 
@@ -43,10 +43,10 @@ fn is_saved(
     reg_seed: u64,
     n: u32,
     function: &Func,
-    cut: &Cut,
+    notes: &Notes,
 ) -> Result<bool, NoMemory>
-    requires { IsCutUp function.now.bytes cut.now }
-    ensures { IfOk result (λ r. r ≡ (begins_with (prologue reg_seed n) function.now.bytes && are_first_colors reg_seed n (cut_of function.now.bytes))) }
+    requires { IsNoted function.now.bytes notes.now }
+    ensures { IfOk result (λ r. r ≡ (begins_with (prologue reg_seed n) function.now.bytes && are_first_colors reg_seed n (disassembly_of function.now.bytes))) }
 {
     let front = prologue(alloc, reg_seed, n)?;
     let names = five(alloc, reg_seed, 3, n)?;
@@ -54,7 +54,7 @@ fn is_saved(
         front.as_slice(),
         names.as_slice(),
         function.bytes.as_slice(),
-        &cut.registers,
+        &notes.registers,
     ))
 }
 

@@ -1,4 +1,4 @@
-pub mod Cuts
+pub mod Spelling
 pub mod Stands
 pub mod Kept
 pub mod Inside
@@ -11,5 +11,8 @@ pub mod Totals
 pub mod Looked
 pub mod Fronts
 pub mod Written
+pub mod Landing
+pub mod Strays
 pub mod Worked
+pub mod WorkedSaved
 pub mod SmallWell

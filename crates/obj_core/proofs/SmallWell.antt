@@ -37,8 +37,8 @@ small_is_well : IsWellFormed small
 small_is_well = record {
   object = small_is;
   few = small_few;
-  cuts = (Jmp (pos 0) ∷ []) ∷ (Ud2 ∷ []) ∷ [];
-  cut = (record { instructions = (omega arith, tt); whole = refl }, (record { instructions = (tt, tt); whole = refl }, tt));
+  disassemblies = (Jmp (pos 0) ∷ []) ∷ (Ud2 ∷ []) ∷ [];
+  disassembled = (record { instructions = (omega arith, tt); whole = refl }, (record { instructions = (tt, tt); whole = refl }, tt));
   kept = refl;
 }
 

@@ -11,9 +11,9 @@ use Rattle.obj_core.specs.declared.object.Object.{Object}
 use Rattle.obj_core.specs.declared.object.Func.{Func}
 use Rattle.obj_core.specs.declared.object.Place.{Place}
 use Rattle.obj_core.specs.Object.{Each}
-use Rattle.obj_core.specs.Cut.{size_of, spelled}
+use Rattle.obj_core.specs.Disassembly.{size_of, spelled}
 use Rattle.obj_core.specs.SymbolicMachine.{link_before, target, by_decoded, in_function, symbolic_fetch}
-use Rattle.obj_core.proofs.Cuts.{spelled-append}
+use Rattle.obj_core.proofs.Spelling.{spelled-append}
 
 -- a row of instructions at an offset of bytes
 pub record Stand (bytes : List ℕ) (off : ℕ) (is : List Instr) : Type 0 where

@@ -49,9 +49,14 @@ order_sum o seed =
     ap sum (sym (all_lens fs)) ∙
     sum-map (λ (f : Func). length f.bytes) fs
 
-pub order_long : (o : Object) (seed : ℕ) → length (placed o.functions (order o seed)) ≡ length o.functions
+-- each function has one place in the order
+pub order_as_many : (o : Object) (seed : ℕ) → length (order o seed) ≡ length o.functions
 unfolding order
-order_long o seed = length-map (order o seed) (piece o.functions) ∙ shuffled_long (keystream_word seed order_purpose 0) (length (pieces o.functions)) ∙ pieces_as_many o.functions
+order_as_many o seed = shuffled_long (keystream_word seed order_purpose 0) (length (pieces o.functions)) ∙ pieces_as_many o.functions
+
+-- and so has the row of pieces
+pub order_long : (o : Object) (seed : ℕ) → length (placed o.functions (order o seed)) ≡ length o.functions
+order_long o seed = length-map (order o seed) (piece o.functions) ∙ order_as_many o seed
 
 -- so the functions in their order are as small as all code
 pub row_small : (o : Object) (seed : ℕ) → ∥ IsWellFormed o ∥₁ → sum_by piece_len (placed o.functions (order o seed)) ≤ 67108864

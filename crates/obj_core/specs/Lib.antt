@@ -1,10 +1,12 @@
 pub mod Object
 pub mod Slots
-pub mod Cut
+pub mod Disassembly
 pub mod Saved
 pub mod WellFormed
 pub mod SymbolicMachine
+pub mod Landing
 pub mod Placement
 pub mod Runs
 pub mod Plans
+pub mod Layout
 pub mod Small

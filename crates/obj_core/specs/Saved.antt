@@ -11,7 +11,7 @@ use Rattle.x86_core.specs.declared.instr.Cond.{Cond}
 use Rattle.x86_core.specs.declared.instr.Instr.{Instr}
 use Rattle.x86_core.specs.declared.instr.Instr.TheVariants.{Mov, MovImm64, MovImm32, Alu, AluImm, Imul, Shift, Div, High, Widen, Load, Store, Lea, Push, Pop, SetCond, Cmov, Jcc, Jmp, Call, Ret, CallR11, JmpR11, Syscall, Ud2, Int3, Nop}
 use Rattle.x86_core.specs.Registers.{number_of}
-use Rattle.obj_core.specs.Cut.{spelled}
+use Rattle.obj_core.specs.Disassembly.{spelled}
 use Rattle.obj_core.specs.Slots.{name_purpose, push_purpose}
 
 -- the five, by their places
@@ -88,7 +88,7 @@ one_if b = if b then 1 else 0
 
 -- how many of the five occur
 abbrev pub count_in : List Instr → ℕ
-count_in cut = one_if (occurs (saved_register 0) cut) + (one_if (occurs (saved_register 1) cut) + (one_if (occurs (saved_register 2) cut) + (one_if (occurs (saved_register 3) cut) + one_if (occurs (saved_register 4) cut))))
+count_in instrs = one_if (occurs (saved_register 0) instrs) + (one_if (occurs (saved_register 1) instrs) + (one_if (occurs (saved_register 2) instrs) + (one_if (occurs (saved_register 3) instrs) + one_if (occurs (saved_register 4) instrs))))
 
 abbrev pub agree : Bool → Bool → Bool
 agree true b = b
@@ -97,4 +97,4 @@ agree false false = true
 
 -- those that occur are the registers of the first colours
 abbrev pub are_first_colors : ℕ → ℕ → List Instr → Bool
-are_first_colors reg_seed function cut = list_all (λ color. agree (occurs (name_of reg_seed function color) cut) (nat_lt color (count_in cut))) (0 ∷ 1 ∷ 2 ∷ 3 ∷ 4 ∷ [])
+are_first_colors reg_seed function instrs = list_all (λ color. agree (occurs (name_of reg_seed function color) instrs) (nat_lt color (count_in instrs))) (0 ∷ 1 ∷ 2 ∷ 3 ∷ 4 ∷ [])

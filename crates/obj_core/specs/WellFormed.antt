@@ -12,7 +12,7 @@ use Rattle.obj_core.specs.declared.object.Link.{Link}
 use Rattle.obj_core.specs.declared.object.Slot.{Slot}
 use Rattle.obj_core.specs.declared.object.CodeAt.{CodeAt}
 use Rattle.obj_core.specs.Object.{Each, IsObject}
-use Rattle.obj_core.specs.Cut.{AreCuts, Found, found, starts_at, spelled, size_of}
+use Rattle.obj_core.specs.Disassembly.{AreDisassemblies, Found, found, starts_at, spelled, size_of}
 use Rattle.obj_core.specs.Saved.{prologue, begins_with, are_first_colors}
 
 -- rule 1, sizes: functions, slots, bytes of code, bytes of data
@@ -94,18 +94,18 @@ open_end (x ∷ y ∷ ys) = open_end (y ∷ ys)
 
 -- rule 6, goals of slots
 abbrev pub is_start : List (List Instr) → CodeAt → Bool
-is_start cuts c = starts_in (slice_get cuts c.function) c.offset
+is_start disassemblies c = starts_in (slice_get disassemblies c.function) c.offset
   where
     starts_in : Option (List Instr) → ℕ → Bool
     starts_in None off = false
-    starts_in (Some cut) off = starts_at (found cut) off
+    starts_in (Some instrs) off = starts_at (found instrs) off
 
 abbrev pub is_good_slot : List (List Instr) → Slot → Bool
-is_good_slot cuts (Slot.Entry f) = nat_lt f (length cuts)
-is_good_slot cuts (Slot.Jump f) = nat_lt f (length cuts)
-is_good_slot cuts (Slot.Call f back) = nat_lt f (length cuts) && is_start cuts back
-is_good_slot cuts (Slot.Indirect back) = is_start cuts back
-is_good_slot cuts (Slot.System back) = is_start cuts back
+is_good_slot disassemblies (Slot.Entry f) = nat_lt f (length disassemblies)
+is_good_slot disassemblies (Slot.Jump f) = nat_lt f (length disassemblies)
+is_good_slot disassemblies (Slot.Call f back) = nat_lt f (length disassemblies) && is_start disassemblies back
+is_good_slot disassemblies (Slot.Indirect back) = is_start disassemblies back
+is_good_slot disassemblies (Slot.System back) = is_start disassemblies back
 
 -- rule 7, the entry: slot 0 and no other
 abbrev pub is_entry : Slot → Bool
@@ -117,11 +117,11 @@ agrees_with k s = if nat_eq k 0 then is_entry s else not (is_entry s)
 
 -- rule 8, saved registers
 abbrev pub is_saved_well : ℕ → ℕ → Func → List Instr → Bool
-is_saved_well reg_seed n f cut = by_kind f.kind
+is_saved_well reg_seed n f instrs = by_kind f.kind
   where
     by_kind : FuncKind → Bool
     by_kind FuncKind.Plain = true
-    by_kind FuncKind.Saved = begins_with (prologue reg_seed n) f.bytes && are_first_colors reg_seed n cut
+    by_kind FuncKind.Saved = begins_with (prologue reg_seed n) f.bytes && are_first_colors reg_seed n instrs
 
 -- where a violation is
 pub data Spot : Type 0 where
@@ -148,8 +148,8 @@ at_least_offset rule n (m ∷ ms) = Some (record { rule = rule; spot = Function 
 
 -- the first function in which a rule fails, from number n on
 abbrev pub in_functions : ℕ → (ℕ → Func → List Instr → List ℕ) → ℕ → List Func → List (List Instr) → Option Violation
-in_functions rule fails n (f ∷ fs) (cut ∷ cuts) = or_else (at_least_offset rule n (fails n f cut)) (in_functions rule fails (n + 1) fs cuts)
-in_functions rule fails n fs cuts = None
+in_functions rule fails n (f ∷ fs) (instrs ∷ disassemblies) = or_else (at_least_offset rule n (fails n f instrs)) (in_functions rule fails (n + 1) fs disassemblies)
+in_functions rule fails n fs disassemblies = None
 
 -- the first slot that a test doesn't pass, from number k on
 abbrev pub in_slots : ℕ → (ℕ → Slot → Bool) → ℕ → List Slot → Option Violation
@@ -160,23 +160,23 @@ abbrev pub zero_unless : Bool → List ℕ
 zero_unless true = []
 zero_unless false = 0 ∷ []
 
--- the first of rules 3 to 8 that fails, where these are the functions' cuts
+-- the first of rules 3 to 8 that fails, where these are the functions' disassemblies
 abbrev pub violation : Object → List (List Instr) → Option Violation
-violation o cuts =
-    or_else (in_functions 3 (λ n f cut. forbidden_in (found cut)) 0 o.functions cuts)
-    (or_else (in_functions 4 (λ n f cut. bad_links None (found cut) (length o.slots) f.links ++ bad_branches f.links (found cut) (found cut)) 0 o.functions cuts)
-    (or_else (in_functions 5 (λ n f cut. open_end (found cut)) 0 o.functions cuts)
-    (or_else (in_slots 6 (λ k s. is_good_slot cuts s) 0 o.slots)
+violation o disassemblies =
+    or_else (in_functions 3 (λ n f instrs. forbidden_in (found instrs)) 0 o.functions disassemblies)
+    (or_else (in_functions 4 (λ n f instrs. bad_links None (found instrs) (length o.slots) f.links ++ bad_branches f.links (found instrs) (found instrs)) 0 o.functions disassemblies)
+    (or_else (in_functions 5 (λ n f instrs. open_end (found instrs)) 0 o.functions disassemblies)
+    (or_else (in_slots 6 (λ k s. is_good_slot disassemblies s) 0 o.slots)
     (or_else (in_slots 7 agrees_with 0 o.slots)
-    (in_functions 8 (λ n f cut. zero_unless (is_saved_well o.reg_seed n f cut)) 0 o.functions cuts)))))
+    (in_functions 8 (λ n f instrs. zero_unless (is_saved_well o.reg_seed n f instrs)) 0 o.functions disassemblies)))))
 
--- all eight rules hold; rule 2 is that every function has a cut
+-- all eight rules hold; rule 2 is that every function has a disassembly
 pub record IsWellFormed (o : Object) : Type 0 where
   pub object : IsObject o
   pub few : AreFew o
-  pub cuts : List (List Instr)
-  pub cut : AreCuts o.functions cuts
-  pub kept : violation o cuts ≡ None
+  pub disassemblies : List (List Instr)
+  pub disassembled : AreDisassemblies o.functions disassemblies
+  pub kept : violation o disassemblies ≡ None
 
 -- the bytes begin with whole instructions up to an offset inside them, and with none there; an empty function fails at 0
 pub record IsStuck (bytes : List ℕ) (off : ℕ) : Type 0 where
@@ -188,15 +188,15 @@ pub record IsStuck (bytes : List ℕ) (off : ℕ) : Type 0 where
   pub inside : (1 ≤ length rest) ⊎ (bytes ≡ [])
   pub none : (i : Instr) → IsInstr i → (more : List ℕ) → rest ≡ encoding i ++ more → ⊥
 
--- the first function without a cut
+-- the first function without a disassembly
 pub record IsFirstStuck (fs : List Func) (n off : ℕ) : Type 0 where
-  pub cuts : List (List Instr)
+  pub disassemblies : List (List Instr)
   pub before : List Func
   pub stuck : Func
   pub others : List Func
   pub functions : fs ≡ before ++ stuck ∷ others
   pub number : n ≡ length before
-  pub cut : AreCuts before cuts
+  pub disassembled : AreDisassemblies before disassemblies
   pub here : IsStuck stuck.bytes off
 
 -- what is wrong with an object that is not well formed: the first rule that fails, where it fails first
@@ -204,4 +204,4 @@ abbrev pub IsFirstViolation : Object → Violation → Type 0
 IsFirstViolation o v =
     ((v ≡ record { rule = 1; spot = Whole; offset = 0 }) × (AreFew o → ⊥)) ⊎
     (((n : ℕ) × (off : ℕ) × ((v ≡ record { rule = 2; spot = Function n; offset = off }) × AreFew o × IsFirstStuck o.functions n off)) ⊎
-    (AreFew o × ((cuts : List (List Instr)) × (AreCuts o.functions cuts × (violation o cuts ≡ Some v)))))
+    (AreFew o × ((disassemblies : List (List Instr)) × (AreDisassemblies o.functions disassemblies × (violation o disassemblies ≡ Some v)))))

@@ -13,6 +13,7 @@ pub mod address;
 mod bytes;
 pub mod checked;
 pub mod code;
+pub mod law;
 mod limits;
 pub mod object;
 mod order;

@@ -9,7 +9,7 @@ use Rattle.std.proofs.lemmas.List.Elements.{All-head, All-tail, All-drop, All-ta
 use Rattle.rd_num.specs.Number.{le_bytes, le_number}
 use Rattle.x86_core.proofs.Parts.{IsBytes, bytes_back}
 use Rattle.obj_core.specs.Object.{Each, IsByte, field}
-use Rattle.obj_core.proofs.Cuts.{each_append}
+use Rattle.obj_core.proofs.Spelling.{each_append}
 use Rattle.obj_file.specs.declared.fault.FormFault.{FormFault}
 use Rattle.obj_file.specs.Texts.{IsText, IsRaw, IsNumber, full, Spans, NoneBegins, LeavesAt, Fault}
 use Rattle.obj_file.proofs.Good.{each_replicate}

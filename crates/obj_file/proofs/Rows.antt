@@ -6,7 +6,7 @@ use Rattle.obj_file.specs.declared.fault.FormFault.{FormFault}
 use Rattle.obj_file.specs.Texts.{Times, Spans, Fault}
 use Rattle.obj_file.proofs.Good.{Good, good_times}
 use Rattle.obj_file.proofs.Leaving.{fault_first, fault_second}
-use Rattle.obj_core.proofs.Cuts.{each_append}
+use Rattle.obj_core.proofs.Spelling.{each_append}
 
 -- two pieces of a file, the second where the first ends
 pub spans_join : (bytes : List ℕ) (at mid to : ℕ) (s t : List ℕ) → Spans bytes at mid s → Spans bytes mid to t → Spans bytes at to (s ++ t)

@@ -7,7 +7,7 @@ use Rattle.obj_core.specs.Placement.{filler, overlaid, Piece, whole, piece, plac
 use Rattle.obj_core.specs.Plans.{end_from}
 use Rattle.obj_core.proofs.Overlaid.{overlaid_behind, overlaid_first}
 use Rattle.obj_core.proofs.Pieces.{whole_or, piece_whole}
-use Rattle.obj_lay.specs.Layout.{linked, code_from}
+use Rattle.obj_core.specs.Layout.{linked, code_from}
 use Rattle.obj_lay.proofs.Lengths.{linked_long}
 
 -- breakpoints in the place of a function

@@ -16,7 +16,7 @@ use Rattle.obj_core.proofs.Pieces.{whole_or, piece_whole, pieces_as_many}
 use Rattle.obj_core.proofs.Orders.{StandsAt, shuffled_stands, inverse_index}
 use Rattle.obj_core.proofs.Sizes.{code_len}
 use Rattle.obj_core.proofs.Fronts.{front_of, front_next, front_small, front_room, front_address}
-use Rattle.obj_lay.specs.Layout.{linked, code_from, code_bytes}
+use Rattle.obj_core.specs.Layout.{linked, code_from, code_bytes}
 use Rattle.obj_lay.proofs.Growing.{shown, shown_all, starts_above, blank_code, reaches, one_written}
 
 -- code with its first functions

@@ -16,7 +16,7 @@ use Rattle.obj_core.specs.Placement.{Piece, placed, order, gap_purpose, inverse,
 use Rattle.obj_core.proofs.Overlaid.{overlaid_long}
 use Rattle.obj_core.proofs.Sizes.{code_len}
 use Rattle.obj_core.proofs.Totals.{piece_len, order_sum, order_long}
-use Rattle.obj_lay.specs.Layout.{linked, code_from, code_bytes, trampoline, trampolines, slot_bytes}
+use Rattle.obj_core.specs.Layout.{linked, code_from, code_bytes, trampoline, trampolines, slot_bytes}
 
 -- each slot has sixteen bytes
 pub slot_long : (code : CodeAt → ℕ) (at : ℕ) (s : Option Slot) → length (trampoline code at s) ≡ 16

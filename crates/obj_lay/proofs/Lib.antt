@@ -1,4 +1,4 @@
-pub mod Shown
+pub mod lockstep
 pub mod Lengths
 pub mod Sound
 pub mod Growing
@@ -7,3 +7,4 @@ pub mod Slotting
 pub mod Laid
 pub mod Made
 pub mod Worked
+pub mod hidden

@@ -9,7 +9,7 @@ use Rattle.obj_core.specs.declared.code.CodePlan.{CodePlan}
 use Rattle.obj_core.specs.Slots.{slot_base, positions}
 use Rattle.obj_core.specs.Placement.{code_base, inverse}
 use Rattle.obj_core.specs.Plans.{planned, IsPlan}
-use Rattle.obj_lay.specs.Layout.{present, trampolines, slot_bytes, code_bytes, layout}
+use Rattle.obj_core.specs.Layout.{present, trampolines, slot_bytes, code_bytes, layout}
 use Rattle.obj_lay.proofs.Slotting.{planned_slots}
 
 -- a segment, unless it is empty

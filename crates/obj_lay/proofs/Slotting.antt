@@ -15,7 +15,7 @@ use Rattle.obj_core.specs.Plans.{planned, IsPlan}
 use Rattle.obj_core.proofs.Looked.{planned_is}
 use Rattle.obj_core.proofs.Overlaid.{overlaid_behind, overlaid_first}
 use Rattle.obj_core.proofs.Orders.{shuffled_stands, place_again, index_below, inverse_index, inverse_long}
-use Rattle.obj_lay.specs.Layout.{jump, call, trampoline, trampolines, slot_bytes}
+use Rattle.obj_core.specs.Layout.{jump, call, trampoline, trampolines, slot_bytes}
 use Rattle.obj_lay.proofs.Lengths.{slot_long, slots_long}
 
 -- the first slots

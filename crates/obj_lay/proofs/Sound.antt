@@ -10,7 +10,7 @@ use Rattle.obj_core.specs.declared.object.Func.{Func}
 use Rattle.obj_core.specs.Slots.{slot_base}
 use Rattle.elf_file.specs.Sound.{IsRights, IsSegment, AreApart, total_bytes, IsSound}
 use Rattle.obj_core.specs.Placement.{code_base}
-use Rattle.obj_lay.specs.Layout.{present, layout, slot_bytes, code_bytes}
+use Rattle.obj_core.specs.Layout.{present, layout, slot_bytes, code_bytes}
 use Rattle.obj_core.specs.WellFormed.{IsWellFormed}
 use Rattle.obj_core.proofs.Sizes.{code_len, few_functions, some_slot, few_slots, little_code, little_data}
 use Rattle.obj_lay.proofs.Lengths.{length-slot_bytes, code_small}

@@ -1,11 +1,21 @@
--- Worked images, computed outside this project, so that a wrong order, gap, base or displacement in the definitions doesn't check.
-use Rattle.std.proofs.Common.{◌≡◌, ℕ, List, [], ◌∷◌, ◌++◌, refl}
+-- Worked images, computed outside this project, so that a wrong order, gap, base or displacement in the definitions
+-- doesn't check; and one that is run beside its object, through all kinds of slots.
+use Rattle.std.proofs.Common.{◌≡◌, ℕ, zero, suc, List, [], ◌∷◌, ◌++◌, refl}
+use Rattle.std.specs.Prelude.{replicate}
+use Rattle.behavior.specs.Ending.{PageFault}
+use Rattle.behavior.specs.System.{iter}
 use Rattle.rand_core.specs.Steps.{u32_at}
 use Rattle.rand_chacha.specs.Block.{quarter_round, column_round, diagonal_round, double_rounds, block_word}
 use Rattle.rd_draw.specs.Draw.{stream_key, stream_word, shuffled}
 use Rattle.x86_core.specs.declared.image.Segment.{Segment}
 use Rattle.x86_core.specs.declared.image.Image.{Image}
-use Rattle.x86_core.specs.Data.{segment}
+use Rattle.x86_core.specs.Data.{segment, stack_end}
+use Rattle.x86_core.specs.Decoding.{decode}
+use Rattle.x86_core.specs.Effect.{effect_of}
+use Rattle.x86_core.specs.Step.{State, request_of}
+use Rattle.x86_core.specs.Run.{started}
+use Rattle.x86_core.specs.Machine.{machine_step}
+use Rattle.x86_core.specs.Observation.{Observation, observe}
 use Rattle.obj_core.specs.declared.object.Object.{Object}
 use Rattle.obj_core.specs.declared.object.Func.{Func}
 use Rattle.obj_core.specs.declared.object.FuncKind.{FuncKind}
@@ -13,8 +23,10 @@ use Rattle.obj_core.specs.declared.object.Link.{Link}
 use Rattle.obj_core.specs.declared.object.Slot.{Slot}
 use Rattle.obj_core.specs.declared.object.CodeAt.{CodeAt}
 use Rattle.obj_core.specs.Slots.{positions}
+use Rattle.obj_core.specs.SymbolicMachine.{symbolic_step}
+use Rattle.obj_core.proofs.Worked.{tour, tour_start, places}
 use Rattle.obj_core.specs.Placement.{filler, piece, order, starts, address}
-use Rattle.obj_lay.specs.Layout.{code_bytes, slot_bytes, layout}
+use Rattle.obj_core.specs.Layout.{code_bytes, slot_bytes, layout}
 
 abbrev plain : List ℕ → List Link → Func
 plain bytes links = record { kind = FuncKind.Plain; bytes = bytes; links = links }
@@ -65,3 +77,39 @@ five_slots : layout (object 2 (invalid ∷ jump_on ∷ []) (Slot.Entry 1 ∷ Slo
     segment 1294213120 ((233 ∷ 27 ∷ 224 ∷ 219 ∷ 194 ∷ []) ++ (filler 11 ++ ((15 ∷ 11 ∷ []) ++ filler 14))) 1 ∷ [])
 unfolding u32_at quarter_round column_round diagonal_round double_rounds block_word stream_key stream_word shuffled positions piece order starts code_bytes address slot_bytes layout
 five_slots = refl
+
+-- the tour in an image, with its code wherever it fits
+abbrev slots_bytes : List ℕ
+slots_bytes = (233 ∷ 251 ∷ 255 ∷ 255 ∷ 47 ∷ []) ++ (filler 11 ++ ((233 ∷ 27 ∷ 0 ∷ 0 ∷ 48 ∷ []) ++ (filler 11 ++ ((144 ∷ 144 ∷ 65 ∷ 255 ∷ 211 ∷ 233 ∷ 230 ∷ 255 ∷ 255 ∷ 47 ∷ []) ++ (filler 6 ++ ((15 ∷ 5 ∷ 144 ∷ 144 ∷ 144 ∷ 233 ∷ 251 ∷ 255 ∷ 255 ∷ 47 ∷ []) ++ (filler 6 ++ ((232 ∷ 219 ∷ 255 ∷ 255 ∷ 47 ∷ 233 ∷ 187 ∷ 255 ∷ 255 ∷ 47 ∷ []) ++ (filler 6 ++ ((233 ∷ 203 ∷ 255 ∷ 255 ∷ 47 ∷ []) ++ (filler 11)))))))))))
+
+abbrev tour_code : List ℕ
+tour_code = (233 ∷ 59 ∷ 0 ∷ 0 ∷ 208 ∷ 65 ∷ 187 ∷ 80 ∷ 0 ∷ 0 ∷ 16 ∷ 233 ∷ 16 ∷ 0 ∷ 0 ∷ 208 ∷ 65 ∷ 187 ∷ 16 ∷ 0 ∷ 0 ∷ 16 ∷ 65 ∷ 255 ∷ 227 ∷ []) ++ (filler 7 ++ ((195 ∷ []) ++ (filler 15 ++ ((233 ∷ 251 ∷ 255 ∷ 255 ∷ 207 ∷ 65 ∷ 255 ∷ 227 ∷ []) ++ filler 8))))
+
+-- at the entry, over the same short stack
+abbrev image_start : State ℕ
+image_start = started 0x10000000 (segment 0x10000000 slots_bytes 1 ∷ segment 0x40000000 tour_code 1 ∷ segment 3221225456 (replicate 16 0) 6 ∷ []) [] stack_end 0
+
+-- the addresses of the places of the tour, and at last the flags that it goes to
+image_goes : places machine_step 24 image_start ≡
+    0x10000000 ∷ 0x40000000 ∷
+    0x10000040 ∷ 0x40000020 ∷ 0x10000045 ∷ 0x40000005 ∷ 0x4000000B ∷
+    0x10000020 ∷ 0x10000021 ∷ 0x10000022 ∷ 0x10000050 ∷ 0x40000020 ∷ 0x10000025 ∷ 0x40000010 ∷ 0x40000016 ∷
+    0x10000010 ∷ 0x40000030 ∷
+    0x10000030 ∷ 0x10000032 ∷ 0x10000033 ∷ 0x10000034 ∷ 0x10000035 ∷ 0x40000035 ∷ 514 ∷ []
+unfolding decode effect_of request_of
+image_goes = refl
+
+-- the machine has no strays: it stops where nothing may be executed
+image_stops : (iter machine_step 24 image_start).ending ≡ PageFault
+unfolding decode effect_of request_of
+image_stops = refl
+
+-- what is shown of a run's first steps
+abbrev shown : {P : Type 0} → (State P → State P) → ℕ → State P → List Observation
+shown step zero s = []
+shown step (suc n) s = observe s ∷ shown step n (step s)
+
+-- both machines show the same until the stray
+tour_alike : shown machine_step 23 image_start ≡ shown (symbolic_step tour) 23 tour_start
+unfolding decode effect_of request_of u32_at quarter_round column_round diagonal_round double_rounds block_word stream_key stream_word shuffled positions
+tour_alike = refl

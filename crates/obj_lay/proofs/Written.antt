@@ -12,7 +12,7 @@ use Rattle.obj_core.specs.Placement.{filler, overlaid, displacement, slot_in}
 use Rattle.obj_core.specs.Runs.{address_at, put_at, slot_run}
 use Rattle.obj_core.proofs.Overlaid.{overlaid_long, overlaid_inside, overlaid_first, overlaid_both}
 use Rattle.obj_core.proofs.Written.{put_together}
-use Rattle.obj_lay.specs.Layout.{linked, jump}
+use Rattle.obj_core.specs.Layout.{linked, jump}
 
 -- a function, of whose links some are filled in
 pub record Filled (at : List ℕ) (start : ℕ) (old : List ℕ) (off : ℕ) (left links : List Link) (bytes all : List ℕ) : Type 0 where

@@ -1,1 +1,4 @@
-pub mod Layout
+pub mod Placed
+pub mod Mirrors
+pub mod Places
+pub mod Hidden

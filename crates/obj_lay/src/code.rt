@@ -10,7 +10,7 @@ ghost use Rattle.obj_core.specs.WellFormed.{IsWellFormed};
 ghost use Rattle.obj_core.specs.Placement.{code_base, overlaid};
 ghost use Rattle.obj_core.specs.Runs.{room, address_at};
 ghost use Rattle.obj_core.specs.Plans.{IsPlan};
-ghost use Rattle.obj_lay.specs.Layout.{linked, code_bytes};
+ghost use Rattle.obj_core.specs.Layout.{linked, code_bytes};
 
 use obj_core::address::SlotAddr;
 use obj_core::checked::Checked;

@@ -7,7 +7,8 @@ ghost use Rattle.obj_core.specs.declared.object.Func.{Func};
 ghost use Rattle.obj_core.specs.Slots.{positions as positions_of};
 ghost use Rattle.obj_core.specs.WellFormed.{IsWellFormed};
 ghost use Rattle.elf_file.specs.Sound.{IsSound};
-ghost use Rattle.obj_lay.specs.Layout.{present, layout};
+ghost use Rattle.obj_core.specs.Layout.{present, layout};
+ghost use Rattle.obj_lay.specs.Hidden.{HasDataOf, RepliesAsObject, ShowTheSame, ShowsObject};
 
 use crate::code::{code_of, position};
 use crate::slots::slot_segment;
@@ -30,16 +31,24 @@ const RW_START: u64 = 0x3000_0000;
 /// What the order of slots is drawn for.
 const SLOT_PURPOSE: u32 = 2;
 
-/// The image of an object for a layout seed, which is sound. Time is linear in the image, times the logarithm
-/// of the number of functions; memory is that of the image, and a constant a function and a slot.
-#[tactic(auto, unfolding(crate::specs::Layout::layout))]
+/// The image of an object for a layout seed, which is sound and hides where its code lies.
+///
+/// Time is linear in the image, times the logarithm of the number of functions; memory is that of the
+/// image, and a constant a function and a slot.
+#[tactic(auto, unfolding(obj_core::specs::Layout::layout))]
 pub fn lay(alloc: Global, o: &Checked, layout_seed: u64) -> Result<Image, NoMemory>
     ensures layout { IfOk result (λ image. image ≡ layout o.now.object layout_seed) }
     ensures sound { IfOk result IsSound }
+
+    // No seed is in what may be read, and nothing that is shown tells one layout from another.
+    ensures shows { IfOk result (λ image. ShowsObject image o.now.object) }
+    ensures replies { IfOk result (λ image. RepliesAsObject image o.now.object) }
+    ensures data_of { IfOk result (λ image. HasDataOf image o.now.object) }
+    ensures lockstep { IfOk result (λ image. (other : ℕ) →
+        ShowTheSame image (layout o.now.object other) o.now.object) }
 {
     let object = o.object();
     sizes_known(object);
-    sound_known(object, layout_seed);
     let positions = slot_positions(alloc, object)?;
     let code = code_of(alloc, o, positions.as_slice(), layout_seed)?;
     let slots = slot_segment(alloc, o, &code.plan, positions.as_slice())?;
@@ -47,12 +56,6 @@ pub fn lay(alloc: Global, o: &Checked, layout_seed: u64) -> Result<Image, NoMemo
     let entry = SlotAddr::at(position(positions.as_slice(), 0)).number();
     Ok(Image { entry, segments })
 }
-
-/// Makes it known to a proof that the image of a well-formed object is sound.
-fn sound_known(o: &Object, layout_seed: u64)
-    requires { ∥ IsWellFormed o.now ∥₁ }
-    ensures { IsSound (layout o.now layout_seed) }
-{}
 
 /// Makes it known to a proof how large a well-formed object is at most.
 fn sizes_known(o: &Object)

@@ -1,24 +1,41 @@
-//! What holds of every layout, whatever the seed is.
+//! Laws of images that hold an object, as the contracts of functions that do nothing.
+//!
+//! `lay` says of its own image what it shows. Here the same is said of every image that holds an
+//! object, wherever its code stands (`specs/Placed.antt`), and of what an image means. That bytes at
+//! the addresses of places are enough for it, is `specs/Places.antt`. All of it holds until the
+//! object's run strays: goes by a word that is no slot's address and none behind a slot's call.
 
-ghost use Rattle.std.specs.Prelude.{ℕ, ◌≡◌, ◌++◌};
-ghost use Rattle.x86_core.specs.Memory.{data_of};
+ghost use Rattle.std.specs.Prelude.{◌≡◌, ◌≢◌, ℕ, List as Row, Bool};
+ghost use Rattle.behavior.specs.Ending.{Strayed};
+ghost use Rattle.behavior.specs.Moment.{AreBytes, Behavior};
+ghost use Rattle.behavior.specs.Preserves.{Preserves};
+ghost use Rattle.x86_core.specs.declared.image.Image.{Image as Picture};
+ghost use Rattle.x86_core.specs.declared.image.Segment.{Segment};
+ghost use Rattle.x86_core.specs.Machine.{machine_behavior};
 ghost use Rattle.obj_core.specs.declared.object.Object.{Object};
-ghost use Rattle.obj_core.specs.Slots.{slot_start};
+ghost use Rattle.obj_core.specs.declared.object.Place.{Place};
+ghost use Rattle.obj_core.specs.SymbolicMachine.{symbolic_behavior};
 ghost use Rattle.obj_core.specs.WellFormed.{IsWellFormed};
-ghost use Rattle.elf_file.specs.Sound.{IsSound};
-ghost use Rattle.obj_lay.specs.Layout.{present, layout};
+ghost use Rattle.obj_core.specs.Layout.{layout};
+ghost use Rattle.obj_lay.specs.Placed.{HoldsObject, Placed};
+ghost use Rattle.obj_lay.specs.Places.{IsLaid, is_step_place};
+ghost use Rattle.obj_lay.specs.Hidden.{ShowsObject};
 
-/// The entry is the address of slot 0, which no layout seed moves. Takes no memory.
-pub fn layout_enters_at_slot_0()
-    ensures { (o : Object) (seed : ℕ) → (layout o seed).entry ≡ slot_start o 0 }
+/// Bytes that hold each instruction and each slot of a well-formed object hold the object.
+pub fn laid_is_placed()
+    ensures { (exec : Row Segment) (place : Place → ℕ) (o : Object) (well : IsWellFormed o) →
+        IsLaid exec place o well.disassemblies → Placed exec place (is_step_place o well.disassemblies) o }
 {}
 
-/// What may be read or written is the object's data alone, at fixed addresses, for every layout seed. Takes no memory.
-pub fn layout_shows_the_data()
-    ensures { (o : Object) (seed : ℕ) → data_of (layout o seed).segments ≡ present 536870912 o.ro 4 ++ present 805306368 o.rw 6 }
+/// An image that holds an object shows what the object shows, wherever it has its code.
+pub fn images_show_the_object()
+    ensures { (image : Picture) (place : Place → ℕ) (is_place : Place → Bool) (o : Object) →
+        HoldsObject image place is_place o → ShowsObject image o }
 {}
 
-/// The image of a well-formed object is sound. Takes no memory.
-pub fn layout_is_sound()
-    ensures { (o : Object) (seed : ℕ) → IsWellFormed o → IsSound (layout o seed) }
+/// A layout means what its object means, for a program that never strays.
+pub fn layout_preserves()
+    ensures { (o : Object) → IsWellFormed o → (seed : ℕ) (A : Behavior) →
+        ((input : Row ℕ) → AreBytes input → (k : ℕ) → (A input k).ending ≢ Strayed) →
+        Preserves A (symbolic_behavior o) → Preserves A (machine_behavior (layout o seed)) }
 {}

@@ -6,7 +6,7 @@ ghost use Rattle.obj_core.specs.Slots.{slot_base, positions as positions_of};
 ghost use Rattle.obj_core.specs.Placement.{inverse, filler, start_of, displacement, overlaid};
 ghost use Rattle.obj_core.specs.Runs.{slot_run};
 ghost use Rattle.obj_core.specs.Plans.{planned};
-ghost use Rattle.obj_lay.specs.Layout.{jump, trampoline, trampolines};
+ghost use Rattle.obj_core.specs.Layout.{jump, trampoline, trampolines};
 
 use obj_core::checked::Checked;
 use obj_core::code::{CodeBuilder, CodePlan};

@@ -44,9 +44,9 @@ use Rattle.ir_narrow.specs.Reading.{value_of}
 use Rattle.ir_narrow.specs.Resolved.{Matches, AllMatch, IsResolved, word_type, operand_of, operation_in_module, instruction_of_row, module_of}
 use Rattle.obj_core.specs.declared.object.Place.{Place}
 use Rattle.obj_core.specs.Object.{Each}
-use Rattle.obj_core.specs.Cut.{spelled}
+use Rattle.obj_core.specs.Disassembly.{spelled}
 use Rattle.obj_core.specs.SymbolicMachine.{symbolic_fetch, symbolic_land, symbolic_start, symbolic_behavior}
-use Rattle.obj_core.proofs.Cuts.{length-spelled-append}
+use Rattle.obj_core.proofs.Spelling.{length-spelled-append}
 use Rattle.obj_core.proofs.Stands.{Stand, stand}
 use Rattle.rd_compile.specs.NarrowCode.{frame_code, value_into, operation_code, instruction_code, instructions_code, end_code, main_code, main_bytes, narrow_object}
 use Rattle.rd_compile.proofs.Homes.{IsStack, home_stack}

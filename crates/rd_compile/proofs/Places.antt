@@ -12,7 +12,7 @@ use Rattle.x86_core.specs.Encoding.{encoding}
 use Rattle.ir_narrow.specs.declared.narrow.Value.{Value}
 use Rattle.ir_narrow.specs.declared.narrow.Value.TheVariants.{Number, Earlier}
 use Rattle.ir_narrow.specs.declared.narrow.Instruction.{Instruction}
-use Rattle.obj_core.specs.Cut.{spelled}
+use Rattle.obj_core.specs.Disassembly.{spelled}
 use Rattle.rd_compile.specs.NarrowCode.{instruction_code, instructions_code, end_code, main_bytes, frame_code, value_into, operation_code, home, HasPlaces}
 
 pub wider : (k n : ℕ) (v : Value) → k ≤ n → HasPlaces k v → HasPlaces n v

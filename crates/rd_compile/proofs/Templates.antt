@@ -30,7 +30,7 @@ use Rattle.ir_narrow.specs.declared.narrow.Instruction.{Instruction}
 use Rattle.ir_narrow.specs.declared.narrow.Narrow.{Narrow}
 use Rattle.obj_core.specs.declared.object.Object.{Object}
 use Rattle.obj_core.specs.declared.object.Place.{Place}
-use Rattle.obj_core.specs.Cut.{size_of, spelled}
+use Rattle.obj_core.specs.Disassembly.{size_of, spelled}
 use Rattle.obj_core.specs.SymbolicMachine.{target, link_before, symbolic_land, symbolic_step, symbolic_start}
 use Rattle.obj_core.proofs.Stands.{Stand, stand, past, fetched}
 use Rattle.rd_compile.specs.NarrowCode.{frame_bytes, home, value_into, operation_code, instruction_code, end_code, frame_code, instructions_code, main_bytes, main_function, start_function, narrow_object}

@@ -17,9 +17,9 @@ use Rattle.ir_narrow.specs.declared.narrow.Narrow.{Narrow}
 use Rattle.obj_core.specs.declared.object.Object.{Object}
 use Rattle.obj_core.specs.declared.object.Link.{Link}
 use Rattle.obj_core.specs.Object.{Each, IsByte, IsFunc, IsObject}
-use Rattle.obj_core.specs.Cut.{IsCut, AreCuts, Found, found, found_from, starts_at, size_of, spelled}
+use Rattle.obj_core.specs.Disassembly.{IsDisassembly, AreDisassemblies, Found, found, found_from, starts_at, size_of, spelled}
 use Rattle.obj_core.specs.WellFormed.{AreFew, is_slots_own, forbidden_in, displacement, is_zero, end_of, fills_zero, is_linked, goes_well, bad_links, bad_branches, open_end, Violation, OfSlot, or_else, at_least_offset, violation, IsWellFormed}
-use Rattle.obj_core.proofs.Cuts.{spelled-append, length-spelled-append, each_append}
+use Rattle.obj_core.proofs.Spelling.{spelled-append, length-spelled-append, each_append}
 use Rattle.rd_compile.specs.NarrowCode.{home, value_into, operation_code, instructions_code, frame_code, main_code, main_bytes, main_function, start_function, stub_function, narrow_object, HasPlaces, AllHavePlaces, IsFit}
 use Rattle.rd_compile.proofs.Places.{wider, main_long}
 
@@ -187,7 +187,7 @@ module _ (n : Narrow) (fit : IsFit n) where
     abbrev cuts : List (List Instr)
     cuts = main_code n ∷ (Jmp (pos 0) ∷ []) ∷ (Ud2 ∷ []) ∷ (Ud2 ∷ []) ∷ (Ud2 ∷ []) ∷ (Ud2 ∷ []) ∷ (Ud2 ∷ []) ∷ []
 
-    main_cut : IsCut (main_bytes n) (main_code n)
+    main_cut : IsDisassembly (main_bytes n) (main_code n)
     main_cut = record {
       instructions = subst (Each IsInstr) (sym split) (each_append IsInstr front last (each_instr front quiet) (omega arith, (tt, tt)));
       whole = refl;
@@ -244,10 +244,10 @@ module _ (n : Narrow) (fit : IsFit n) where
       data_bytes = omega arith;
     }
 
-    stub_cut : IsCut (spelled (Ud2 ∷ [])) (Ud2 ∷ [])
+    stub_cut : IsDisassembly (spelled (Ud2 ∷ [])) (Ud2 ∷ [])
     stub_cut = record { instructions = (tt, tt); whole = refl }
 
-    all_cut : AreCuts o.functions cuts
+    all_cut : AreDisassemblies o.functions cuts
     all_cut = (main_cut, (record { instructions = (omega arith, tt); whole = refl }, (stub_cut, (stub_cut, (stub_cut, (stub_cut, (stub_cut, tt)))))))
 
     -- what the rules find in `main` and in its last slot; nothing else can fail
@@ -269,4 +269,4 @@ module _ (n : Narrow) (fit : IsFit n) where
         ap (λ x. judged [] [] [] x s) ends_well ∙ ap (judged [] [] [] []) back_starts
 
     pub narrow_well_formed : IsWellFormed o
-    narrow_well_formed = record { object = object_fits; few = few_enough; cuts = cuts; cut = all_cut; kept = kept }
+    narrow_well_formed = record { object = object_fits; few = few_enough; disassemblies = cuts; disassembled = all_cut; kept = kept }

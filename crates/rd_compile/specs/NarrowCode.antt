@@ -19,7 +19,7 @@ use Rattle.obj_core.specs.declared.object.Object.{Object}
 use Rattle.obj_core.specs.declared.object.Func.{Func}
 use Rattle.obj_core.specs.declared.object.FuncKind.{FuncKind}
 use Rattle.obj_core.specs.declared.object.Slot.{Slot}
-use Rattle.obj_core.specs.Cut.{spelled}
+use Rattle.obj_core.specs.Disassembly.{spelled}
 
 -- the bytes of the frame, rounded up to 16
 abbrev pub frame_bytes : ℕ → ℕ

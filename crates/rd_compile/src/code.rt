@@ -1,7 +1,7 @@
 //! The code of `main`, instruction by instruction.
 
 ghost use Rattle.std.specs.Prelude.{◌≡◌, ◌≤◌, ◌<◌, ◌+◌, ◌++◌, [], ◌∷◌, pos, OnOk, IfOk, length};
-ghost use Rattle.obj_core.specs.Cut.{spelled};
+ghost use Rattle.obj_core.specs.Disassembly.{spelled};
 ghost use Rattle.rd_compile.specs.NarrowCode.{home, value_into, operation_code, instruction_code, instructions_code, end_code, main_bytes, frame_bytes, frame_code, HasPlaces, AllHavePlaces};
 
 use ir_narrow::narrow::{Instruction, Narrow, Operation, Value};

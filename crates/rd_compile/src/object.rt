@@ -1,7 +1,7 @@
 //! The object of a narrow program: its functions, and the slots between them.
 
 ghost use Rattle.std.specs.Prelude.{◌≡◌, ◌≤◌, ◌<◌, ◌^◌, ◌-◌, ◌++◌, [], ◌∷◌, OnOk, IfOk, length};
-ghost use Rattle.obj_core.specs.Cut.{spelled};
+ghost use Rattle.obj_core.specs.Disassembly.{spelled};
 ghost use Rattle.rd_compile.specs.NarrowCode.{main_function, main_bytes, start_function, stub_function, narrow_object, IsFit};
 
 use crate::code::main_code_bytes;

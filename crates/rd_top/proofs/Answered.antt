@@ -10,8 +10,8 @@ use Rattle.x86_core.specs.Observation.{Observation, observe, reply_to}
 use Rattle.obj_core.specs.declared.object.Object.{Object}
 use Rattle.obj_core.specs.SymbolicMachine.{symbolic_step, symbolic_start}
 use Rattle.obj_core.specs.WellFormed.{IsWellFormed}
-use Rattle.obj_lay.specs.Layout.{layout}
-use Rattle.obj_hidden.proofs.Images.{hidden_layout}
+use Rattle.obj_core.specs.Layout.{layout}
+use Rattle.obj_lay.proofs.hidden.Images.{hidden_layout}
 use Rattle.watch_script.specs.declared.event.Event.{Event}
 use Rattle.watch_script.specs.Events.{are_in_order, last_after}
 use Rattle.watch_script.specs.Report.{reply_of, replies_of, reply_lines, end_line, capped, report_of}

@@ -5,9 +5,9 @@ use Rattle.ir_core.specs.Run.{source_run}
 use Rattle.ir_narrow.specs.Resolved.{module_of}
 use Rattle.obj_core.specs.declared.object.Object.{Object}
 use Rattle.rd_compile.specs.Compiled.{CompiledText}
-use Rattle.obj_lay.specs.Layout.{layout}
+use Rattle.obj_core.specs.Layout.{layout}
 use Rattle.elf_file.specs.Elf.{elf_bytes}
-use Rattle.obj_hidden.proofs.Images.{layout_preserves}
+use Rattle.obj_lay.proofs.hidden.Images.{layout_preserves}
 use Rattle.rd_top.specs.Laying.{Hides}
 use Rattle.rd_top.specs.Commands.{IsImageOf}
 

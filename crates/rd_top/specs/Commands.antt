@@ -9,7 +9,7 @@ use Rattle.ir_narrow.specs.NarrowText.{Program, IsNarrowText}
 use Rattle.obj_core.specs.declared.object.Object.{Object}
 use Rattle.obj_core.specs.Object.{object_bytes}
 use Rattle.rd_compile.specs.Compiled.{CompiledText}
-use Rattle.obj_lay.specs.Layout.{layout}
+use Rattle.obj_core.specs.Layout.{layout}
 use Rattle.elf_file.specs.Elf.{elf_bytes}
 use Rattle.rd_top.specs.declared.compile.Made.{Made}
 use Rattle.rd_top.specs.declared.answer.Answer.{Answer}

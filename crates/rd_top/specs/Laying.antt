@@ -12,7 +12,7 @@ use Rattle.obj_core.specs.WellFormed.{IsWellFormed, IsFirstViolation}
 use Rattle.obj_file.specs.Faults.{IsNoneFrom}
 use Rattle.obj_check.specs.declared.fault.ShapeSpot.{ShapeSpot}
 use Rattle.obj_check.specs.Least.{spot_of}
-use Rattle.obj_lay.specs.Layout.{layout}
+use Rattle.obj_core.specs.Layout.{layout}
 use Rattle.elf_file.specs.Elf.{elf_bytes}
 use Rattle.rd_top.specs.declared.answer.Answer.{Answer}
 use Rattle.rd_top.specs.declared.answer.Answer.TheVariants.{Done, Words, File, Later, Form, Shape, Image, Script, Long, Out, Input, Memory, Ran}

@@ -6,7 +6,7 @@ ghost use Rattle.rd_top.specs.Commands.{CompileMeans, IsMade, KeepsFiles};
 ghost use Rattle.rd_top.specs.Laying.{Hides};
 ghost use Rattle.obj_core.specs.Object.{object_bytes as object_bytes_of};
 ghost use Rattle.obj_core.specs.WellFormed.{IsWellFormed};
-ghost use Rattle.obj_lay.specs.Layout.{layout};
+ghost use Rattle.obj_core.specs.Layout.{layout};
 ghost use Rattle.elf_file.specs.Elf.{elf_bytes};
 
 use crate::answer::Answer;
@@ -14,7 +14,6 @@ use ir_narrow::narrow::NarrowFault;
 use obj_core::checked::Checked;
 use obj_core::object::Object;
 use obj_file::write::write;
-use obj_hidden::checked_layouts_hide;
 use obj_lay::lay;
 use rd_compile::compile;
 use rd_io::{FileFail, Files, PutFail, Sink};
@@ -49,7 +48,6 @@ fn image_bytes(alloc: Global, object: Object, layout_seed: u64) -> Result<List<u
     ensures hides { IfOk result (λ l. Hides object layout_seed) }
 {
     let checked = Checked::new(object);
-    checked_layouts_hide(&checked);
     let image = lay(alloc, &checked, layout_seed)?;
     match elf_file::write::write(alloc, &image) {
         Ok(file) => Ok(file),

@@ -9,7 +9,6 @@ use obj_check::check;
 use obj_check::fault::ShapeFault;
 use obj_file::fault::FormFault;
 use obj_file::read::read;
-use obj_hidden::checked_layouts_hide;
 use obj_lay::lay;
 use rd_io::{FileFail, Files, PutFail, Sink};
 use rd_num::list::List;
@@ -37,7 +36,6 @@ fn image_file(alloc: Global, bytes: &[u8], layout_seed: u64) -> Result<List<u8>,
             ShapeFault::NoMemory => return Err(Answer::Memory),
         },
     };
-    checked_layouts_hide(&checked);
     let image = match lay(alloc, &checked, layout_seed) {
         Ok(image) => image,
         Err(_) => return Err(Answer::Memory),

@@ -3,7 +3,7 @@
 ghost use Rattle.std.specs.Prelude.{◌≡◌, ℕ, List as Row, true};
 ghost use Rattle.obj_core.specs.declared.object.Object.{Object};
 ghost use Rattle.obj_core.specs.WellFormed.{IsWellFormed};
-ghost use Rattle.obj_lay.specs.Layout.{layout};
+ghost use Rattle.obj_core.specs.Layout.{layout};
 ghost use Rattle.watch_script.specs.declared.event.Event.{Event};
 ghost use Rattle.watch_script.specs.Events.{are_in_order, last_after};
 ghost use Rattle.watch_script.specs.Report.{report_of};

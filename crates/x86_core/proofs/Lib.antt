@@ -7,3 +7,4 @@ pub mod Laws
 pub mod Steps
 pub mod Tabled
 pub mod Stack
+pub mod Acts

@@ -1,5 +1,5 @@
 use Rattle.std.proofs.Common.{◌≡◌, ◌++◌, drop}
-use Rattle.obj_core.specs.Cut.{spelled}
+use Rattle.obj_core.specs.Disassembly.{spelled}
 use Rattle.obj_check.specs.Orders.{pushes_in}
 use Rattle.obj_check.proofs.saved.put_pushes.Given as goal
 

@@ -4,7 +4,7 @@ use Rattle.obj_core.specs.declared.code.CodeBuilder.{CodeBuilder}
 use Rattle.obj_core.specs.Placement.{code_base}
 use Rattle.obj_core.proofs.Fronts.{front_first}
 use Rattle.obj_core.proofs.Inside.{some_byte, all_inside}
-use Rattle.obj_lay.specs.Layout.{code_bytes}
+use Rattle.obj_core.specs.Layout.{code_bytes}
 use Rattle.obj_lay.proofs.Laid.{numbered, ready, written_first, written_last}
 use Rattle.obj_lay.proofs.code.code_of.Goals as goal
 

@@ -7,7 +7,7 @@ use Rattle.obj_core.specs.Slots.{slot_base}
 use Rattle.obj_core.specs.Placement.{inverse}
 use Rattle.obj_core.specs.Runs.{slot_run}
 use Rattle.obj_core.specs.Plans.{planned}
-use Rattle.obj_lay.specs.Layout.{trampolines}
+use Rattle.obj_core.specs.Layout.{trampolines}
 use Rattle.obj_lay.proofs.Slotting.{ready, slots_first, slots_last}
 use Rattle.obj_lay.proofs.slots.slot_segment.Goals as goal
 

@@ -1,5 +1,5 @@
 use Rattle.std.proofs.Common.{◌≡◌, ◌++◌, drop}
-use Rattle.obj_core.specs.Cut.{spelled}
+use Rattle.obj_core.specs.Disassembly.{spelled}
 use Rattle.rd_compile.specs.NarrowCode.{instructions_code, AllHavePlaces}
 use Rattle.rd_compile.proofs.code.put_instructions.Given as goal
 

@@ -1,0 +1,43 @@
+-- The disassembly of a function: the one list of instructions that its bytes are.
+use Rattle.std.specs.Prelude.{◌≡◌, ℕ, ◌+◌, Bool, false, ◌||◌, nat_eq, List, [], ◌∷◌, ◌++◌, length}
+use Rattle.x86_core.specs.declared.instr.Instr.{Instr}
+use Rattle.x86_core.specs.Encoding.{encoding, IsInstr}
+use Rattle.obj_core.specs.declared.object.Func.{Func}
+use Rattle.obj_core.specs.Object.{Each}
+
+-- how many bytes an instruction has
+abbrev pub size_of : Instr → ℕ
+size_of i = length (encoding i)
+
+-- instructions one after another
+abbrev pub spelled : List Instr → List ℕ
+spelled [] = []
+spelled (i ∷ is) = encoding i ++ spelled is
+
+-- the instructions that bytes are, from the first to the last
+pub record IsDisassembly (bytes : List ℕ) (instrs : List Instr) : Type 0 where
+  pub instructions : Each IsInstr instrs
+  pub whole : spelled instrs ≡ bytes
+
+-- each function's disassembly, none of them empty
+abbrev pub AreDisassemblies : List Func → List (List Instr) → Type 0
+AreDisassemblies [] [] = Unit {0}
+AreDisassemblies (f ∷ fs) ((i ∷ is) ∷ disassemblies) = IsDisassembly f.bytes (i ∷ is) × AreDisassemblies fs disassemblies
+AreDisassemblies fs disassemblies = ⊥
+
+-- an instruction at its offset from the function's start
+pub record Found : Type 0 where
+  pub at : ℕ
+  pub instr : Instr
+
+abbrev pub found_from : ℕ → List Instr → List Found
+found_from at [] = []
+found_from at (i ∷ is) = record { at = at; instr = i } ∷ found_from (at + size_of i) is
+
+abbrev pub found : List Instr → List Found
+found instrs = found_from 0 instrs
+
+-- whether an instruction starts at an offset
+abbrev pub starts_at : List Found → ℕ → Bool
+starts_at [] off = false
+starts_at (x ∷ xs) off = nat_eq x.at off || starts_at xs off

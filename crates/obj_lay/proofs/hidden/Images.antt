@@ -1,0 +1,101 @@
+-- Each layout of a well-formed object is an image of it.
+use Rattle.std.proofs.Common.{◌≡◌, ◌≢◌, ℕ, List, [], ◌∷◌, refl, sym, ◌∙◌, ap, subst, arith}
+use Rattle.std.specs.Prelude.{replicate}
+use Rattle.std.proofs.Math.Logic.{∥∥₁_elim}
+use Rattle.std.proofs.Props.{props}
+use Rattle.behavior.specs.Ending.{Strayed}
+use Rattle.behavior.specs.Moment.{Agrees, AreBytes, Behavior}
+use Rattle.behavior.specs.Preserves.{Preserves}
+use Rattle.x86_core.specs.Memory.{code_of, data_of}
+use Rattle.x86_core.specs.Data.{data_segments}
+use Rattle.x86_core.specs.Machine.{machine_segments, machine_start, machine_step, machine_run, machine_behavior}
+use Rattle.x86_core.specs.Step.{State}
+use Rattle.x86_core.specs.Observation.{Observation, observe, reply_to}
+use Rattle.x86_core.specs.Run.{Act, Step}
+use Rattle.x86_core.proofs.Acts.{steps_are_acts}
+use Rattle.obj_core.specs.declared.object.Object.{Object}
+use Rattle.obj_core.specs.declared.object.Place.{Place}
+use Rattle.obj_core.specs.Slots.{slot_start}
+use Rattle.obj_core.specs.WellFormed.{IsWellFormed}
+use Rattle.obj_core.specs.SymbolicMachine.{symbolic_start, symbolic_step, symbolic_run, symbolic_behavior}
+use Rattle.obj_lay.specs.Placed.{Placed, HoldsObject}
+use Rattle.obj_lay.specs.Places.{is_step_place, IsLaid}
+use Rattle.obj_lay.specs.Hidden.{ShowsObject, HasDataOf, replies, image_shown, object_shown, RepliesAsObject, ShowTheSame}
+use Rattle.obj_lay.proofs.lockstep.Closed.{laid_placed}
+use Rattle.obj_lay.proofs.lockstep.Images.{image_shows, image_agrees, image_preserves}
+use Rattle.obj_core.specs.Placement.{code_base}
+use Rattle.obj_core.specs.Layout.{layout, code_bytes, slot_bytes}
+use Rattle.obj_lay.proofs.hidden.Executable.{executable, all_code, all_data, all_hidden}
+use Rattle.obj_lay.proofs.hidden.Functions.{exec, at_place, code_laid, neighbours}
+use Rattle.obj_lay.proofs.hidden.SlotsStand.{slot_laid}
+
+-- what may be executed of a layout, what may be read of it, and where it is entered
+code_is : (o : Object) (seed : ℕ) → code_of (machine_segments (layout o seed)) ≡ executable (slot_bytes o seed) (code_base seed) (code_bytes o seed)
+unfolding layout
+code_is o seed = all_code (slot_bytes o seed) o.ro o.rw (code_base seed) (code_bytes o seed)
+
+pub data_is : (o : Object) (seed : ℕ) → data_of (machine_segments (layout o seed)) ≡ data_segments o.ro o.rw
+unfolding layout
+data_is o seed = all_data (slot_bytes o seed) o.ro o.rw (code_base seed) (code_bytes o seed)
+
+pub entry_is : (o : Object) (seed : ℕ) → (layout o seed).entry ≡ slot_start o 0
+unfolding layout
+entry_is o seed = refl
+
+module _ (o : Object) (w : IsWellFormed o) (seed : ℕ) where
+  -- the layout holds each instruction and each slot
+  laid : IsLaid (exec o w seed) (at_place o w seed) o w.disassemblies
+  laid = record {
+    hidden = all_hidden (slot_bytes o seed) (code_base seed) (code_bytes o seed);
+    code = code_laid o w seed;
+    neighbours = λ n off size here next. neighbours o w seed n off size next;
+    slots = slot_laid o w seed;
+    addresses = λ k at. refl;
+  }
+
+  pub is_image : HoldsObject (layout o seed) (at_place o w seed) (is_step_place o w.disassemblies) o
+  is_image = record {
+    placed = subst (λ ss. Placed ss (at_place o w seed) (is_step_place o w.disassemblies) o) (sym (code_is o seed)) (laid_placed o w (exec o w seed) (at_place o w seed) laid);
+    readable = data_is o seed;
+    entry = entry_is o seed;
+    some_slot = let some = w.few.some_slot in omega (arith, some);
+  }
+
+-- a run of a layout shows what the object shows
+pub hidden_layout : (o : Object) → IsWellFormed o → (seed : ℕ) (input : List ℕ) (acts : List Act) → (symbolic_run o input acts).ending ≢ Strayed → observe (machine_run (layout o seed) input acts) ≡ observe (symbolic_run o input acts)
+hidden_layout o w seed input acts straight = image_shows (layout o seed) (at_place o w seed) (is_step_place o w.disassemblies) o (is_image o w seed) input acts straight
+
+-- after each step the same moment
+pub layout_agrees : (o : Object) → IsWellFormed o → (seed : ℕ) (input : List ℕ) (n : ℕ) → (symbolic_behavior o input n).ending ≢ Strayed → Agrees (symbolic_behavior o input n) (machine_behavior (layout o seed) input n)
+layout_agrees o w seed input n straight = image_agrees (layout o seed) (at_place o w seed) (is_step_place o w.disassemblies) o (is_image o w seed) input n straight
+
+-- what the object preserves, a layout does
+pub layout_preserves : (o : Object) → IsWellFormed o → (seed : ℕ) (A : Behavior) → ((input : List ℕ) → AreBytes input → (k : ℕ) → (A input k).ending ≢ Strayed) → Preserves A (symbolic_behavior o) → Preserves A (machine_behavior (layout o seed))
+layout_preserves o w seed A straight p = image_preserves (layout o seed) (at_place o w seed) (is_step_place o w.disassemblies) o (is_image o w seed) A straight p
+
+module _ (o : Object) (known : ∥ IsWellFormed o ∥₁) where
+  -- observations are equal in one way at most, so a checked object need not say how it is disassembled
+  pub layout_shows : (seed : ℕ) → ShowsObject (layout o seed) o
+  layout_shows seed input acts straight = ∥∥₁_elim known (hlevel props) (λ w. hidden_layout o w seed input acts straight)
+
+  -- after so many steps
+  seen_alike : (seed : ℕ) (input : List ℕ) (n : ℕ) → (symbolic_behavior o input n).ending ≢ Strayed → image_shown (layout o seed) input n ≡ object_shown o input n
+  seen_alike seed input n straight =
+      let m = steps_are_acts machine_step n (machine_start (layout o seed) input) in
+      let s = steps_are_acts (symbolic_step o) n (symbolic_start o input) in
+      ap observe (sym m) ∙ layout_shows seed input (replicate n Step) (λ e. straight (ap (λ (t : State Place). t.ending) (sym s) ∙ e)) ∙ ap observe s
+
+  -- and at each read
+  pub layout_replies : (seed : ℕ) → RepliesAsObject (layout o seed) o
+  layout_replies seed input [] straight = refl
+  layout_replies seed input (l ∷ ls) straight =
+      ap (λ (seen : Observation). reply_to seen l.at l.len ∷ replies (image_shown (layout o seed) input) ls) (seen_alike seed input l.after straight.0) ∙
+      ap (λ rs. reply_to (object_shown o input l.after) l.at l.len ∷ rs) (layout_replies seed input ls straight.1)
+
+  -- and so do two of them
+  pub layouts_alike : (seed other : ℕ) → ShowTheSame (layout o seed) (layout o other) o
+  layouts_alike seed other input acts straight = layout_shows seed input acts straight ∙ sym (layout_shows other input acts straight)
+
+-- what may be read, and where it is entered
+pub layout_data : (o : Object) (seed : ℕ) → HasDataOf (layout o seed) o
+layout_data o seed = record { data_is = data_is o seed; entry = entry_is o seed }

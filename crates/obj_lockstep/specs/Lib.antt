@@ -1,4 +1,0 @@
-pub mod Placed
-pub mod Mirrors
-pub mod Places
-pub mod Filled
