@@ -1,9 +1,10 @@
--- When a count of faults changes, and when the name of the last fault.
+-- When a count of faults changes, and what else a failed read changes.
 use Rattle.std.specs.Prelude.{ℕ, ◌≡◌, ◌+◌, ◌-◌, ◌^◌, ◌≤◌, min, List, Result, Ok, Err}
 use Rattle.rd_io.specs.declared.FileFail.{FileFail}
 use Rattle.rd_io.specs.declared.FileFail.TheVariants as file
 use Rattle.rd_io.specs.declared.PutFail.{PutFail}
 use Rattle.rd_io.specs.declared.PutFail.TheVariants as put
+use Rattle.rd_io.specs.Told.{FilesTold}
 
 -- the count went up, or stands at the end of its type
 abbrev pub Rose : ℕ → ℕ → Type 0
@@ -20,16 +21,15 @@ PutCaused before now (Ok x) = now ≡ before
 PutCaused before now (Err put.Failed) = Rose before now × (before ≤ now)
 PutCaused before now (Err put.NoMemory) = now ≡ before
 
--- the same for a call that may want memory or find too much
-abbrev pub FileCaused : {T : Type 0} → ℕ → ℕ → Result T FileFail → Type 0
-FileCaused before now (Ok x) = now ≡ before
-FileCaused before now (Err file.Failed) = Rose before now × (before ≤ now)
-FileCaused before now (Err file.TooLong) = now ≡ before
-FileCaused before now (Err file.NoMemory) = now ≡ before
+-- a file of this name could not be read: the fault is counted, its name is kept, and no content is another
+pub record Loses (old new : FilesTold) (name : List ℕ) : Type 0 where
+  pub rose : Rose old.faults new.faults
+  pub lost : new.lost ≡ name
+  pub held : new.held ≡ old.held
 
--- a failed call leaves the name that it read, and every other leaves the name of the last fault
-abbrev pub Loses : {T : Type 0} → List ℕ → List ℕ → List ℕ → Result T FileFail → Type 0
-Loses before now name (Ok x) = now ≡ before
-Loses before now name (Err file.Failed) = now ≡ name
-Loses before now name (Err file.TooLong) = now ≡ before
-Loses before now name (Err file.NoMemory) = now ≡ before
+-- a failed read loses the file, and every other leaves all that is told
+abbrev pub FileCaused : {T : Type 0} → FilesTold → FilesTold → List ℕ → Result T FileFail → Type 0
+FileCaused old new name (Ok x) = new ≡ old
+FileCaused old new name (Err file.Failed) = Loses old new name
+FileCaused old new name (Err file.TooLong) = new ≡ old
+FileCaused old new name (Err file.NoMemory) = new ≡ old

@@ -3,3 +3,4 @@ pub mod Held
 pub mod Numbered
 pub mod Outside
 pub mod Streams
+pub mod Told

@@ -2,15 +2,24 @@
 use Rattle.std.specs.Prelude.{ℕ, ◌+◌, ◌-◌, ◌^◌, ◌<◌, ◌≤◌, ◌≡◌, min, Bool, true, false, List, [], ◌∷◌, ◌++◌, length, Option, Some, None, Result, Ok, Err}
 use Rattle.rd_io.specs.declared.FileFail.{FileFail}
 use Rattle.rd_io.specs.declared.FileFail.TheVariants as file
+use Rattle.rd_io.specs.Told.{SinkTold}
+
+-- a file's content as it was read: within the limit, and what is held where that is told
+abbrev pub IsContent : Option (List ℕ) → ℕ → List ℕ → Type 0
+IsContent None limit bytes = length bytes ≤ limit
+IsContent (Some held) limit bytes = (bytes ≡ held) × (length bytes ≤ limit)
+
+-- more than the limit is held, where that is told
+abbrev pub IsTooLong : Option (List ℕ) → ℕ → Type 0
+IsTooLong None limit = Unit {0}
+IsTooLong (Some held) limit = limit < length held
 
 -- a file is answered whole and within the limit; too long is said only of more than the limit
 abbrev pub Reads : Option (List ℕ) → ℕ → Result (List ℕ) FileFail → Type 0
-Reads None limit (Ok bytes) = length bytes ≤ limit
-Reads None limit (Err e) = Unit {0}
-Reads (Some content) limit (Ok bytes) = (bytes ≡ content) × (length bytes ≤ limit)
-Reads (Some content) limit (Err file.TooLong) = limit < length content
-Reads (Some content) limit (Err file.Failed) = Unit {0}
-Reads (Some content) limit (Err file.NoMemory) = Unit {0}
+Reads held limit (Ok bytes) = IsContent held limit bytes
+Reads held limit (Err file.TooLong) = IsTooLong held limit
+Reads held limit (Err file.Failed) = Unit {0}
+Reads held limit (Err file.NoMemory) = Unit {0}
 
 -- a source gives the next byte of what is left; a failed call takes nothing
 abbrev pub Takes : {E : Type 0} → Option (List ℕ) → Option (List ℕ) → Result (Option ℕ) E → Type 0
@@ -56,6 +65,17 @@ CountsPart old new n = (k : ℕ) × ((k ≤ n) × Counts old new k)
 abbrev pub Totals : {T E : Type 0} → Option ℕ → Option ℕ → List ℕ → Result T E → Type 0
 Totals old new bytes (Ok x) = Counts old new (length bytes)
 Totals old new bytes (Err e) = CountsPart old new (length bytes)
+
+-- a sink has these bytes more and counts them, and no call of it failed
+pub record Appended (old new : SinkTold) (bytes : List ℕ) : Type 0 where
+  pub written : Gets old.written new.written bytes
+  pub total : Counts old.total new.total (length bytes)
+  pub faults : new.faults ≡ old.faults
+
+-- a sink has a prefix of these bytes more, and counts some of them
+pub record AppendedPart (old new : SinkTold) (bytes : List ℕ) : Type 0 where
+  pub written : GetsPart old.written new.written bytes
+  pub total : CountsPart old.total new.total (length bytes)
 
 -- the number of these bytes, as far as 2^64 - 1, where both are told
 abbrev pub IsCountOf : Option ℕ → Option (List ℕ) → Type 0

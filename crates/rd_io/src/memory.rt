@@ -2,10 +2,9 @@
 //!
 //! Calls are numbered from 1, each object's for itself. They tell all that they hold.
 
-ghost use Rattle.std.specs.Prelude.{◌≡◌, ◌+◌, ◌-◌, ◌^◌, ◌≤◌, min, [], ◌∷◌, ◌++◌, ◌||◌, ◌≢◌, length, drop, refl, None, Some, Err, OnOk, OnErr, MatchOption, nat_le};
-ghost use Rattle.std.specs.Option.{is_none};
-ghost use Rattle.rd_io.specs.Causes.{Caused, PutCaused, FileCaused, Loses};
-ghost use Rattle.rd_io.specs.Held.{content_of, name_or_empty};
+ghost use Rattle.std.specs.Prelude.{◌≡◌, ◌+◌, ◌≤◌, [], ◌∷◌, ◌++◌, ◌||◌, ◌≢◌, length, drop, refl, None, Some, Err, OnOk, OnErr, MatchOption, nat_le, not, is_some};
+ghost use Rattle.rd_io.specs.Causes.{Caused, PutCaused, FileCaused};
+ghost use Rattle.rd_io.specs.Held.{content_of, files_told, source_told, sink_told};
 ghost use Rattle.rd_io.specs.Numbered.{one_more, is_failing, TakeFails, PutFails, ReadFails};
 ghost use Rattle.rd_io.specs.Outside.{Takes, Ends, Reads};
 
@@ -47,17 +46,15 @@ impl MemFiles {
 }
 
 impl Files for MemFiles {
-    ghost held = { λ f. content_of f.files };
-
-    ghost lost = { λ f. name_or_empty f.lost };
-
-    ghost faults = { λ f. f.faults };
+    ghost told = { λ f. files_told (content_of f.files) f.lost f.faults };
 
     fn read(&mut self, alloc: Global, name: &str, limit: u64) -> Result<List<u8>, FileFail>
         ensures bytes { Reads (content_of self.old.files name.now) limit result }
-        ensures fault { ReadFails (is_failing self.old.fails self.old.calls || is_none (content_of self.old.files name.now)) result }
-        ensures cause { FileCaused self.old.faults self.new.faults result }
-        ensures lost { Loses (name_or_empty self.old.lost) (name_or_empty self.new.lost) name.now result }
+        ensures fault { let is_held = is_some (content_of self.old.files name.now) in
+            ReadFails (is_failing self.old.fails self.old.calls || not is_held) result }
+        ensures cause { FileCaused
+            (files_told (content_of self.old.files) self.old.lost self.old.faults)
+            (files_told (content_of self.new.files) self.new.lost self.new.faults) name.now result }
         ensures call { self.new.calls ≡ one_more self.old.calls }
         ensures files { (self.new.files ≡ self.old.files) × (self.new.fails ≡ self.old.fails) }
     {
@@ -80,7 +77,8 @@ impl Files for MemFiles {
 
 /// The content of the first file with a name.
 pub(crate) fn find<'a>(files: &'a [File], name: &[u8]) -> Option<&'a List<u8>>
-    ensures { MatchOption result (content_of files.now name.now ≡ None) (λ b. content_of files.now name.now ≡ Some b.now) }
+    ensures { let held = content_of files.now name.now in
+        MatchOption result (held ≡ None) (λ b. held ≡ Some b.now) }
 {
     for file in files {
         if file.name.as_slice() == name {
@@ -130,15 +128,13 @@ impl MemSource {
 }
 
 impl Source for MemSource {
-    ghost left = { λ s. Some (drop s.place s.bytes) };
-
-    ghost ended = { λ s. nat_le (length s.bytes) s.place };
-
-    ghost faults = { λ s. s.faults };
+    ghost told = { λ s. source_told s.bytes s.place s.faults };
 
     fn take(&mut self) -> Result<Option<u8>, Failed>
-        ensures bytes { Takes (Some (drop self.old.place self.old.bytes)) (Some (drop self.new.place self.new.bytes)) result }
-        ensures end { Ends (nat_le (length self.old.bytes) self.old.place) (nat_le (length self.new.bytes) self.new.place) result }
+        ensures bytes { Takes (Some (drop self.old.place self.old.bytes))
+            (Some (drop self.new.place self.new.bytes)) result }
+        ensures end { Ends (nat_le (length self.old.bytes) self.old.place)
+            (nat_le (length self.new.bytes) self.new.place) result }
         ensures fault { TakeFails (is_failing self.old.fails self.old.calls) result }
         ensures cause { Caused self.old.faults self.new.faults result }
         ensures call { self.new.calls ≡ one_more self.old.calls }
@@ -155,7 +151,9 @@ impl Source for MemSource {
 
 /// The byte at a place, and the place behind it.
 pub(crate) fn next(bytes: &List<u8>, place: &mut usize) -> Option<u8>
-    ensures { MatchOption result ((length bytes.now ≤ place.old) × (place.new ≡ place.old)) (λ b. (drop place.old bytes.now ≡ b ∷ drop place.new bytes.now) × (place.new ≡ place.old + 1)) }
+    ensures { MatchOption result ((length bytes.now ≤ place.old) × (place.new ≡ place.old))
+        (λ b. (drop place.old bytes.now ≡ b ∷ drop place.new bytes.now) ×
+        (place.new ≡ place.old + 1)) }
 {
     if *place < bytes.len() {
         let byte = bytes.as_slice()[*place];
@@ -197,11 +195,7 @@ impl MemSink {
 }
 
 impl Sink for MemSink {
-    ghost written = { λ s. Some s.bytes };
-
-    ghost total = { λ s. Some (min (length s.bytes) (2 ^ 64 - 1)) };
-
-    ghost faults = { λ s. s.faults };
+    ghost told = { λ s. sink_told s.bytes s.faults };
 
     ghost counted = { λ s. refl };
 

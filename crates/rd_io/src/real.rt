@@ -6,7 +6,7 @@
 
 ghost use Rattle.std.specs.Prelude.{◌≡◌, ◌≢◌, true, false, None, Ok, Err};
 ghost use Rattle.rd_io.specs.Causes.{Caused, PutCaused};
-ghost use Rattle.rd_io.specs.Held.{name_or_empty};
+ghost use Rattle.rd_io.specs.Held.{files_told};
 ghost use Rattle.rd_io.specs.Outside.{Ends, Reads};
 ghost use Rattle.rd_io.specs.Streams.{PutsAll, TakesNext};
 
@@ -42,11 +42,7 @@ impl<R: rt::Files> DiskFiles<R> {
 }
 
 impl<R: rt::Files> Files for DiskFiles<R> {
-    ghost held = { λ f name. None };
-
-    ghost lost = { λ f. name_or_empty f.lost };
-
-    ghost faults = { λ f. f.faults };
+    ghost told = { λ f. files_told (λ name. None) f.lost f.faults };
 
     /// A folder is no file: it can't be read. At most `limit` bytes and one are read.
     fn read(&mut self, alloc: Global, name: &str, limit: u64) -> Result<List<u8>, FileFail> {
@@ -124,14 +120,11 @@ impl<R: Read> StreamSource<R> {
 }
 
 impl<R: Read> Source for StreamSource<R> {
-    ghost left = { λ s. None };
-
-    ghost ended = { λ s. s.ended };
-
-    ghost faults = { λ s. s.faults };
+    ghost told = { λ s. record { left = None; ended = s.ended; faults = s.faults } };
 
     fn take(&mut self) -> Result<Option<u8>, Failed>
-        ensures stream { self.old.ended ≡ false → TakesNext (R.remaining self.old.reader) (R.remaining self.new.reader) result }
+        ensures stream { let before = R.remaining self.old.reader in
+            self.old.ended ≡ false → TakesNext before (R.remaining self.new.reader) result }
         ensures stopped { self.old.ended ≡ true → (result ≡ Ok None) × (self.new ≡ self.old) }
         ensures end { Ends self.old.ended self.new.ended result }
         ensures cause { Caused self.old.faults self.new.faults result }
@@ -188,11 +181,7 @@ impl<W: Write> StreamSink<W> {
 }
 
 impl<W: Write> Sink for StreamSink<W> {
-    ghost written = { λ s. None };
-
-    ghost total = { λ s. None };
-
-    ghost faults = { λ s. s.faults };
+    ghost told = { λ s. record { written = None; total = None; faults = s.faults } };
 
     ghost counted = { λ s. tt };
 

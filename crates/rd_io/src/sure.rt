@@ -1,7 +1,7 @@
 //! Files, a source and sinks that never fail, whose counts of faults stay at zero.
 
-ghost use Rattle.std.specs.Prelude.{◌≡◌, ◌≢◌, ◌-◌, ◌^◌, min, [], length, drop, nat_le, refl, None, Some, Err, IsOk, OnOk, OnErr, ◌++◌};
-ghost use Rattle.rd_io.specs.Held.{content_or_empty};
+ghost use Rattle.std.specs.Prelude.{◌≡◌, ◌≢◌, [], length, drop, nat_le, refl, None, Some, Err, IsOk, OnOk, OnErr, ◌++◌};
+ghost use Rattle.rd_io.specs.Held.{content_or_empty, count_told, files_told, source_told, sink_told};
 ghost use Rattle.rd_io.specs.Outside.{Takes, Ends, Reads, Counts};
 
 use crate::memory::{File, find, next, within};
@@ -25,11 +25,7 @@ impl SureFiles {
 }
 
 impl Files for SureFiles {
-    ghost held = { λ f name. Some (content_or_empty f.files name) };
-
-    ghost lost = { λ f. [] };
-
-    ghost faults = { λ f. 0 };
+    ghost told = { λ f. files_told (λ name. Some (content_or_empty f.files name)) None 0 };
 
     fn read(&mut self, alloc: Global, name: &str, limit: u64) -> Result<List<u8>, FileFail>
         ensures bytes { Reads (Some (content_or_empty self.old.files name.now)) limit result }
@@ -60,15 +56,13 @@ impl SureSource {
 }
 
 impl Source for SureSource {
-    ghost left = { λ s. Some (drop s.place s.bytes) };
-
-    ghost ended = { λ s. nat_le (length s.bytes) s.place };
-
-    ghost faults = { λ s. 0 };
+    ghost told = { λ s. source_told s.bytes s.place 0 };
 
     fn take(&mut self) -> Result<Option<u8>, Failed>
-        ensures bytes { Takes (Some (drop self.old.place self.old.bytes)) (Some (drop self.new.place self.new.bytes)) result }
-        ensures end { Ends (nat_le (length self.old.bytes) self.old.place) (nat_le (length self.new.bytes) self.new.place) result }
+        ensures bytes { Takes (Some (drop self.old.place self.old.bytes))
+            (Some (drop self.new.place self.new.bytes)) result }
+        ensures end { Ends (nat_le (length self.old.bytes) self.old.place)
+            (nat_le (length self.new.bytes) self.new.place) result }
         ensures sure { IsOk result }
     {
         Ok(next(&self.bytes, &mut self.place))
@@ -100,11 +94,7 @@ impl SureSink {
 }
 
 impl Sink for SureSink {
-    ghost written = { λ s. Some s.bytes };
-
-    ghost total = { λ s. Some (min (length s.bytes) (2 ^ 64 - 1)) };
-
-    ghost faults = { λ s. 0 };
+    ghost told = { λ s. sink_told s.bytes 0 };
 
     ghost counted = { λ s. refl };
 
@@ -144,11 +134,7 @@ impl CountSink {
 }
 
 impl Sink for CountSink {
-    ghost written = { λ s. None };
-
-    ghost total = { λ s. Some s.count };
-
-    ghost faults = { λ s. 0 };
+    ghost told = { λ s. count_told s.count };
 
     ghost counted = { λ s. tt };
 

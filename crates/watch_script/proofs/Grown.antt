@@ -22,7 +22,7 @@ use Rattle.x86_core.specs.Machine.{machine_fetch, machine_step}
 use Rattle.x86_core.specs.Step as step
 use Rattle.x86_core.specs.Step.{State, Fetched, Request, act, by_access, by_change, after_read, after_write, tested, returned, called, called_word, below, served, after_print, after_take, next_byte, request_of, size_bytes}
 use Rattle.xom_machine.specs.declared.machine.Machine.{Machine}
-use Rattle.xom_machine.specs.Standing.{state_of, Told, Stands}
+use Rattle.xom_machine.specs.Standing.{state_of, StreamsTold, Stands}
 use Rattle.xom_machine.specs.Calls.{Took}
 
 -- a state with more printed and taken before
@@ -116,7 +116,7 @@ steps_on s m n is =
     ap (iter machine_step n) (sym start) ∙ steps_grown s.printed s.taken n fresh
 
 -- steps in a row, and then some more
-pub took_on : (k n : ℕ) (m m2 m3 : Machine) (a b c : Told) → Took k m m2 a b → Took n m2 m3 b c → Took (k + n) m m3 a c
+pub took_on : (k n : ℕ) (m m2 m3 : Machine) (a b c : StreamsTold) → Took k m m2 a b → Took n m2 m3 b c → Took (k + n) m m3 a c
 unfolding Took
 took_on k n m m2 m3 a b c first then xs left =
     let start : State ℕ = state_of m xs [] 0 in

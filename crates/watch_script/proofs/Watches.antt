@@ -5,6 +5,7 @@ use Rattle.std.proofs.lemmas.List.{drop_more}
 use Rattle.behavior.specs.System.{iter}
 use Rattle.behavior.proofs.Between.{iter_add}
 use Rattle.rd_io.specs.Outside.{Counts}
+use Rattle.rd_io.specs.Told.{SourceTold, SinkTold}
 use Rattle.rd_io.specs.declared.RunFault.{RunFault}
 use Rattle.rd_io.specs.declared.RunFault.TheVariants as fault
 use Rattle.x86_core.specs.declared.image.Image.{Image}
@@ -14,7 +15,7 @@ use Rattle.x86_core.specs.Observation.{Observation, readable, observe, reply_to}
 use Rattle.x86_core.specs.Step.{State}
 use Rattle.x86_core.specs.Machine.{machine_start, machine_step}
 use Rattle.xom_machine.specs.declared.machine.Machine.{Machine}
-use Rattle.xom_machine.specs.Standing.{ending_of, state_of, Told, told, Stands}
+use Rattle.xom_machine.specs.Standing.{ending_of, state_of, StreamsTold, streams, Stands}
 use Rattle.xom_machine.specs.Calls.{Took, Charged, CutOff, AsksIn}
 use Rattle.watch_script.specs.declared.event.Event.{Event}
 use Rattle.watch_script.specs.declared.report.Reply.{Reply}
@@ -42,7 +43,7 @@ asks : (s : State ℕ) (m : Machine) → state_of m s.left s.printed s.taken ≡
 asks s m is a = subst (λ t. TakesByte t) is a
 
 -- a run that was cut off, whose output doesn't fail
-pub cut : (n : ℕ) (old new : Machine) (a b : Told) (e : RunFault) → (e ≡ fault.Output → ⊥) → CutOff n old new a b e → (xs : List ℕ) → a.left ≡ Some xs → Halted (state_of old xs [] 0) n b.left e
+pub cut : (n : ℕ) (old new : Machine) (a b : StreamsTold) (e : RunFault) → (e ≡ fault.Output → ⊥) → CutOff n old new a b e → (xs : List ℕ) → a.left ≡ Some xs → Halted (state_of old xs [] 0) n b.left e
 unfolding CutOff
 cut n old new a b fault.Input never h xs left =
     let c = h xs left in
@@ -54,23 +55,18 @@ cut n old new a b fault.NoMemory never h xs left =
     record { taken = c.0; within = omega arith; took = c.1.1.1 }
 
 -- the output of a sink that counts doesn't fail
-pub no_output : (T : Type 0) (before now : ℕ) (e : RunFault) → Charged {T = T} before now 0 0 (Err e) → e ≡ fault.Output → ⊥
-no_output T before now fault.Input h is = cc
-no_output T before now fault.Output h is = let rose : min (0 + 1) (2 ^ 64 - 1) ≤ 0 = h.1 in absurd (omega arith)
-no_output T before now fault.NoMemory h is = cc
-
-pub input_charged : (T U : Type 0) (before now : ℕ) (e : RunFault) → Charged {T = T} before now 0 0 (Err e) → InputCharged {T = U} before now (Err e)
-input_charged T U before now fault.Input h = (h.0, h.1)
-input_charged T U before now fault.Output h = no_output T before now fault.Output h refl
-input_charged T U before now fault.NoMemory h = h.0
+pub no_output : (T : Type 0) (source source2 : SourceTold) (sink sink2 : SinkTold) (e : RunFault) → sink2.faults ≡ 0 → Charged {T = T} source source2 sink sink2 (Err e) → e ≡ fault.Output → ⊥
+no_output T source source2 sink sink2 fault.Input none h is = cc
+no_output T source source2 sink sink2 fault.Output none h is = let rose : min (sink.faults + 1) (2 ^ 64 - 1) ≤ sink2.faults = h.1 in absurd (omega arith)
+no_output T source source2 sink sink2 fault.NoMemory none h is = cc
 
 -- memory was wanting after steps
-pub behind : (k n : ℕ) (old new : Machine) (a b : Told) → Took k old new a b → k ≤ n → (xs : List ℕ) → a.left ≡ Some xs → Within (state_of old xs [] 0) n b.left
+pub behind : (k n : ℕ) (old new : Machine) (a b : StreamsTold) → Took k old new a b → k ≤ n → (xs : List ℕ) → a.left ≡ Some xs → Within (state_of old xs [] 0) n b.left
 unfolding Took
 behind k n old new a b t h xs left = record { taken = k; within = h; took = (t xs left).left }
 
 -- what a run did before is before what it did when it was cut off
-pub halted_on : (k n total : ℕ) (m m2 : Machine) (a b : Told) (left2 : Option (List ℕ)) (e : RunFault) → Took k m m2 a b → k + n ≤ total →
+pub halted_on : (k n total : ℕ) (m m2 : Machine) (a b : StreamsTold) (left2 : Option (List ℕ)) (e : RunFault) → Took k m m2 a b → k + n ≤ total →
     ((ys : List ℕ) → b.left ≡ Some ys → Halted (state_of m2 ys [] 0) n left2 e) → (xs : List ℕ) → a.left ≡ Some xs → Halted (state_of m xs [] 0) total left2 e
 unfolding Took
 halted_on k n total m m2 a b left2 e t few h xs left = by e (h (iter machine_step k (state_of m xs [] 0)).left (t xs left).left)
@@ -144,19 +140,19 @@ reply_more seen events replies replies2 i d r h answer put so_far =
     moved ∙ (ap (λ rs. replies ++ rs) (ap (λ r. r ∷ rest) answer ∙ sym (ap (replies_of seen) (drop_more events i d h))) ∙ so_far)
 
 -- what a machine answers is what its state answers
-pub answered : (k : ℕ) (m m2 : Machine) (a b : Told) (e : Event) (xs : List ℕ) → Took k m m2 a b → a.left ≡ Some xs → reply_of (read_at (readable m2.memory) e.at e.len) ≡ reply_of (reply_to (observe (iter machine_step k (state_of m xs [] 0))) e.at e.len)
+pub answered : (k : ℕ) (m m2 : Machine) (a b : StreamsTold) (e : Event) (xs : List ℕ) → Took k m m2 a b → a.left ≡ Some xs → reply_of (read_at (readable m2.memory) e.at e.len) ≡ reply_of (reply_to (observe (iter machine_step k (state_of m xs [] 0))) e.at e.len)
 unfolding Took
 answered k m m2 a b e xs t left = ap (λ (s : State ℕ). reply_of (read_at (readable s.segments) e.at e.len)) (t xs left).machine
 
 module _ (image : Image) (es events : List Event) (same : es ≡ events) (old new : Machine) (starts : (xs : List ℕ) → state_of old xs [] 0 ≡ machine_start image xs) (left left2 : Option (List ℕ)) where
   -- a report on the run from the image's start
-  pub reported : (report : Report) (none count : ℕ) → none ≡ 0 → Took (last_after 0 es) old new (told left None (Some none)) (told left2 None (Some count)) →
+  pub reported : (report : Report) (none count : ℕ) → none ≡ 0 → Took (last_after 0 es) old new (streams left None (Some none)) (streams left2 None (Some count)) →
       report.events ≡ es → ((xs : List ℕ) → left ≡ Some xs → report.replies ≡ replies_of (λ n. observe (iter machine_step n (state_of old xs [] 0))) es) → report.outcome ≡ new.outcome → report.printed ≡ count →
       (xs : List ℕ) → left ≡ Some xs → IsReport (seen_at image xs) events report × (left2 ≡ Some (run_to image xs (last_after 0 events)).left)
   unfolding Took
   reported report none count empty t read answers outcome printed xs e =
       let last : last_after 0 es ≡ last_after 0 events = ap (last_after 0) same in
-      let at : Stands (run_to image xs (last_after 0 es)) new (told left None (Some none)) (told left2 None (Some count)) = subst (λ s. Stands (iter machine_step (last_after 0 es) s) new (told left None (Some none)) (told left2 None (Some count))) (starts xs) (t xs e) in (
+      let at : Stands (run_to image xs (last_after 0 es)) new (streams left None (Some none)) (streams left2 None (Some count)) = subst (λ s. Stands (iter machine_step (last_after 0 es) s) new (streams left None (Some none)) (streams left2 None (Some count))) (starts xs) (t xs e) in (
         record {
           reads = read ∙ same;
           answers = answers xs e ∙ (ap (λ s. replies_of (λ n. observe (iter machine_step n s)) es) (starts xs) ∙ ap (replies_of (seen_at image xs)) same);

@@ -8,7 +8,7 @@ ghost use Rattle.behavior.specs.System.{iter};
 ghost use Rattle.x86_core.specs.Machine.{machine_step};
 ghost use Rattle.x86_core.specs.Memory.{read_at};
 ghost use Rattle.x86_core.specs.Observation.{observe, readable, reply_to};
-ghost use Rattle.xom_machine.specs.Standing.{state_of, told};
+ghost use Rattle.xom_machine.specs.Standing.{state_of, streams};
 ghost use Rattle.xom_machine.specs.Calls.{Took};
 ghost use Rattle.watch_script.specs.Events.{are_in_order, last_after};
 ghost use Rattle.watch_script.specs.Report.{reply_of, replies_of};
@@ -29,7 +29,8 @@ use xom_machine::machine::Machine;
 /// What a read answers as memory stands.
 #[tactic(auto, using(crate::proofs::Watches::read_readable))]
 fn reply(alloc: Global, machine: &Machine, event: Event) -> Result<Reply, NoMemory>
-    ensures { IfOk result (λ r. r ≡ reply_of (read_at (readable machine.now.memory) event.at event.len)) }
+    ensures { let bytes = read_at (readable machine.now.memory) event.at event.len in
+        IfOk result (λ r. r ≡ reply_of bytes) }
 {
     match machine.memory().bytes(event.at, event.len as usize) {
         Some(bytes) => {
@@ -49,10 +50,14 @@ fn reply_after<I: Source>(
     steps: u64,
     event: Event,
 ) -> Result<Reply, RunFault>
-    ensures did { OnOk result (Took steps machine.old machine.new (told (I.left input.old) None (Some sink.old.count)) (told (I.left input.new) None (Some sink.new.count))) }
-    ensures reply { IfOk result (λ r. r ≡ reply_of (read_at (readable machine.new.memory) event.at event.len)) }
-    ensures halted { IfErr result (λ e. (xs : Row ℕ) → I.left input.old ≡ Some xs → Halted (state_of machine.old xs [] 0) steps (I.left input.new) e) }
-    ensures charged { InputCharged (I.faults input.old) (I.faults input.new) result }
+    ensures did { OnOk result (Took steps machine.old machine.new
+        (streams (I.told input.old).left None (Some sink.old.count))
+        (streams (I.told input.new).left None (Some sink.new.count))) }
+    ensures reply { let bytes = read_at (readable machine.new.memory) event.at event.len in
+        IfOk result (λ r. r ≡ reply_of bytes) }
+    ensures halted { IfErr result (λ e. (xs : Row ℕ) → (I.told input.old).left ≡ Some xs →
+        Halted (state_of machine.old xs [] 0) steps (I.told input.new).left e) }
+    ensures charged { InputCharged (I.told input.old).faults (I.told input.new).faults result }
 {
     match machine.run(input, sink, steps) {
         Ok(_) => {}
@@ -74,10 +79,16 @@ fn replies<I: Source>(
 ) -> Result<List<Reply>, RunFault>
     requires { are_in_order 0 events.now ≡ true }
     ensures number { IfOk result (λ rs. length rs ≡ length events.now) }
-    ensures did { OnOk result (Took (last_after 0 events.now) machine.old machine.new (told (I.left input.old) None (Some sink.old.count)) (told (I.left input.new) None (Some sink.new.count))) }
-    ensures replies { IfOk result (λ rs. (xs : Row ℕ) → I.left input.old ≡ Some xs → rs ≡ replies_of (λ n. observe (iter machine_step n (state_of machine.old xs [] 0))) events.now) }
-    ensures halted { IfErr result (λ e. (xs : Row ℕ) → I.left input.old ≡ Some xs → Halted (state_of machine.old xs [] 0) (last_after 0 events.now) (I.left input.new) e) }
-    ensures charged { InputCharged (I.faults input.old) (I.faults input.new) result }
+    ensures did { OnOk result (Took (last_after 0 events.now) machine.old machine.new
+        (streams (I.told input.old).left None (Some sink.old.count))
+        (streams (I.told input.new).left None (Some sink.new.count))) }
+    ensures replies { IfOk result (λ rs. (xs : Row ℕ) → (I.told input.old).left ≡ Some xs →
+        let seen = λ (n : ℕ). observe (iter machine_step n (state_of machine.old xs [] 0)) in
+        rs ≡ replies_of seen events.now) }
+    ensures halted { IfErr result (λ e. (xs : Row ℕ) → (I.told input.old).left ≡ Some xs →
+        Halted (state_of machine.old xs [] 0) (last_after 0 events.now)
+        (I.told input.new).left e) }
+    ensures charged { InputCharged (I.told input.old).faults (I.told input.new).faults result }
 {
     let mut all = List::new(alloc);
     let mut done = 0;
@@ -105,8 +116,8 @@ pub fn watch<I: Source>(
     input: &mut I,
 ) -> Result<Report, RunFault>
     ensures reads { IfOk result (λ report. report.events ≡ script.now.events) }
-    ensures answers { WatchedOf image.now script.now.events (I.left input.old) (I.left input.new) result }
-    ensures charged { InputCharged (I.faults input.old) (I.faults input.new) result }
+    ensures answers { WatchedOf image.now script.now.events (I.told input.old).left (I.told input.new).left result }
+    ensures charged { InputCharged (I.told input.old).faults (I.told input.new).faults result }
 {
     let mut machine = match Machine::start(alloc, image) {
         Ok(machine) => machine,

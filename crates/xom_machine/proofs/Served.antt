@@ -12,29 +12,29 @@ use Rattle.x86_core.specs.Step.{State, answered, bad_address, after_print, after
 use Rattle.x86_core.specs.Step as request
 use Rattle.xom_memory.proofs.Allowed.{write_refused, write_allowed}
 use Rattle.xom_machine.specs.declared.machine.Machine.{Machine}
-use Rattle.xom_machine.specs.Standing.{state_of, Told, told, Stands}
+use Rattle.xom_machine.specs.Standing.{state_of, StreamsTold, streams, Stands}
 use Rattle.xom_machine.specs.Calls.{Did, Ran, Kept, Becomes, GotPart, AsksIn, piece_of}
 
 -- what the machine does alone leaves the outside as it is
-pub silent : (f : State ℕ → State ℕ) (m m2 : Machine) (a : Told) → Becomes f m m2 → Did f m m2 a a
+pub silent : (f : State ℕ → State ℕ) (m m2 : Machine) (a : StreamsTold) → Becomes f m m2 → Did f m m2 a a
 unfolding Did
 silent f m m2 a h xs printed taken first left got counted =
     let P : State ℕ → Type 0 = λ s. Stands s m2 first a in
     subst P (h xs printed taken) (record { machine = refl; left = left; written = got; total = counted })
 
-pub done : (f : State ℕ → State ℕ) (m m2 m3 : Machine) (a b : Told) → m2 ≡ m3 → Did f m m3 a b → Ran {T = Unit {0}} f m m2 a b (Ok tt)
+pub done : (f : State ℕ → State ℕ) (m m2 m3 : Machine) (a b : StreamsTold) → m2 ≡ m3 → Did f m m3 a b → Ran {T = Unit {0}} f m m2 a b (Ok tt)
 unfolding Ran
 done f m m2 m3 a b e d = let P : Machine → Type 0 = λ n. Did f m n a b in subst P (sym e) d
 
-pub done_alone : (f : State ℕ → State ℕ) (m m2 m3 : Machine) (a : Told) → m2 ≡ m3 → Becomes f m m3 → Ran {T = Unit {0}} f m m2 a a (Ok tt)
+pub done_alone : (f : State ℕ → State ℕ) (m m2 m3 : Machine) (a : StreamsTold) → m2 ≡ m3 → Becomes f m m3 → Ran {T = Unit {0}} f m m2 a a (Ok tt)
 done_alone f m m2 m3 a e h = done f m m2 m3 a a e (silent f m m3 a h)
 
-pub cut_off : (f : State ℕ → State ℕ) (m : Machine) (a b : Told) (e : RunFault) → Kept f m a b e → Ran {T = Unit {0}} f m m a b (Err e)
+pub cut_off : (f : State ℕ → State ℕ) (m : Machine) (a b : StreamsTold) (e : RunFault) → Kept f m a b e → Ran {T = Unit {0}} f m m a b (Err e)
 unfolding Ran
 cut_off f m a b e k = (refl, k)
 
 -- the same for another that does the same from each state in which the machine stands
-pub ran_as : {T : Type 0} (f h : State ℕ → State ℕ) (m m2 : Machine) (a b : Told) (r : Result T RunFault) →
+pub ran_as : {T : Type 0} (f h : State ℕ → State ℕ) (m m2 : Machine) (a b : StreamsTold) (r : Result T RunFault) →
     ((left printed : List ℕ) (taken : ℕ) → f (state_of m left printed taken) ≡ h (state_of m left printed taken)) → Ran f m m2 a b r → Ran h m m2 a b r
 unfolding Ran Did
 ran_as f h m m2 a b (Ok x) same d = λ xs printed taken first left got counted. let P : State ℕ → Type 0 = λ s. Stands s m2 first b in subst P (same xs printed taken) (d xs printed taken first left got counted)
@@ -54,11 +54,11 @@ module _ (m : Machine) (after : ℕ) where
       ap (λ o. after_print o count after after (state_of m left printed taken)) (sym e)
 
   pub print_done : (count : ℕ) (bytes : List ℕ) (left : Option (List ℕ)) (w w2 : Option (List ℕ)) (t t2 : Option ℕ) → read_at m.memory (word m.regs Rsi) count ≡ Some bytes →
-      Gets w w2 bytes → Counts t t2 (length bytes) → Did (served (request.Prints count) after after) m (with_answer count) (told left w t) (told left w2 t2)
+      Gets w w2 bytes → Counts t t2 (length bytes) → Did (served (request.Prints count) after after) m (with_answer count) (streams left w t) (streams left w2 t2)
   unfolding Did
   print_done count bytes left w w2 t t2 e g c xs printed taken first is got counted =
       let s : State ℕ = state_of m xs printed taken in
-      let P : Option (List ℕ) → Type 0 = λ o. Stands (after_print o count after after s) (with_answer count) first (told left w2 t2) in
+      let P : Option (List ℕ) → Type 0 = λ o. Stands (after_print o count after after s) (with_answer count) first (streams left w2 t2) in
       subst P (sym e) (record {
         machine = refl;
         left = is;
@@ -72,9 +72,9 @@ module _ (m : Machine) (after : ℕ) where
 
   pub print_cut : (count : ℕ) (bytes : List ℕ) (left : Option (List ℕ)) (w w2 : Option (List ℕ)) (t t2 : Option ℕ) → read_at m.memory (word m.regs Rsi) count ≡ Some bytes →
       0 < length bytes → GetsPart w w2 bytes → CountsPart t t2 (length bytes) →
-      GotPart (told left w t) (told left w2 t2) [] (piece_of (served (request.Prints count) after after) m)
+      GotPart (streams left w t) (streams left w2 t2) [] (piece_of (served (request.Prints count) after after) m)
   print_cut count bytes left w w2 t t2 e some g c =
-      let P : List ℕ → Type 0 = λ p. GotPart (told left w t) (told left w2 t2) [] p in
+      let P : List ℕ → Type 0 = λ p. GotPart (streams left w t) (streams left w2 t2) [] p in
       subst P (piece count bytes e) (record { some = some; written = g; total = (c.0, (c.1.0, let e : c.0 ≡ 0 + c.0 = omega arith in let Q : ℕ → Type 0 = λ n. Counts t t2 n in subst Q e c.1.1)) })
 
   -- where a byte may not be written, no byte of any input may
@@ -101,19 +101,19 @@ module _ (m : Machine) (after : ℕ) where
   take_asks e = let x = some_after 0 e in ap (λ o. (after_take o (0 ∷ []) after after (state_of m (0 ∷ []) [] 0)).taken) x.1
 
   pub take_end : (E : Type 0) (l l2 w : Option (List ℕ)) (t : Option ℕ) (o : Option ℕ) → o ≡ None → is_allowed writes m.memory (word m.regs Rsi) 1 ≡ true → Takes {E = E} l l2 (Ok o) →
-      Did (served request.Takes after after) m (with_answer 0) (told l w t) (told l2 w t)
+      Did (served request.Takes after after) m (with_answer 0) (streams l w t) (streams l2 w t)
   unfolding Did
   take_end E None l2 w t o n e h xs printed taken first is got counted = absurd (cc)
   take_end E (Some []) l2 w t o n e h [] printed taken first is got counted =
       let x = some_after 0 e in
       let s : State ℕ = state_of m [] printed taken in
-      let P : Option (List Segment) → Type 0 = λ o. Stands (after_take o [] after after s) (with_answer 0) first (told l2 w t) in
+      let P : Option (List Segment) → Type 0 = λ o. Stands (after_take o [] after after s) (with_answer 0) first (streams l2 w t) in
       subst P (sym x.1) (record { machine = refl; left = h.1; written = got; total = counted })
   take_end E (Some []) l2 w t o n e h (y ∷ ys) printed taken first is got counted = absurd (cc)
   take_end E (Some (x ∷ xs)) l2 w t o n e h ys printed taken first is got counted = let f = h.0 in absurd (cc)
 
   pub take_done : (E : Type 0) (l l2 w : Option (List ℕ)) (t : Option ℕ) (b : ℕ) (o : Option ℕ) (ss : List Segment) → o ≡ Some b → write_at m.memory (word m.regs Rsi) (b ∷ []) ≡ Some ss → Takes {E = E} l l2 (Ok o) →
-      Did (served request.Takes after after) m (record m { memory = ss; regs = answered m.regs m.flags 1 after; next = after }) (told l w t) (told l2 w t)
+      Did (served request.Takes after after) m (record m { memory = ss; regs = answered m.regs m.flags 1 after; next = after }) (streams l w t) (streams l2 w t)
   unfolding Did
   take_done E None l2 w t b o ss n e h xs printed taken first is got counted = absurd (cc)
   take_done E (Some []) l2 w t b o ss n e h xs printed taken first is got counted = let f = h.0 in absurd (cc)
@@ -122,9 +122,9 @@ module _ (m : Machine) (after : ℕ) where
       let first_byte : b ≡ x = let f = h.0 in cc in
       let s : State ℕ = state_of m (x ∷ xs) printed taken in
       let m2 : Machine = record m { memory = ss; regs = answered m.regs m.flags 1 after; next = after } in
-      let P : Option (List Segment) → Type 0 = λ o. Stands (after_take o (x ∷ xs) after after s) m2 first (told l2 w t) in
+      let P : Option (List Segment) → Type 0 = λ o. Stands (after_take o (x ∷ xs) after after s) m2 first (streams l2 w t) in
       let f : write_at m.memory (word m.regs Rsi) (x ∷ []) ≡ Some ss = subst (λ (n : ℕ). write_at m.memory (word m.regs Rsi) (n ∷ []) ≡ Some ss) first_byte e in
-      let Q : List ℕ → Type 0 = λ zs. Stands (served request.Takes after after (state_of m zs printed taken)) m2 first (told l2 w t) in
+      let Q : List ℕ → Type 0 = λ zs. Stands (served request.Takes after after (state_of m zs printed taken)) m2 first (streams l2 w t) in
       subst Q all (subst P (sym f) (record { machine = refl; left = h.1; written = got; total = counted }))
 
 -- a source that failed has lost nothing
@@ -137,7 +137,7 @@ not_true true h = sym (h refl)
 not_true false h = refl
 
 -- a call that needs the machine alone, by what it is that the registers ask for
-pub by_request : (m m2 m3 : Machine) (after : ℕ) (a : Told) (r r2 : request.Request) → r ≡ r2 → m2 ≡ m3 → Becomes (served r after after) m m3 → Ran {T = Unit {0}} (served r2 after after) m m2 a a (Ok tt)
+pub by_request : (m m2 m3 : Machine) (after : ℕ) (a : StreamsTold) (r r2 : request.Request) → r ≡ r2 → m2 ≡ m3 → Becomes (served r after after) m m3 → Ran {T = Unit {0}} (served r2 after after) m m2 a a (Ok tt)
 by_request m m2 m3 after a r r2 e f h =
     let P : request.Request → Type 0 = λ r. Ran {T = Unit {0}} (served r after after) m m2 a a (Ok tt) in
     subst P e (done_alone (served r after after) m m2 m3 a f h)

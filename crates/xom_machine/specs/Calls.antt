@@ -7,19 +7,20 @@ use Rattle.rd_io.specs.declared.RunFault.{RunFault}
 use Rattle.rd_io.specs.declared.RunFault.TheVariants.{Input, Output, NoMemory}
 use Rattle.x86_core.specs.Step.{State}
 use Rattle.x86_core.specs.Machine.{machine_step}
+use Rattle.rd_io.specs.Told.{SourceTold, SinkTold}
 use Rattle.xom_machine.specs.declared.machine.Machine.{Machine}
-use Rattle.xom_machine.specs.Standing.{state_of, Told, Stands}
+use Rattle.xom_machine.specs.Standing.{state_of, StreamsTold, Stands}
 
 -- n steps were taken, where the input is told
-unfoldable pub Took : ℕ → Machine → Machine → Told → Told → Type 0
+unfoldable pub Took : ℕ → Machine → Machine → StreamsTold → StreamsTold → Type 0
 Took n old new before now = (xs : List ℕ) → before.left ≡ Some xs → Stands (iter machine_step n (state_of old xs [] 0)) new before now
 
 -- counts of faults: a source's is raised where the answer is Input, a sink's where it is Output, and no other
-abbrev pub Charged : {T : Type 0} → ℕ → ℕ → ℕ → ℕ → Result T RunFault → Type 0
-Charged source source2 sink sink2 (Ok x) = (source2 ≡ source) × (sink2 ≡ sink)
-Charged source source2 sink sink2 (Err Input) = Rose source source2 × (source ≤ source2) × (sink2 ≡ sink)
-Charged source source2 sink sink2 (Err Output) = (source2 ≡ source) × Rose sink sink2 × (sink ≤ sink2)
-Charged source source2 sink sink2 (Err NoMemory) = (source2 ≡ source) × (sink2 ≡ sink)
+abbrev pub Charged : {T : Type 0} → SourceTold → SourceTold → SinkTold → SinkTold → Result T RunFault → Type 0
+Charged source source2 sink sink2 (Ok x) = (source2.faults ≡ source.faults) × (sink2.faults ≡ sink.faults)
+Charged source source2 sink sink2 (Err Input) = Rose source.faults source2.faults × (source.faults ≤ source2.faults) × (sink2.faults ≡ sink.faults)
+Charged source source2 sink sink2 (Err Output) = (source2.faults ≡ source.faults) × Rose sink.faults sink2.faults × (sink.faults ≤ sink2.faults)
+Charged source source2 sink sink2 (Err NoMemory) = (source2.faults ≡ source.faults) × (sink2.faults ≡ sink.faults)
 
 -- what is done once prints these bytes
 abbrev pub piece_of : (State ℕ → State ℕ) → Machine → List ℕ
@@ -30,25 +31,25 @@ abbrev pub AsksIn : (State ℕ → State ℕ) → Machine → Type 0
 AsksIn f m = (f (state_of m (0 ∷ []) [] 0)).taken ≡ 1
 
 -- the outside has got these bytes and a prefix of a piece that isn't empty, and lost nothing but what the first did
-pub record GotPart (before now : Told) (bytes piece : List ℕ) : Type 0 where
+pub record GotPart (before now : StreamsTold) (bytes piece : List ℕ) : Type 0 where
   pub some : 0 < length piece
   pub written : (part : List ℕ) × (IsPrefixOf part piece × Gets before.written now.written (bytes ++ part))
   pub total : (count : ℕ) × ((count ≤ length piece) × Counts before.total now.total (length bytes + count))
 
 -- a step that the outside did not let happen, from where the machine stands
-abbrev pub Kept : (State ℕ → State ℕ) → Machine → Told → Told → RunFault → Type 0
+abbrev pub Kept : (State ℕ → State ℕ) → Machine → StreamsTold → StreamsTold → RunFault → Type 0
 Kept f m before now Input = AsksIn f m × (now ≡ before)
 Kept f m before now Output = (now.left ≡ before.left) × GotPart before now [] (piece_of f m)
 Kept f m before now NoMemory = (now.left ≡ before.left) × GotPart before now [] (piece_of f m)
 
 -- something was done once, whatever was printed and taken before
-unfoldable pub Did : (State ℕ → State ℕ) → Machine → Machine → Told → Told → Type 0
-Did f old new before now = (xs printed : List ℕ) (taken : ℕ) (first : Told) → before.left ≡ Some xs →
+unfoldable pub Did : (State ℕ → State ℕ) → Machine → Machine → StreamsTold → StreamsTold → Type 0
+Did f old new before now = (xs printed : List ℕ) (taken : ℕ) (first : StreamsTold) → before.left ≡ Some xs →
     Gets first.written before.written printed → Counts first.total before.total (length printed) →
     Stands (f (state_of old xs printed taken)) new first now
 
 -- it was done, or the outside did not let it happen
-unfoldable pub Ran : {T : Type 0} → (State ℕ → State ℕ) → Machine → Machine → Told → Told → Result T RunFault → Type 0
+unfoldable pub Ran : {T : Type 0} → (State ℕ → State ℕ) → Machine → Machine → StreamsTold → StreamsTold → Result T RunFault → Type 0
 Ran f old new before now (Ok x) = Did f old new before now
 Ran f old new before now (Err e) = (new ≡ old) × Kept f old before now e
 
@@ -57,10 +58,10 @@ abbrev pub Becomes : (State ℕ → State ℕ) → Machine → Machine → Type 
 Becomes f old new = (left printed : List ℕ) (taken : ℕ) → state_of new left printed taken ≡ f (state_of old left printed taken)
 
 -- where a run of fewer than n steps was cut off: before a step that the outside did not let happen
-abbrev pub IsCut : Told → Told → State ℕ → Machine → RunFault → Type 0
+abbrev pub IsCut : StreamsTold → StreamsTold → State ℕ → Machine → RunFault → Type 0
 IsCut before now s m Input = AsksIn machine_step m × Stands s m before now
 IsCut before now s m Output = (state_of m s.left s.printed s.taken ≡ s) × (now.left ≡ Some s.left) × GotPart before now s.printed (piece_of machine_step m)
 IsCut before now s m NoMemory = (state_of m s.left s.printed s.taken ≡ s) × (now.left ≡ Some s.left) × GotPart before now s.printed (piece_of machine_step m)
 
-unfoldable pub CutOff : ℕ → Machine → Machine → Told → Told → RunFault → Type 0
+unfoldable pub CutOff : ℕ → Machine → Machine → StreamsTold → StreamsTold → RunFault → Type 0
 CutOff n old new before now e = (xs : List ℕ) → before.left ≡ Some xs → (k : ℕ) × ((k < n) × IsCut before now (iter machine_step k (state_of old xs [] 0)) new e)

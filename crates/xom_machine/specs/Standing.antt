@@ -3,6 +3,7 @@ use Rattle.std.specs.Prelude.{ℕ, ◌≡◌, List, length, Option, Some}
 use Rattle.behavior.specs.Ending.{Ending}
 use Rattle.behavior.specs.Ending as ending
 use Rattle.rd_io.specs.Outside.{Gets, Counts}
+use Rattle.rd_io.specs.Told.{SourceTold, SinkTold}
 use Rattle.x86_core.specs.declared.image.MachOutcome.{MachOutcome}
 use Rattle.x86_core.specs.declared.image.MachOutcome.TheVariants.{Going, Ended, Divide, Invalid, Breakpoint, PageFault, NoForm, NoFlag, BadCall}
 use Rattle.x86_core.specs.Step.{State}
@@ -32,17 +33,20 @@ state_of m left printed taken = record {
   ending = ending_of m.outcome;
 }
 
--- what the outside tells: the input that is left, the bytes that were written, and their number
-pub record Told : Type 0 where
+-- what a source and a sink tell of bytes: the input that is left, the bytes that were written, and their number
+pub record StreamsTold : Type 0 where
   pub left : Option (List ℕ)
   pub written : Option (List ℕ)
   pub total : Option ℕ
 
-abbrev pub told : Option (List ℕ) → Option (List ℕ) → Option ℕ → Told
-told left written total = record { left = left; written = written; total = total }
+abbrev pub streams : Option (List ℕ) → Option (List ℕ) → Option ℕ → StreamsTold
+streams left written total = record { left = left; written = written; total = total }
+
+abbrev pub streams_told : SourceTold → SinkTold → StreamsTold
+streams_told source sink = streams source.left sink.written sink.total
 
 -- the machine stands as a state says, and since a time before the outside has lost and got what the state says
-pub record Stands (s : State ℕ) (m : Machine) (before now : Told) : Type 0 where
+pub record Stands (s : State ℕ) (m : Machine) (before now : StreamsTold) : Type 0 where
   pub machine : state_of m s.left s.printed s.taken ≡ s
   pub left : now.left ≡ Some s.left
   pub written : Gets before.written now.written s.printed

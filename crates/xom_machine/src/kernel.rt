@@ -3,12 +3,13 @@
 //! `rax` says which; a call that isn't known stops the machine. The answer goes to `rax`, the place
 //! after the call to `rcx` and the flags to `r11`, where a flag that isn't known counts 0.
 
-ghost use Rattle.std.specs.Prelude.{◌≡◌, ℕ, ◌+◌, ◌*◌, ◌<◌, List, [], ◌∷◌, Option, Some, IsTrue};
+ghost use Rattle.std.specs.Prelude.{◌≡◌, ◌+◌, ◌*◌, ◌<◌, [], ◌∷◌, Some, IsTrue};
+ghost use Rattle.rd_io.specs.Told.{SourceTold, SinkTold};
 ghost use Rattle.x86_core.specs.declared.reg.Reg.TheVariants.{Rsi};
 ghost use Rattle.x86_core.specs.Registers.{word};
 ghost use Rattle.x86_core.specs.Memory.{writes, is_allowed, write_at};
 ghost use Rattle.x86_core.specs.Step.{Prints, Takes, request_of, answered, flag_number, served};
-ghost use Rattle.xom_machine.specs.Standing.{told};
+ghost use Rattle.xom_machine.specs.Standing.{streams_told};
 ghost use Rattle.xom_machine.specs.Changes.{asked_for, PrintsSome};
 ghost use Rattle.xom_machine.specs.Calls.{Ran, Charged};
 
@@ -65,7 +66,8 @@ fn bit(flag: Flag) -> u64
 
 // The flags as `r11` has them.
 fn packed(flags: &Flags) -> u64
-    ensures { result ≡ 514 + flag_number flags.now.c + 64 * flag_number flags.now.z + 128 * flag_number flags.now.s + 2048 * flag_number flags.now.o }
+    ensures { result ≡ 514 + flag_number flags.now.c + 64 * flag_number flags.now.z +
+        128 * flag_number flags.now.s + 2048 * flag_number flags.now.o }
 {
     514 + bit(flags.c) + 64 * bit(flags.z) + 128 * bit(flags.s) + 2048 * bit(flags.o)
 }
@@ -88,8 +90,10 @@ impl Machine {
         input: &mut I,
         sink: &mut O,
     ) -> Result<(), RunFault>
-        ensures ran { Ran (served (request_of self.old.regs) after after) self.old self.new (told (I.left input.old) (O.written sink.old) (O.total sink.old)) (told (I.left input.new) (O.written sink.new) (O.total sink.new)) result }
-        ensures charged { Charged (I.faults input.old) (I.faults input.new) (O.faults sink.old) (O.faults sink.new) result }
+        ensures ran { Ran (served (request_of self.old.regs) after after) self.old self.new
+            (streams_told (I.told input.old) (O.told sink.old))
+            (streams_told (I.told input.new) (O.told sink.new)) result }
+        ensures charged { Charged (I.told input.old) (I.told input.new) (O.told sink.old) (O.told sink.new) result }
     {
         match asked(&self.regs) {
             Request::Exits => {
@@ -112,8 +116,10 @@ impl Machine {
     // Prints the bytes that `rsi` points to, in one piece.
     fn print<O: Sink>(&mut self, count: usize, after: u64, sink: &mut O) -> Result<(), RunFault>
         requires { 0 < count }
-        ensures ran { (left : Option (List ℕ)) → Ran (served (Prints count) after after) self.old self.new (told left (O.written sink.old) (O.total sink.old)) (told left (O.written sink.new) (O.total sink.new)) result }
-        ensures charged { (n : ℕ) → Charged n n (O.faults sink.old) (O.faults sink.new) result }
+        ensures ran { (source : SourceTold) → Ran (served (Prints count) after after) self.old self.new
+            (streams_told source (O.told sink.old))
+            (streams_told source (O.told sink.new)) result }
+        ensures charged { (source : SourceTold) → Charged source source (O.told sink.old) (O.told sink.new) result }
     {
         match self.memory.bytes(self.regs.get(Reg::Rsi), count) {
             Some(bytes) => match sink.put(bytes) {
@@ -133,8 +139,9 @@ impl Machine {
 
     // Takes a byte to where `rsi` points. The right to write there is tested first.
     fn take<I: Source>(&mut self, after: u64, input: &mut I) -> Result<(), RunFault>
-        ensures ran { (written : Option (List ℕ)) (total : Option ℕ) → Ran (served Takes after after) self.old self.new (told (I.left input.old) written total) (told (I.left input.new) written total) result }
-        ensures charged { (n : ℕ) → Charged (I.faults input.old) (I.faults input.new) n n result }
+        ensures ran { (sink : SinkTold) → Ran (served Takes after after) self.old self.new
+            (streams_told (I.told input.old) sink) (streams_told (I.told input.new) sink) result }
+        ensures charged { (sink : SinkTold) → Charged (I.told input.old) (I.told input.new) sink sink result }
     {
         let at = self.regs.get(Reg::Rsi);
         match self.memory.prepare(at, 1) {
@@ -151,8 +158,9 @@ impl Machine {
     fn take_to<I: Source>(&mut self, at: u64, after: u64, input: &mut I) -> Result<(), RunFault>
         requires place { at ≡ word self.old.regs Rsi }
         requires allowed { IsTrue (is_allowed writes self.old.memory at 1) }
-        ensures ran { (written : Option (List ℕ)) (total : Option ℕ) → Ran (served Takes after after) self.old self.new (told (I.left input.old) written total) (told (I.left input.new) written total) result }
-        ensures charged { (n : ℕ) → Charged (I.faults input.old) (I.faults input.new) n n result }
+        ensures ran { (sink : SinkTold) → Ran (served Takes after after) self.old self.new
+            (streams_told (I.told input.old) sink) (streams_told (I.told input.new) sink) result }
+        ensures charged { (sink : SinkTold) → Charged (I.told input.old) (I.told input.new) sink sink result }
     {
         match input.take() {
             Ok(Some(byte)) => {
@@ -170,7 +178,8 @@ impl Machine {
 
     // On behind a system call with this answer.
     pub(crate) fn answer(&mut self, n: u64, after: u64)
-        ensures { self.new ≡ record self.old { regs = answered self.old.regs self.old.flags n after; next = after } }
+        ensures { let regs = answered self.old.regs self.old.flags n after in
+            self.new ≡ record self.old { regs = regs; next = after } }
     {
         self.regs.set(Reg::Rax, n);
         self.regs.set(Reg::Rcx, after);

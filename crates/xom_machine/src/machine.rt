@@ -2,7 +2,7 @@
 
 ghost use Rattle.std.specs.Prelude.{◌≡◌, ℕ, List, [], IfOk, OnOk, OnErr, IfErr};
 ghost use Rattle.x86_core.specs.Machine.{machine_start, machine_step};
-ghost use Rattle.xom_machine.specs.Standing.{state_of, told};
+ghost use Rattle.xom_machine.specs.Standing.{state_of, streams_told};
 ghost use Rattle.xom_machine.specs.Calls.{Took, Charged, Kept, CutOff, Ran};
 
 use crate::step::has_stopped;
@@ -83,10 +83,14 @@ impl Machine {
     /// where the sink has failed, which then has a prefix of what the step prints. After each error
     /// the machine stands before that system call.
     pub fn step<I: Source, O: Sink>(&mut self, input: &mut I, sink: &mut O) -> Result<(), RunFault>
-        ensures did { OnOk result (Took 1 self.old self.new (told (I.left input.old) (O.written sink.old) (O.total sink.old)) (told (I.left input.new) (O.written sink.new) (O.total sink.new))) }
+        ensures did { OnOk result (Took 1 self.old self.new
+            (streams_told (I.told input.old) (O.told sink.old))
+            (streams_told (I.told input.new) (O.told sink.new))) }
         ensures stands { OnErr result (self.new ≡ self.old) }
-        ensures kept { IfErr result (Kept machine_step self.old (told (I.left input.old) (O.written sink.old) (O.total sink.old)) (told (I.left input.new) (O.written sink.new) (O.total sink.new))) }
-        ensures charged { Charged (I.faults input.old) (I.faults input.new) (O.faults sink.old) (O.faults sink.new) result }
+        ensures kept { IfErr result (Kept machine_step self.old
+            (streams_told (I.told input.old) (O.told sink.old))
+            (streams_told (I.told input.new) (O.told sink.new))) }
+        ensures charged { Charged (I.told input.old) (I.told input.new) (O.told sink.old) (O.told sink.new) result }
     {
         self.advance(input, sink)
     }
@@ -101,10 +105,14 @@ impl Machine {
         sink: &mut O,
         n: u64,
     ) -> Result<MachOutcome, RunFault>
-        ensures did { OnOk result (Took n self.old self.new (told (I.left input.old) (O.written sink.old) (O.total sink.old)) (told (I.left input.new) (O.written sink.new) (O.total sink.new))) }
+        ensures did { OnOk result (Took n self.old self.new
+            (streams_told (I.told input.old) (O.told sink.old))
+            (streams_told (I.told input.new) (O.told sink.new))) }
         ensures outcome { IfOk result (λ o. o ≡ self.new.outcome) }
-        ensures cut { IfErr result (CutOff n self.old self.new (told (I.left input.old) (O.written sink.old) (O.total sink.old)) (told (I.left input.new) (O.written sink.new) (O.total sink.new))) }
-        ensures charged { Charged (I.faults input.old) (I.faults input.new) (O.faults sink.old) (O.faults sink.new) result }
+        ensures cut { IfErr result (CutOff n self.old self.new
+            (streams_told (I.told input.old) (O.told sink.old))
+            (streams_told (I.told input.new) (O.told sink.new))) }
+        ensures charged { Charged (I.told input.old) (I.told input.new) (O.told sink.old) (O.told sink.new) result }
     {
         for _ in 0..n {
             if has_stopped(self.outcome) {

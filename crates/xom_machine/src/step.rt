@@ -13,7 +13,7 @@ ghost use Rattle.x86_core.specs.Step.{size_bytes, after_read, after_write, by_ac
 ghost use Rattle.x86_core.specs.Machine.{machine_fetch, machine_step, by_decoded};
 ghost use Rattle.xom_memory.specs.Access.{Wrote};
 ghost use Rattle.behavior.specs.Ending.{is_going};
-ghost use Rattle.xom_machine.specs.Standing.{ending_of, told};
+ghost use Rattle.xom_machine.specs.Standing.{ending_of, streams_told};
 ghost use Rattle.xom_machine.specs.Changes.{moved_on};
 ghost use Rattle.xom_machine.specs.Calls.{Becomes, Ran, Charged};
 
@@ -99,7 +99,8 @@ impl Machine {
 
     // A change with its read of memory.
     fn read(&mut self, change: Change, at: u64, size: Size, into: Reg, after: u64)
-        ensures { Becomes (after_read (read_at self.old.memory at (size_bytes size)) change into after) self.old self.new }
+        ensures { let bytes = read_at self.old.memory at (size_bytes size) in
+            Becomes (after_read bytes change into after) self.old self.new }
     {
         match self.memory.bytes(at, bytes_in(size)) {
             Some(bytes) => {
@@ -114,7 +115,8 @@ impl Machine {
 
     // A change with its write to memory.
     fn write(&mut self, change: Change, at: u64, size: Size, word: u64, after: u64)
-        ensures { Becomes (after_write (write_at self.old.memory at (le_bytes (size_bytes size) word)) change after) self.old self.new }
+        ensures { let written = write_at self.old.memory at (le_bytes (size_bytes size) word) in
+            Becomes (after_write written change after) self.old self.new }
     {
         if stored(&mut self.memory, at, size, word) {
             self.settle(change.regs, change.flags, after);
@@ -136,7 +138,8 @@ impl Machine {
 
     // To a place, with a number pushed.
     fn call(&mut self, to: u64, back: u64)
-        ensures { Becomes (called to (write_at self.old.memory (below self.old.regs) (le_bytes 8 back))) self.old self.new }
+        ensures { let pushed = write_at self.old.memory (below self.old.regs) (le_bytes 8 back) in
+            Becomes (called to pushed) self.old self.new }
     {
         let top = moved_by(self.regs.get(Reg::Rsp), -8);
         if stored(&mut self.memory, top, Size::W64, back) {
@@ -149,7 +152,8 @@ impl Machine {
 
     // To the place of the word on the stack, which is popped.
     fn go_back(&mut self)
-        ensures { Becomes (returned Some (read_at self.old.memory (word self.old.regs Rsp) 8)) self.old self.new }
+        ensures { let top = read_at self.old.memory (word self.old.regs Rsp) 8 in
+            Becomes (returned Some top) self.old self.new }
     {
         let top = self.regs.get(Reg::Rsp);
         match self.memory.bytes(top, 8) {
@@ -191,8 +195,10 @@ impl Machine {
         input: &mut I,
         sink: &mut O,
     ) -> Result<(), RunFault>
-        ensures ran { Ran (act Some (sorted instr.now after (moved after) after)) self.old self.new (told (I.left input.old) (O.written sink.old) (O.total sink.old)) (told (I.left input.new) (O.written sink.new) (O.total sink.new)) result }
-        ensures charged { Charged (I.faults input.old) (I.faults input.new) (O.faults sink.old) (O.faults sink.new) result }
+        ensures ran { Ran (act Some (sorted instr.now after (moved after) after)) self.old self.new
+            (streams_told (I.told input.old) (O.told sink.old))
+            (streams_told (I.told input.new) (O.told sink.new)) result }
+        ensures charged { Charged (I.told input.old) (I.told input.new) (O.told sink.old) (O.told sink.new) result }
     {
         let change = effect(instr, &self.regs, &self.flags);
         match change.next {
@@ -212,8 +218,10 @@ impl Machine {
         input: &mut I,
         sink: &mut O,
     ) -> Result<(), RunFault>
-        ensures ran { Ran machine_step self.old self.new (told (I.left input.old) (O.written sink.old) (O.total sink.old)) (told (I.left input.new) (O.written sink.new) (O.total sink.new)) result }
-        ensures charged { Charged (I.faults input.old) (I.faults input.new) (O.faults sink.old) (O.faults sink.new) result }
+        ensures ran { Ran machine_step self.old self.new
+            (streams_told (I.told input.old) (O.told sink.old))
+            (streams_told (I.told input.new) (O.told sink.new)) result }
+        ensures charged { Charged (I.told input.old) (I.told input.new) (O.told sink.old) (O.told sink.new) result }
     {
         if has_stopped(self.outcome) {
             return Ok(());

@@ -5,7 +5,7 @@ use Rattle.std.proofs.lemmas.Grind.{common_steps}
 use Rattle.behavior.specs.System.{iter}
 use Rattle.x86_core.specs.Machine.{machine_step}
 use Rattle.x86_core.specs.Observation.{observe}
-use Rattle.xom_machine.specs.Standing.{state_of, told, Told}
+use Rattle.xom_machine.specs.Standing.{state_of, streams, StreamsTold}
 use Rattle.xom_machine.specs.Calls.{Took}
 use Rattle.xom_machine.proofs.Steps.{took_none}
 use Rattle.watch_script.specs.declared.event.Event.{Event}
@@ -29,10 +29,10 @@ returns-in-Err-add-clause-halted g c =
     let late : c.loop-event.done ≤ e.after = p.late in
     let early : e.after ≤ last_after c.loop-event.done (drop c.loop-event.event-index c.args.events.now) = p.early in
     let last : last_after c.loop-event.done (drop c.loop-event.event-index c.args.events.now) ≡ last_after 0 c.args.events.now = c.loop-event.invariant.last in
-    let before : Told = told (g.I.Source.left c.args.input.now) None (Some c.args.sink.now.count) in
-    let now : Told = told (g.I.Source.left c.reply_after.new.input) None (Some c.reply_after.new.sink.count) in
+    let before : StreamsTold = streams (g.I.Source.told c.args.input.now).left None (Some c.args.sink.now.count) in
+    let now : StreamsTold = streams (g.I.Source.told c.reply_after.new.input).left None (Some c.reply_after.new.sink.count) in
     behind (c.loop-event.done + (e.after - c.loop-event.done)) (last_after 0 c.args.events.now) c.args.machine.now c.reply_after.new.machine before now
-    (took_on c.loop-event.done (e.after - c.loop-event.done) c.args.machine.now c.loop-event.machine c.reply_after.new.machine before (told (g.I.Source.left c.loop-event.input) None (Some c.loop-event.sink.count)) now c.loop-event.invariant.took c.in-Ok.ensures.did)
+    (took_on c.loop-event.done (e.after - c.loop-event.done) c.args.machine.now c.loop-event.machine c.reply_after.new.machine before (streams (g.I.Source.told c.loop-event.input).left None (Some c.loop-event.sink.count)) now c.loop-event.invariant.took c.in-Ok.ensures.did)
     (omega arith)
 
 pub returns-in-Err-clause-halted : goal.returns-in-Err-clause-halted
@@ -43,9 +43,9 @@ returns-in-Err-clause-halted g c =
     let early : e.after ≤ last_after c.loop-event.done (drop c.loop-event.event-index c.args.events.now) = p.early in
     let last : last_after c.loop-event.done (drop c.loop-event.event-index c.args.events.now) ≡ last_after 0 c.args.events.now = c.loop-event.invariant.last in
     halted_on c.loop-event.done (e.after - c.loop-event.done) (last_after 0 c.args.events.now) c.args.machine.now c.loop-event.machine
-    (told (g.I.Source.left c.args.input.now) None (Some c.args.sink.now.count))
-    (told (g.I.Source.left c.loop-event.input) None (Some c.loop-event.sink.count))
-    (g.I.Source.left c.reply_after.new.input) c.in-Err.fault c.loop-event.invariant.took (omega arith) c.in-Err.ensures.halted
+    (streams (g.I.Source.told c.args.input.now).left None (Some c.args.sink.now.count))
+    (streams (g.I.Source.told c.loop-event.input).left None (Some c.loop-event.sink.count))
+    (g.I.Source.told c.reply_after.new.input).left c.in-Err.fault c.loop-event.invariant.took (omega arith) c.in-Err.ensures.halted
 
 pub loop-event-preserved : goal.loop-event-preserved
 loop-event-preserved g c =
@@ -53,10 +53,10 @@ loop-event-preserved g c =
     let p : Place c.loop-event.done (drop c.loop-event.event-index c.args.events.now) (drop (c.loop-event.event-index + 1) c.args.events.now) e = place_of c.loop-event.done c.args.events.now c.loop-event.event-index none c.loop-event-test.true c.loop-event.invariant.order in
     let late : c.loop-event.done ≤ e.after = p.late in
     let sum : c.loop-event.done + (e.after - c.loop-event.done) ≡ e.after = omega arith in
-    let before : Told = told (g.I.Source.left c.args.input.now) None (Some c.args.sink.now.count) in
-    let now : Told = told (g.I.Source.left c.reply_after.new.input) None (Some c.reply_after.new.sink.count) in
+    let before : StreamsTold = streams (g.I.Source.told c.args.input.now).left None (Some c.args.sink.now.count) in
+    let now : StreamsTold = streams (g.I.Source.told c.reply_after.new.input).left None (Some c.reply_after.new.sink.count) in
     let took : Took e.after c.args.machine.now c.reply_after.new.machine before now = subst (λ n. Took n c.args.machine.now c.reply_after.new.machine before now) sum
-    (took_on c.loop-event.done (e.after - c.loop-event.done) c.args.machine.now c.loop-event.machine c.reply_after.new.machine before (told (g.I.Source.left c.loop-event.input) None (Some c.loop-event.sink.count)) now c.loop-event.invariant.took c.in-Ok.ensures.did) in
+    (took_on c.loop-event.done (e.after - c.loop-event.done) c.args.machine.now c.loop-event.machine c.reply_after.new.machine before (streams (g.I.Source.told c.loop-event.input).left None (Some c.loop-event.sink.count)) now c.loop-event.invariant.took c.in-Ok.ensures.did) in
     record {
       took = took;
       number = grind (arith, common_steps);

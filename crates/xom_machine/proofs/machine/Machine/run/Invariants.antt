@@ -1,5 +1,5 @@
 use Rattle.std.proofs.Common.{◌≡◌}
-use Rattle.xom_machine.specs.Standing.{told}
+use Rattle.xom_machine.specs.Standing.{streams_told}
 use Rattle.xom_machine.specs.Calls.{Took}
 use Rattle.xom_machine.proofs.machine.Machine.run.Given as goal
 
@@ -7,8 +7,8 @@ use Rattle.xom_machine.proofs.machine.Machine.run.Given as goal
 abbrev pub invariant-loop : goal.invariant-loop
 invariant-loop g l = record {
   took : Took l.counter l.fn.self l.self
-      (told (g.I.Source.left l.fn.input) (g.O.Sink.written l.fn.sink) (g.O.Sink.total l.fn.sink))
-      (told (g.I.Source.left l.input) (g.O.Sink.written l.sink) (g.O.Sink.total l.sink));
-  source : g.I.Source.faults l.input ≡ g.I.Source.faults l.fn.input;
-  sink : g.O.Sink.faults l.sink ≡ g.O.Sink.faults l.fn.sink;
+      (streams_told (g.I.Source.told l.fn.input) (g.O.Sink.told l.fn.sink))
+      (streams_told (g.I.Source.told l.input) (g.O.Sink.told l.sink));
+  source : (g.I.Source.told l.input).faults ≡ (g.I.Source.told l.fn.input).faults;
+  sink : (g.O.Sink.told l.sink).faults ≡ (g.O.Sink.told l.fn.sink).faults;
 }

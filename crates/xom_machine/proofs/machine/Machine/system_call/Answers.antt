@@ -10,10 +10,10 @@ pub returns-in-Idles-clause-ran : goal.returns-in-Idles-clause-ran
 returns-in-Idles-clause-ran g c = by_request _ _ _ _ _ _ _ c.in-Idles.ensures.value c.answer.ensures (λ left printed taken. refl)
 
 pub returns-in-Prints-clause-charged : goal.returns-in-Prints-clause-charged
-returns-in-Prints-clause-charged g c = c.print.ensures.charged _
+returns-in-Prints-clause-charged g c = c.print.ensures.charged (g.I.Source.told c.args.input.now)
 
 pub returns-in-Takes-clause-charged : goal.returns-in-Takes-clause-charged
-returns-in-Takes-clause-charged g c = c.take.ensures.charged _
+returns-in-Takes-clause-charged g c = c.take.ensures.charged (g.O.Sink.told c.args.sink.now)
 
 pub returns-in-Unknown-clause-ran : goal.returns-in-Unknown-clause-ran
 returns-in-Unknown-clause-ran g c = by_request _ _ _ _ _ _ _ c.in-Unknown.ensures.value refl (λ left printed taken. refl)
