@@ -15,8 +15,8 @@ use Rattle.obj_check.specs.declared.notes.Notes.{Notes}
 use Rattle.obj_check.specs.declared.fault.Broken.{Broken}
 use Rattle.obj_check.specs.declared.fault.ShapeSpot.{ShapeSpot}
 use Rattle.obj_check.specs.Disassembled.{AreNoted, disassemblies_of}
-use Rattle.obj_check.specs.Least.{told_of}
-use Rattle.obj_check.specs.Told.{later_violation, Judges}
+use Rattle.obj_check.specs.Least.{as_violation}
+use Rattle.obj_check.specs.Judging.{later_violation, Judges}
 use Rattle.obj_check.specs.Ranges.{AreFuncNumbers, AreNumbers}
 use Rattle.obj_check.proofs.Eaches.{each_got, got_each}
 use Rattle.obj_check.proofs.Disassembled.{are_disassemblies}
@@ -66,7 +66,7 @@ module _ (o : Object) (numbers : AreNumbers o) (few : AreFew o) where
         }
 
 -- what the rules say is what is told
-pub judged : (o : Object) (cs : List Notes) (r : Option Broken) → AreNumbers o → AreFew o → AreNoted o.functions cs → told_of r ≡ violation o (disassemblies_of o.functions) → Judges o r
+pub judged : (o : Object) (cs : List Notes) (r : Option Broken) → AreNumbers o → AreFew o → AreNoted o.functions cs → as_violation r ≡ violation o (disassemblies_of o.functions) → Judges o r
 judged o cs None numbers few noted e =
     let all = are_disassemblies o.functions cs noted in
     record { object = object_is o numbers few (disassemblies_of o.functions) all (sym e); few = few; disassemblies = disassemblies_of o.functions; disassembled = all; kept = sym e }

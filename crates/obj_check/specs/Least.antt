@@ -22,6 +22,6 @@ spot_of (ShapeSpot.Slot k) = OfSlot k
 abbrev pub violation_of : Broken → Violation
 violation_of b = record { rule = b.rule; spot = spot_of b.spot; offset = b.offset }
 
-abbrev pub told_of : Option Broken → Option Violation
-told_of None = None
-told_of (Some b) = Some (violation_of b)
+abbrev pub as_violation : Option Broken → Option Violation
+as_violation None = None
+as_violation (Some b) = Some (violation_of b)

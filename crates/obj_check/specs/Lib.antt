@@ -5,5 +5,5 @@ pub mod Noted
 pub mod Disassembled
 pub mod Failing
 pub mod Orders
-pub mod Told
+pub mod Judging
 pub mod Ranges

@@ -4,7 +4,7 @@ ghost use Rattle.std.specs.Prelude.{◌≡◌, ◌≤◌, None, IfOk, length};
 ghost use Rattle.obj_core.specs.WellFormed.{AreFew, in_functions};
 ghost use Rattle.obj_check.specs.Instrs.{disassembly_of};
 ghost use Rattle.obj_check.specs.Disassembled.{IsNoted, AreNoted, disassemblies_of};
-ghost use Rattle.obj_check.specs.Least.{least_with, told_of};
+ghost use Rattle.obj_check.specs.Least.{least_with, as_violation};
 ghost use Rattle.obj_check.specs.Failing.{rule_number, failing};
 
 use crate::branches::first_bad_branch;
@@ -49,7 +49,7 @@ pub fn first_in_functions(
 ) -> Result<Option<Broken>, NoMemory>
     requires noted { AreNoted o.now.functions noted.now }
     requires few { AreFew o.now }
-    ensures { IfOk result (λ r. told_of r ≡ in_functions (rule_number rule) (failing rule o.now) 0 o.now.functions (disassemblies_of o.now.functions)) }
+    ensures { IfOk result (λ r. as_violation r ≡ in_functions (rule_number rule) (failing rule o.now) 0 o.now.functions (disassemblies_of o.now.functions)) }
 {
     let functions = o.functions.as_slice();
     for (n, function) in functions.iter().enumerate() {

@@ -14,8 +14,8 @@
 ghost use Rattle.std.specs.Prelude.{◌≡◌, IfOk, IfErr};
 ghost use Rattle.obj_core.specs.WellFormed.{AreFew, IsWellFormed, violation};
 ghost use Rattle.obj_check.specs.Disassembled.{AreNoted, disassemblies_of};
-ghost use Rattle.obj_check.specs.Least.{told_of};
-ghost use Rattle.obj_check.specs.Told.{later_violation, Judges, Explains};
+ghost use Rattle.obj_check.specs.Least.{as_violation};
+ghost use Rattle.obj_check.specs.Judging.{later_violation, Judges, NamesViolation};
 
 mod asked;
 mod branches;
@@ -51,7 +51,7 @@ pub fn check(alloc: Global, o: Object) -> Result<Checked, Refused>
     ensures taken { IfOk result (λ c. c.object ≡ o) }
     ensures well_formed { IfOk result (λ c. IsWellFormed o) }
     ensures back { IfErr result (λ r. r.object ≡ o) }
-    ensures first { IfErr result (λ r. Explains o r.fault) }
+    ensures first { IfErr result (λ r. NamesViolation o r.fault) }
 {
     match first_broken(alloc, &o) {
         Ok(None) => Ok(Checked::new(o)),
@@ -99,7 +99,7 @@ fn first_broken(alloc: Global, o: &Object) -> Result<Option<Broken>, NoMemory>
 fn first_in_noted(alloc: Global, o: &Object, noted: &[Notes]) -> Result<Option<Broken>, NoMemory>
     requires noted { AreNoted o.now.functions noted.now }
     requires few { AreFew o.now }
-    ensures { IfOk result (λ r. told_of r ≡ violation o.now (disassemblies_of o.now.functions)) }
+    ensures { IfOk result (λ r. as_violation r ≡ violation o.now (disassemblies_of o.now.functions)) }
 {
     if let Some(broken) = first_in_functions(alloc, CodeRule::Transfers, o, noted)? {
         return Ok(Some(broken));
@@ -117,7 +117,7 @@ fn first_in_noted(alloc: Global, o: &Object, noted: &[Notes]) -> Result<Option<B
 fn first_in_rest(alloc: Global, o: &Object, noted: &[Notes]) -> Result<Option<Broken>, NoMemory>
     requires noted { AreNoted o.now.functions noted.now }
     requires few { AreFew o.now }
-    ensures { IfOk result (λ r. told_of r ≡ later_violation o.now (disassemblies_of o.now.functions)) }
+    ensures { IfOk result (λ r. as_violation r ≡ later_violation o.now (disassemblies_of o.now.functions)) }
 {
     match first_bad_slot(o.functions.as_slice(), noted, o.slots.as_slice()) {
         Some(broken) => Ok(Some(broken)),

@@ -4,8 +4,8 @@ ghost use Rattle.std.specs.Prelude.{◌≡◌, ◌≤◌, ℕ, length, nat_lt};
 ghost use Rattle.obj_core.specs.declared.object.Slot.{Slot as Trampoline};
 ghost use Rattle.obj_core.specs.WellFormed.{is_start, is_good_slot, is_entry, agrees_with, in_slots};
 ghost use Rattle.obj_check.specs.Disassembled.{AreNoted, disassemblies_of};
-ghost use Rattle.obj_check.specs.Least.{told_of};
-ghost use Rattle.obj_check.specs.Told.{slot_violation};
+ghost use Rattle.obj_check.specs.Least.{as_violation};
+ghost use Rattle.obj_check.specs.Judging.{slot_violation};
 
 use crate::fault::{Broken, ShapeSpot};
 use crate::marks::is_marked;
@@ -16,7 +16,7 @@ use obj_core::object::{CodeAt, Func, Slot};
 pub fn first_bad_slot(functions: &[Func], noted: &[Notes], slots: &[Slot]) -> Option<Broken>
     requires noted { AreNoted functions.now noted.now }
     requires few { length slots.now ≤ 1048576 }
-    ensures { told_of result ≡ slot_violation slots.now (disassemblies_of functions.now) }
+    ensures { as_violation result ≡ slot_violation slots.now (disassemblies_of functions.now) }
 {
     match first_bad_goal(functions, noted, slots) {
         Some(broken) => Some(broken),
@@ -28,7 +28,7 @@ pub fn first_bad_slot(functions: &[Func], noted: &[Notes], slots: &[Slot]) -> Op
 fn first_bad_goal(functions: &[Func], noted: &[Notes], slots: &[Slot]) -> Option<Broken>
     requires noted { AreNoted functions.now noted.now }
     requires few { length slots.now ≤ 1048576 }
-    ensures { told_of result ≡ in_slots 6 (λ (k : ℕ) (s : Trampoline). is_good_slot (disassemblies_of functions.now) s) 0 slots.now }
+    ensures { as_violation result ≡ in_slots 6 (λ (k : ℕ) (s : Trampoline). is_good_slot (disassemblies_of functions.now) s) 0 slots.now }
 {
     for (k, slot) in slots.iter().enumerate() {
         if !is_good_slot(functions, noted, *slot) {
@@ -41,7 +41,7 @@ fn first_bad_goal(functions: &[Func], noted: &[Notes], slots: &[Slot]) -> Option
 /// The first slot that is an entry and not the first one, or the first one where it is none.
 fn first_bad_entry(slots: &[Slot]) -> Option<Broken>
     requires { length slots.now ≤ 1048576 }
-    ensures { told_of result ≡ in_slots 7 agrees_with 0 slots.now }
+    ensures { as_violation result ≡ in_slots 7 agrees_with 0 slots.now }
 {
     for (k, slot) in slots.iter().enumerate() {
         if is_entry(*slot) != (k == 0) {

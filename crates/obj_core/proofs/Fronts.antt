@@ -4,7 +4,7 @@ use Rattle.std.specs.Prelude.{slice_get, nat_lt}
 use Rattle.std.proofs.lemmas.Bool.Decides.{nat_tests}
 use Rattle.std.proofs.lemmas.List.Sums.{sum_by-cons}
 use Rattle.obj_core.specs.declared.object.Func.{Func}
-use Rattle.obj_core.specs.Runs.{room, address_at, runs_from}
+use Rattle.obj_core.specs.Runs.{end_of_runs, address_at, runs_from}
 use Rattle.obj_core.proofs.Sizes.{code_len}
 
 -- how many bytes the functions before one have
@@ -45,7 +45,7 @@ front_small (g ∷ fs) (suc n) f e =
 
 module _ (start : ℕ → ℕ) where
   -- nor behind the room of the runs
-  pub front_room : (m front : ℕ) (fs : List Func) (n : ℕ) (f : Func) → slice_get fs n ≡ Some f → front + front_of fs n + length f.bytes ≤ room (runs_from start m front fs)
+  pub front_room : (m front : ℕ) (fs : List Func) (n : ℕ) (f : Func) → slice_get fs n ≡ Some f → front + front_of fs n + length f.bytes ≤ end_of_runs (runs_from start m front fs)
   front_room m front [] n f e = absurd (cc)
   front_room m front (g ∷ fs) zero f e =
       let same : length g.bytes ≡ length f.bytes = ap (λ (x : Func). length x.bytes) (first g f e) in

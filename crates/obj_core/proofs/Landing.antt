@@ -33,9 +33,9 @@ found_here q ps k w at p landing e word =
     record { index = 0; within = omega arith; at = at; landing = landing; place = sym here ∙ ap (λ n. Place.Slot n at) none; word = word }
 
 -- what is found is a word of its slot
-found : (ps : List ℕ) (k w : ℕ) (p : Place) → landing_from ps k w ≡ Some p → IsFound ps k w p
-found [] k w p e = absurd (cc)
-found (q ∷ ps) k w p e = by_start (found ps (k + 1) w p) (nat_eq w (slot_base + 16 * q)) refl (nat_eq w (slot_base + 16 * q + 5)) refl e
+landing_found : (ps : List ℕ) (k w : ℕ) (p : Place) → landing_from ps k w ≡ Some p → IsFound ps k w p
+landing_found [] k w p e = absurd (cc)
+landing_found (q ∷ ps) k w p e = by_start (landing_found ps (k + 1) w p) (nat_eq w (slot_base + 16 * q)) refl (nat_eq w (slot_base + 16 * q + 5)) refl e
   where
     by_start : (landing_from ps (k + 1) w ≡ Some p → IsFound ps (k + 1) w p) → (s : Bool) → nat_eq w (slot_base + 16 * q) ≡ s → (t : Bool) → nat_eq w (slot_base + 16 * q + 5) ≡ t →
         (if s then Some (Place.Slot k 0) else (if t then Some (Place.Slot k 5) else landing_from ps (k + 1) w)) ≡ Some p → IsFound (q ∷ ps) k w p
@@ -44,8 +44,8 @@ found (q ∷ ps) k w p e = by_start (found ps (k + 1) w p) (nat_eq w (slot_base 
     by_start others false differ false other e = found_behind q ps k w p (others e)
 
 -- positions that differ
-abbrev AreApart : List ℕ → Type 0
-AreApart ps = (i j : ℕ) → i < length ps → j < length ps → slice_index ps i ≡ slice_index ps j → i ≡ j
+abbrev AllDiffer : List ℕ → Type 0
+AllDiffer ps = (i j : ℕ) → i < length ps → j < length ps → slice_index ps i ≡ slice_index ps j → i ≡ j
 
 -- neither test takes a word of another position
 passed : (q r w at k : ℕ) (rest : Option Place) → (q ≡ r → ⊥) → (at ≡ 0) ⊎ (at ≡ 5) → w ≡ slot_base + 16 * r + at →
@@ -71,7 +71,7 @@ taken q w at k rest (inr e) word =
     ap (λ t. if t then Some (Place.Slot k 5) else rest) second ∙ ap (λ n. Some (Place.Slot k n)) (sym e)
 
 -- a word of one of the positions is found there
-lands : (ps : List ℕ) → AreApart ps → (k i w at : ℕ) → i < length ps → (at ≡ 0) ⊎ (at ≡ 5) → w ≡ slot_base + 16 * slice_index ps i + at → landing_from ps k w ≡ Some (Place.Slot (k + i) at)
+lands : (ps : List ℕ) → AllDiffer ps → (k i w at : ℕ) → i < length ps → (at ≡ 0) ⊎ (at ≡ 5) → w ≡ slot_base + 16 * slice_index ps i + at → landing_from ps k w ≡ Some (Place.Slot (k + i) at)
 lands [] apart k i w at lt landing word = absurd (omega (arith, lt))
 lands (q ∷ ps) apart k zero w at lt landing word =
     let none : k ≡ k + 0 = omega arith in
@@ -90,14 +90,14 @@ module _ (o : Object) where
   positions_long = shuffled_long (keystream_word o.slot_seed slot_purpose 0) (length o.slots)
 
   -- no two slots have one
-  positions_apart : AreApart (positions o)
+  positions_apart : AllDiffer (positions o)
   unfolding positions
   positions_apart = shuffled_apart (keystream_word o.slot_seed slot_purpose 0) (length o.slots)
 
   -- a word that lands is one of a slot
   pub landing_is : (w : ℕ) (p : Place) → symbolic_land o w ≡ Some p → LandsAt o w p
   landing_is w p e =
-      let x = found (positions o) 0 w p e in
+      let x = landing_found (positions o) 0 w p e in
       let none : 0 + x.index ≡ x.index = omega arith in
       let long = positions_long in
       subst (LandsAt o w) (sym (x.place ∙ ap (λ n. Place.Slot n x.at) none)) (omega (arith, x.within, long), x.landing, x.word)

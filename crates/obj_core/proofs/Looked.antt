@@ -11,7 +11,7 @@ use Rattle.obj_core.specs.declared.object.CodeAt.{CodeAt}
 use Rattle.obj_core.specs.declared.run.Run.{Run}
 use Rattle.obj_core.specs.declared.code.CodePlan.{CodePlan}
 use Rattle.obj_core.specs.Placement.{address, address_by, inverse, order, starts}
-use Rattle.obj_core.specs.Runs.{room, address_at, address_in_run, runs_from}
+use Rattle.obj_core.specs.Runs.{end_of_runs, address_at, address_in_run, runs_from}
 use Rattle.obj_core.specs.Plans.{function_start, function_runs, planned, IsPlan}
 use Rattle.obj_core.proofs.Pieces.{address_whole}
 
@@ -53,12 +53,12 @@ run_found (r ∷ rs) at (suc k) d before lt p le here =
     run_found rs at k d (λ j h. before (suc j) (omega (arith, h))) (omega (arith, lt)) p le here
 
 -- below the room there is such a run
-pub run_there : (rs : List Run) (at k : ℕ) (d : Run) → at < room rs → k ≤ length rs → ((j : ℕ) → j < k → end_of_run (get_or rs j d) ≤ at) → k < length rs
+pub run_there : (rs : List Run) (at k : ℕ) (d : Run) → at < end_of_runs rs → k ≤ length rs → ((j : ℕ) → j < k → end_of_run (get_or rs j d) ≤ at) → k < length rs
 run_there [] at k d lt le before = absurd (omega (arith, lt))
 run_there (r ∷ rs) at zero d lt le before = omega arith
 run_there (r ∷ rs) at (suc k) d lt le before =
     let first : r.end ≤ at = before 0 (omega arith) in
-    let more : at < room rs = omega (arith, first, lt) in
+    let more : at < end_of_runs rs = omega (arith, first, lt) in
     let x = run_there rs at k d more (omega (arith, le)) (λ j h. before (suc j) (omega (arith, h))) in
     omega (arith, x)
 
@@ -68,7 +68,7 @@ pub record Located (rs ys : List Run) (at k : ℕ) (d : Run) : Type 0 where
   pub ahead : at < end_of_run (get_or ys k d)
   pub addresses : (p : ℕ) → at ≤ p → p < end_of_run (get_or ys k d) → address_at rs p ≡ (get_or ys k d).start + (p - (get_or ys k d).front)
 
-located_here : (rs : List Run) (at k : ℕ) (d : Run) → at < room rs → k ≤ length rs → IsPartitionPoint (λ (r : Run). leb r.end at ≡ true) (λ (r : Run). leb r.end at ≡ false) rs k → Located rs rs at k d
+located_here : (rs : List Run) (at k : ℕ) (d : Run) → at < end_of_runs rs → k ≤ length rs → IsPartitionPoint (λ (r : Run). leb r.end at ≡ true) (λ (r : Run). leb r.end at ≡ false) rs k → Located rs rs at k d
 located_here rs at k d lt le point =
     let before : (j : ℕ) → j < k → end_of_run (get_or rs j d) ≤ at = λ j h. leb-true _ _ (point.0 j d (omega arith) h) in
     let within : k < length rs = run_there rs at k d lt le before in
@@ -78,7 +78,7 @@ located_here rs at k d lt le point =
       addresses = run_found rs at k d before within;
     }
 
-pub located : (rs xs ys : List Run) (at k : ℕ) (d : Run) → xs ≡ rs → ys ≡ rs → at < room rs → k ≤ length xs → IsPartitionPoint (λ (r : Run). leb r.end at ≡ true) (λ (r : Run). leb r.end at ≡ false) xs k → Located rs ys at k d
+pub located : (rs xs ys : List Run) (at k : ℕ) (d : Run) → xs ≡ rs → ys ≡ rs → at < end_of_runs rs → k ≤ length xs → IsPartitionPoint (λ (r : Run). leb r.end at ≡ true) (λ (r : Run). leb r.end at ≡ false) xs k → Located rs ys at k d
 located rs xs ys at k d e f lt le point =
     subst (λ zs. Located rs zs at k d) (sym f)
     (located_here rs at k d lt (subst (λ zs. k ≤ length zs) e le) (subst (λ zs. IsPartitionPoint (λ (r : Run). leb r.end at ≡ true) (λ (r : Run). leb r.end at ≡ false) zs k) e point))

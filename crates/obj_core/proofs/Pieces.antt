@@ -5,7 +5,7 @@ use Rattle.std.proofs.lemmas.Bool.Decides.{nat_tests}
 use Rattle.rd_num.specs.Number.{le_bytes}
 use Rattle.obj_core.specs.declared.object.Func.{Func}
 use Rattle.obj_core.specs.declared.object.CodeAt.{CodeAt}
-use Rattle.obj_core.specs.Placement.{Piece, whole, pieces_from, pieces, no_piece, or_no_piece, piece, address_from, address_in, address_by, displacement}
+use Rattle.obj_core.specs.Placement.{Piece, whole, pieces_from, pieces, no_piece, or_no_piece, piece, address_from, address_in, address_by, displacement_bytes}
 
 get_some : {T : Type 0} (xs : List T) (k : ℕ) (x : T) → k < length xs → x ≡ get_or xs k x → slice_get xs k ≡ Some x
 get_some [] k x h e = absurd (omega arith)
@@ -76,7 +76,7 @@ pub address_none : (fs : List Func) (places starts : List ℕ) (c : CodeAt) → 
 address_none fs places starts c h = address_whole fs places starts c ∙ ap (address_by places starts c) (get_none fs c.function h)
 
 -- a displacement from an address modulo 2^64
-pub displacement_again : (to from : ℕ) → from < 2 ^ 63 → displacement (to % 2 ^ 64) from ≡ displacement to from
+pub displacement_again : (to from : ℕ) → from < 2 ^ 63 → displacement_bytes (to % 2 ^ 64) from ≡ displacement_bytes to from
 displacement_again to from h =
     let same : (to % 2 ^ 64 + 2 ^ 64 - from) % 2 ^ 64 ≡ (to + 2 ^ 64 - from) % 2 ^ 64 = omega arith in
     ap (le_bytes 4) same

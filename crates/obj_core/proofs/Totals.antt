@@ -11,7 +11,7 @@ use Rattle.rd_draw.proofs.Permuted.{shuffled_permutes, shuffled_long}
 use Rattle.obj_core.specs.declared.object.Object.{Object}
 use Rattle.obj_core.specs.declared.object.Func.{Func}
 use Rattle.obj_core.specs.WellFormed.{IsWellFormed}
-use Rattle.obj_core.specs.Placement.{Piece, piece, pieces, placed, order, order_purpose}
+use Rattle.obj_core.specs.Placement.{Piece, piece, pieces, pieces_in, order, order_purpose}
 use Rattle.obj_core.proofs.Pieces.{whole_or, piece_whole, pieces_as_many}
 use Rattle.obj_core.proofs.Sizes.{code_len, little_code}
 
@@ -30,13 +30,13 @@ all_lens fs =
     fill_by_all (λ k. piece_len (piece fs k)) (map (λ (f : Func). length f.bytes) fs) (length fs) 0 (length-map fs (λ (f : Func). length f.bytes))
     (λ k h. len_at k k fs ∙ sym (ap piece_len (piece_whole fs k)))
 
-placed_sum : (fs : List Func) (ks : List ℕ) → sum_by piece_len (placed fs ks) ≡ sum_by (λ k. piece_len (piece fs k)) ks
+placed_sum : (fs : List Func) (ks : List ℕ) → sum_by piece_len (pieces_in fs ks) ≡ sum_by (λ k. piece_len (piece fs k)) ks
 placed_sum fs [] = refl
 placed_sum fs (k ∷ ks) =
-    sum_by-cons piece_len (piece fs k) (placed fs ks) ∙ ap (λ n. piece_len (piece fs k) + n) (placed_sum fs ks) ∙ sym (sum_by-cons (λ j. piece_len (piece fs j)) k ks)
+    sum_by-cons piece_len (piece fs k) (pieces_in fs ks) ∙ ap (λ n. piece_len (piece fs k) + n) (placed_sum fs ks) ∙ sym (sum_by-cons (λ j. piece_len (piece fs j)) k ks)
 
 -- all pieces have as many bytes as all functions
-pub order_sum : (o : Object) (seed : ℕ) → sum_by piece_len (placed o.functions (order o seed)) ≡ code_len o.functions
+pub order_sum : (o : Object) (seed : ℕ) → sum_by piece_len (pieces_in o.functions (order o seed)) ≡ code_len o.functions
 unfolding order
 order_sum o seed =
     let fs = o.functions in
@@ -55,9 +55,9 @@ unfolding order
 order_as_many o seed = shuffled_long (keystream_word seed order_purpose 0) (length (pieces o.functions)) ∙ pieces_as_many o.functions
 
 -- and so has the row of pieces
-pub order_long : (o : Object) (seed : ℕ) → length (placed o.functions (order o seed)) ≡ length o.functions
+pub order_long : (o : Object) (seed : ℕ) → length (pieces_in o.functions (order o seed)) ≡ length o.functions
 order_long o seed = length-map (order o seed) (piece o.functions) ∙ order_as_many o seed
 
 -- so the functions in their order are as small as all code
-pub row_small : (o : Object) (seed : ℕ) → ∥ IsWellFormed o ∥₁ → sum_by piece_len (placed o.functions (order o seed)) ≤ 67108864
+pub row_small : (o : Object) (seed : ℕ) → ∥ IsWellFormed o ∥₁ → sum_by piece_len (pieces_in o.functions (order o seed)) ≤ 67108864
 row_small o seed known = omega (arith, order_sum o seed, little_code o known)

@@ -8,12 +8,12 @@ use Rattle.obj_core.specs.declared.object.Link.{Link}
 use Rattle.obj_core.specs.declared.object.Slot.{Slot}
 use Rattle.obj_core.specs.declared.object.CodeAt.{CodeAt}
 use Rattle.obj_core.specs.Slots.{slot_base, slot_start, positions}
-use Rattle.obj_core.specs.Placement.{filler, up16, displacement, overlaid, slot_in, Piece, order, inverse, code_base, starts, placed, address, start_of}
+use Rattle.obj_core.specs.Placement.{filler, up16, displacement_bytes, overlaid, slot_in, Piece, order, inverse, code_base, starts, pieces_in, address, start_of}
 
 -- bytes that stand at an address, with the displacements to the slots that their links name
 abbrev pub linked : List ℕ → ℕ → List Link → List ℕ → List ℕ
 linked at start [] bytes = bytes
-linked at start (l ∷ ls) bytes = linked at start ls (overlaid bytes l.at (displacement (slot_in at l.slot) (start + l.at + 4)))
+linked at start (l ∷ ls) bytes = linked at start ls (overlaid bytes l.at (displacement_bytes (slot_in at l.slot) (start + l.at + 4)))
 
 -- pieces at the addresses where they begin, with breakpoints between and up to a multiple of 16
 abbrev pub code_from : List ℕ → ℕ → List ℕ → List Piece → List ℕ
@@ -22,14 +22,14 @@ code_from at end starts ps = filler (up16 end - end)
 
 -- the bytes of all code
 unfoldable pub code_bytes : Object → ℕ → List ℕ
-code_bytes o seed = code_from (positions o) (code_base seed) (starts o seed) (placed o.functions (order o seed))
+code_bytes o seed = code_from (positions o) (code_base seed) (starts o seed) (pieces_in o.functions (order o seed))
 
 -- JMP rel32 and CALL rel32 that end at an address
 abbrev pub jump : ℕ → ℕ → List ℕ
-jump to end = 0xE9 ∷ displacement to end
+jump to end = 0xE9 ∷ displacement_bytes to end
 
 abbrev pub call : ℕ → ℕ → List ℕ
-call to end = 0xE8 ∷ displacement to end
+call to end = 0xE8 ∷ displacement_bytes to end
 
 -- the sixteen bytes of a slot at an address, where code has these addresses
 abbrev pub trampoline : (CodeAt → ℕ) → ℕ → Option Slot → List ℕ
@@ -48,8 +48,8 @@ trampolines code at slots [] = []
 trampolines code at slots (k ∷ ks) = trampoline code (slot_in at k) (slice_get slots k) ++ trampolines code at slots ks
 
 -- the bytes of all slots, in the order of their positions
-unfoldable pub slot_bytes : Object → ℕ → List ℕ
-slot_bytes o seed = trampolines (address o seed) (positions o) o.slots (inverse (positions o))
+unfoldable pub trampoline_bytes : Object → ℕ → List ℕ
+trampoline_bytes o seed = trampolines (address o seed) (positions o) o.slots (inverse (positions o))
 
 -- a segment, unless it is empty
 abbrev pub present : ℕ → List ℕ → ℕ → List Segment
@@ -59,7 +59,7 @@ present start (b ∷ bs) rights = segment start (b ∷ bs) rights ∷ []
 -- slots that may be run alone, data that may be read, data that may be written too, and code that may be run alone
 abbrev pub segments : Object → ℕ → List Segment
 segments o seed =
-    present slot_base (slot_bytes o seed) 1 ++ (present ro_start o.ro 4 ++ (present rw_start o.rw 6 ++ present (code_base seed) (code_bytes o seed) 1))
+    present slot_base (trampoline_bytes o seed) 1 ++ (present ro_start o.ro 4 ++ (present rw_start o.rw 6 ++ present (code_base seed) (code_bytes o seed) 1))
 
 unfoldable pub layout : Object → ℕ → Image
 layout o seed = record { entry = slot_start o 0; segments = segments o seed }

@@ -25,8 +25,8 @@ abbrev pub up16 : ℕ → ℕ
 up16 n = (n + 15) / 16 * 16
 
 -- the four bytes of a displacement from the end of an instruction
-abbrev pub displacement : ℕ → ℕ → List ℕ
-displacement to from = le_bytes 4 ((to + 2 ^ 64 - from) % 2 ^ 64)
+abbrev pub displacement_bytes : ℕ → ℕ → List ℕ
+displacement_bytes to from = le_bytes 4 ((to + 2 ^ 64 - from) % 2 ^ 64)
 
 -- bytes with others in the place of those from an index on
 abbrev pub overlaid : List ℕ → ℕ → List ℕ → List ℕ
@@ -72,13 +72,13 @@ unfoldable pub order : Object → ℕ → List ℕ
 order o seed = shuffled (keystream_word seed order_purpose 0) (length (pieces o.functions))
 
 -- where a number stands in a list
-abbrev pub place_of : List ℕ → ℕ → ℕ
-place_of [] n = 0
-place_of (x ∷ xs) n = if nat_eq x n then 0 else place_of xs n + 1
+abbrev pub index_in : List ℕ → ℕ → ℕ
+index_in [] n = 0
+index_in (x ∷ xs) n = if nat_eq x n then 0 else index_in xs n + 1
 
 -- where each number below the length of a list stands in it
 abbrev pub inverse : List ℕ → List ℕ
-inverse xs = map (place_of xs) (range_with_len 0 (length xs))
+inverse xs = map (index_in xs) (range_with_len 0 (length xs))
 
 -- where code begins
 abbrev pub code_base : ℕ → ℕ
@@ -94,22 +94,22 @@ starts_from words i end [] = []
 starts_from words i end (p ∷ ps) = start_behind end (words i) ∷ starts_from words (i + 1) (start_behind end (words i) + length p.bytes) ps
 
 -- the pieces in their order
-abbrev pub placed : List Func → List ℕ → List Piece
-placed fs ks = map (piece fs) ks
+abbrev pub pieces_in : List Func → List ℕ → List Piece
+pieces_in fs ks = map (piece fs) ks
 
 unfoldable pub starts : Object → ℕ → List ℕ
-starts o seed = starts_from (keystream_word seed gap_purpose 0) 1 (code_base seed) (placed o.functions (order o seed))
+starts o seed = starts_from (keystream_word seed gap_purpose 0) 1 (code_base seed) (pieces_in o.functions (order o seed))
 
 -- whether a piece holds a byte of a function
-abbrev pub holds : Piece → CodeAt → Bool
-holds p c = nat_eq p.function c.function && (nat_le p.offset c.offset && nat_lt c.offset (p.offset + length p.bytes))
+abbrev pub has_byte : Piece → CodeAt → Bool
+has_byte p c = nat_eq p.function c.function && (nat_le p.offset c.offset && nat_lt c.offset (p.offset + length p.bytes))
 
 -- the address of a byte of a function: it is as far from the start of the piece that holds it as in the function;
 -- places and starts are by the piece's number and by its place
 abbrev pub address_from : List ℕ → List ℕ → ℕ → List Piece → CodeAt → ℕ
 address_from places starts k [] c = 0
 address_from places starts k (p ∷ ps) c =
-    if holds p c then slice_index starts (slice_index places k) + (c.offset - p.offset) else address_from places starts (k + 1) ps c
+    if has_byte p c then slice_index starts (slice_index places k) + (c.offset - p.offset) else address_from places starts (k + 1) ps c
 
 abbrev pub address_in : List Func → List ℕ → List ℕ → CodeAt → ℕ
 address_in fs places starts c = address_from places starts 0 (pieces fs) c

@@ -5,7 +5,7 @@ use Rattle.obj_core.specs.declared.object.Object.{Object}
 use Rattle.obj_core.specs.declared.object.CodeAt.{CodeAt}
 use Rattle.obj_core.specs.declared.run.Run.{Run}
 use Rattle.obj_core.specs.declared.code.CodePlan.{CodePlan}
-use Rattle.obj_core.specs.Placement.{Piece, gap_purpose, up16, order, inverse, code_base, start_behind, placed, starts}
+use Rattle.obj_core.specs.Placement.{Piece, gap_purpose, up16, order, inverse, code_base, start_behind, pieces_in, starts}
 use Rattle.obj_core.specs.Runs.{address_in_run, runs_from}
 
 -- the address of a function
@@ -27,7 +27,7 @@ end_from words i end (p ∷ ps) = end_from words (i + 1) (start_behind end (word
 
 -- how many bytes code takes
 unfoldable pub code_size : Object → ℕ → ℕ
-code_size o seed = end_from (keystream_word seed gap_purpose 0) 1 (code_base seed) (placed o.functions (order o seed)) - code_base seed
+code_size o seed = end_from (keystream_word seed gap_purpose 0) 1 (code_base seed) (pieces_in o.functions (order o seed)) - code_base seed
 
 -- the plan of an object for a layout seed
 pub record IsPlan (p : CodePlan) (o : Object) (seed : ℕ) : Type 0 where

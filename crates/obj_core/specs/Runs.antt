@@ -5,9 +5,9 @@ use Rattle.obj_core.specs.declared.run.Run.{Run}
 use Rattle.obj_core.specs.Slots.{slot_base}
 
 -- the place where runs end
-abbrev pub room : List Run → ℕ
-room [] = 0
-room (r ∷ rs) = max r.end (room rs)
+abbrev pub end_of_runs : List Run → ℕ
+end_of_runs [] = 0
+end_of_runs (r ∷ rs) = max r.end (end_of_runs rs)
 
 -- the address of the byte at a place
 abbrev pub address_at : List Run → ℕ → ℕ

@@ -1,7 +1,7 @@
 //! Bytes and numbers that segments are made of.
 
 ghost use Rattle.std.specs.Prelude.{◌≡◌, ◌<◌, ◌^◌, slice_index, slice_set, IfOk};
-ghost use Rattle.obj_core.specs.Placement.{filler, up16, displacement};
+ghost use Rattle.obj_core.specs.Placement.{filler, up16, displacement_bytes};
 
 use rd_num::bytes::put_u64_le;
 use rd_num::list::List;
@@ -10,7 +10,7 @@ use std::alloc::Global;
 
 /// The four bytes of a displacement from the end of an instruction. Takes no memory.
 pub fn way(to: u64, from: u64) -> [u8; 4]
-    ensures { result ≡ displacement to from }
+    ensures { result ≡ displacement_bytes to from }
 {
     let bytes = put_u64_le(to.wrapping_sub(from));
     [bytes[0], bytes[1], bytes[2], bytes[3]]

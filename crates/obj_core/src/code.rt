@@ -10,8 +10,8 @@ ghost use Rattle.x86_core.specs.Data.{segment};
 ghost use Rattle.obj_core.specs.declared.object.Object.{Object};
 ghost use Rattle.obj_core.specs.declared.object.Func.{Func};
 ghost use Rattle.obj_core.specs.Slots.{slot_base};
-ghost use Rattle.obj_core.specs.Placement.{filler, displacement, address};
-ghost use Rattle.obj_core.specs.Runs.{room, address_at, address_in_run, put_at, runs_from, slot_run};
+ghost use Rattle.obj_core.specs.Placement.{filler, displacement_bytes, address};
+ghost use Rattle.obj_core.specs.Runs.{end_of_runs, address_at, address_in_run, put_at, runs_from, slot_run};
 ghost use Rattle.obj_core.specs.Plans.{IsPlan, planned};
 
 use crate::address::{SLOT_BASE, SlotAddr};
@@ -169,7 +169,7 @@ impl CodeBuilder {
 
     /// Puts bytes at a place and on. Takes no memory.
     pub fn bytes(&mut self, at: u32, bytes: &[u8])
-        requires { at + length bytes.now ≤ room self.old.runs }
+        requires { at + length bytes.now ≤ end_of_runs self.old.runs }
         ensures { self.new ≡ record self.old { bytes = put_at self.old.runs self.old.start self.old.bytes at bytes.now } }
     {
         if bytes.is_empty() {
@@ -189,8 +189,8 @@ impl CodeBuilder {
 
     /// Puts the displacement to a byte of code at a place, counted from behind its four bytes. Takes no memory.
     pub fn branch(&mut self, at: u32, to: &Hidden)
-        requires { at + 4 ≤ room self.old.runs }
-        ensures { self.new ≡ record self.old { bytes = put_at self.old.runs self.old.start self.old.bytes at (displacement to.now.address (address_at self.old.runs (at + 3) + 1)) } }
+        requires { at + 4 ≤ end_of_runs self.old.runs }
+        ensures { self.new ≡ record self.old { bytes = put_at self.old.runs self.old.start self.old.bytes at (displacement_bytes to.now.address (address_at self.old.runs (at + 3) + 1)) } }
     {
         let bytes = way(to.address, self.behind(at));
         self.bytes(at, &bytes);
@@ -198,8 +198,8 @@ impl CodeBuilder {
 
     /// Puts the displacement to a slot at a place, counted from behind its four bytes. Takes no memory.
     pub fn branch_slot(&mut self, at: u32, to: &SlotAddr)
-        requires { at + 4 ≤ room self.old.runs }
-        ensures { self.new ≡ record self.old { bytes = put_at self.old.runs self.old.start self.old.bytes at (displacement (slot_base + 16 * to.now.position) (address_at self.old.runs (at + 3) + 1)) } }
+        requires { at + 4 ≤ end_of_runs self.old.runs }
+        ensures { self.new ≡ record self.old { bytes = put_at self.old.runs self.old.start self.old.bytes at (displacement_bytes (slot_base + 16 * to.now.position) (address_at self.old.runs (at + 3) + 1)) } }
     {
         let bytes = way(to.number(), self.behind(at));
         self.bytes(at, &bytes);
@@ -218,7 +218,7 @@ impl CodeBuilder {
 
     /// The address behind four bytes at a place. Takes no memory.
     fn behind(&self, at: u32) -> u64
-        requires { at + 4 ≤ room self.now.runs }
+        requires { at + 4 ≤ end_of_runs self.now.runs }
         ensures { result ≡ address_at self.now.runs (at + 3) + 1 }
     {
         self.address(u64::from(at) + 3) + 1
@@ -226,7 +226,7 @@ impl CodeBuilder {
 
     /// The address of the byte at a place. Takes no memory.
     fn address(&self, at: u64) -> u64
-        requires { at < room self.now.runs }
+        requires { at < end_of_runs self.now.runs }
         ensures value { result ≡ address_at self.now.runs at }
         ensures low { result < 2 ^ 63 }
     {

@@ -3,7 +3,7 @@
 ghost use Rattle.std.specs.Prelude.{ℕ, ◌≡◌, ◌≤◌, length};
 ghost use Rattle.std.specs.List.{sum_by};
 ghost use Rattle.obj_core.specs.declared.object.Func.{Func};
-ghost use Rattle.obj_core.specs.Placement.{Piece, piece, placed, order};
+ghost use Rattle.obj_core.specs.Placement.{Piece, piece, pieces_in, order};
 ghost use Rattle.obj_core.specs.WellFormed.{IsWellFormed};
 
 use crate::object::Object;
@@ -20,5 +20,5 @@ pub fn sizes_known(o: &Object)
 /// Makes it known to a proof that the functions in their order are as large. Takes no memory.
 pub fn row_known(o: &Object, layout_seed: u64)
     requires { ∥ IsWellFormed o.now ∥₁ }
-    ensures { sum_by (λ (p : Piece). length p.bytes) (placed o.now.functions (order o.now layout_seed)) ≤ 67108864 }
+    ensures { sum_by (λ (p : Piece). length p.bytes) (pieces_in o.now.functions (order o.now layout_seed)) ≤ 67108864 }
 {}

@@ -4,7 +4,7 @@ ghost use Rattle.std.specs.Prelude.{◌≡◌, ℕ, ◌+◌, ◌*◌, ◌<◌, �
 ghost use Rattle.std.specs.List.{sum_by};
 ghost use Rattle.rd_draw.specs.Draw.{keystream_word};
 ghost use Rattle.obj_core.specs.declared.object.Func.{Func};
-ghost use Rattle.obj_core.specs.Placement.{Piece, piece, order as order_of, placed, code_base, gap_purpose, starts_from};
+ghost use Rattle.obj_core.specs.Placement.{Piece, piece, order as order_of, pieces_in, code_base, gap_purpose, starts_from};
 ghost use Rattle.obj_core.specs.Plans.{end_from};
 
 use crate::bytes::round_up;
@@ -51,10 +51,10 @@ pub fn function_order(alloc: Global, o: &Object, layout_seed: u64) -> Result<Lis
 pub fn row_of(alloc: Global, functions: &[Func], order: &[u32], seed: u64) -> Result<Row, NoMemory>
     requires few { length order.now ≤ 4112 }
     requires small { (k : ℕ) → length (piece functions.now k).bytes ≤ 67108864 }
-    requires little { sum_by (λ (p : Piece). length p.bytes) (placed functions.now order.now) ≤ 67108864 }
+    requires little { sum_by (λ (p : Piece). length p.bytes) (pieces_in functions.now order.now) ≤ 67108864 }
     ensures base { IfOk result (λ r. r.base ≡ code_base seed) }
-    ensures starts { IfOk result (λ r. r.starts ≡ starts_from (keystream_word seed gap_purpose 0) 1 (code_base seed) (placed functions.now order.now)) }
-    ensures end { IfOk result (λ r. r.end ≡ end_from (keystream_word seed gap_purpose 0) 1 (code_base seed) (placed functions.now order.now)) }
+    ensures starts { IfOk result (λ r. r.starts ≡ starts_from (keystream_word seed gap_purpose 0) 1 (code_base seed) (pieces_in functions.now order.now)) }
+    ensures end { IfOk result (λ r. r.end ≡ end_from (keystream_word seed gap_purpose 0) 1 (code_base seed) (pieces_in functions.now order.now)) }
     ensures ahead { IfOk result (λ r. r.base ≤ r.end) }
 {
     let mut draw = Draw::new(seed, GAP_PURPOSE, 0);

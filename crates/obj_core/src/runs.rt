@@ -4,7 +4,7 @@ ghost use Rattle.std.specs.Prelude.{◌≡◌, ◌+◌, ◌-◌, ◌<◌, ◌≤
 ghost use Rattle.std.specs.Option.{option_copied};
 ghost use Rattle.std.specs.List.Sorted.{IsNonDecreasingBy};
 ghost use Rattle.obj_core.specs.declared.run.Run.{Run};
-ghost use Rattle.obj_core.specs.Runs.{room, address_at};
+ghost use Rattle.obj_core.specs.Runs.{end_of_runs, address_at};
 
 use crate::run::Run;
 use rd_num::copied::copy_list;
@@ -57,7 +57,7 @@ impl Runs {
 
     /// The run that holds a place: it tells the address of each place from there to its end. Takes no memory.
     pub fn find(&self, at: u64) -> Run
-        requires { at < room self.now }
+        requires { at < end_of_runs self.now }
         ensures ahead { at < result.end }
         ensures addresses { (p : ℕ) → at ≤ p → p < result.end → address_at self.now p ≡ result.start + (p - result.front) }
     {

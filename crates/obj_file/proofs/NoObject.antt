@@ -6,7 +6,7 @@ use Rattle.obj_core.specs.declared.object.Object.{Object}
 use Rattle.obj_core.specs.Object.{object_bytes, IsObject}
 use Rattle.obj_file.specs.declared.fault.FormFault.{FormFault}
 use Rattle.obj_file.specs.Texts.{IsObjectText, NoneBegins, Leaves, Fault, Spans}
-use Rattle.obj_file.specs.Faults.{BeginsOne, IsNoneFrom, Explains}
+use Rattle.obj_file.specs.Faults.{BeginsOne, IsNoneFrom, NamesFault}
 use Rattle.obj_file.proofs.Limits.{good_object}
 use Rattle.obj_file.proofs.Spelled.{object_spelled, object_text}
 
@@ -51,7 +51,7 @@ from_leaves bytes n v =
     subst (λ b. IsNoneFrom b n) (sym v.split) (subst (λ k. IsNoneFrom (v.front ++ v.others) k) (sym v.size) at_front)
 
 -- a fault in a whole file
-pub explained : (bytes : List ℕ) (e : FormFault) → Fault IsObjectText bytes 0 e → Explains bytes e
+pub explained : (bytes : List ℕ) (e : FormFault) → Fault IsObjectText bytes 0 e → NamesFault bytes e
 explained bytes (FormFault.At place) f =
     let v = f.left place refl in
     let same : v.inside ≡ place = let i = v.is in omega arith in

@@ -19,6 +19,6 @@ pub record IsNoneFrom (bytes : List ℕ) (place : ℕ) : Type 0 where
   pub longest : (place ≡ length bytes) ⊎ (BeginsOne (take (place + 1) bytes) → ⊥)
 
 -- what a fault says of the bytes; want of memory says nothing
-abbrev pub Explains : List ℕ → FormFault → Type 0
-Explains bytes (FormFault.At place) = IsNoneFrom bytes place
-Explains bytes FormFault.NoMemory = Unit {0}
+abbrev pub NamesFault : List ℕ → FormFault → Type 0
+NamesFault bytes (FormFault.At place) = IsNoneFrom bytes place
+NamesFault bytes FormFault.NoMemory = Unit {0}

@@ -4,7 +4,7 @@ ghost use Rattle.std.specs.Prelude.{◌≡◌, ◌≢◌, ◌+◌, ◌<◌, ◌�
 ghost use Rattle.rd_num.specs.Number.{le_bytes};
 ghost use Rattle.obj_core.specs.Object.{Each, IsField, IsLink, IsSlot, IsFunc, IsObject, kind_number, link_bytes, links_bytes, function_bytes, functions_bytes, slot_fields, slot_bytes, slots_bytes, header_bytes, object_bytes};
 ghost use Rattle.obj_file.specs.Texts.{Times, IsLinkText, IsFunctionText, IsSlotText, BodyText, CountedText, IsObjectText, body_bytes, counted_bytes, AreParts, AreCounted, full, limit_if, Spans, Fault};
-ghost use Rattle.obj_file.specs.Faults.{Explains};
+ghost use Rattle.obj_file.specs.Faults.{NamesFault};
 
 use crate::fault::FormFault;
 use crate::part::{expect, read_below, read_bytes, read_field, read_used, read_word};
@@ -45,7 +45,7 @@ struct Body {
 pub fn read(alloc: Global, bytes: &[u8]) -> Result<Object, FormFault>
     ensures object { IfOk result IsObject }
     ensures spelling { IfOk result (λ o. bytes.now ≡ object_bytes o) }
-    ensures fault { IfErr result (λ e. Explains bytes.now e) }
+    ensures fault { IfErr result (λ e. NamesFault bytes.now e) }
 {
     let part = read_object(alloc, bytes)?;
     if part.end < bytes.len() {

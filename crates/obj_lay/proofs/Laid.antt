@@ -9,19 +9,19 @@ use Rattle.obj_core.specs.declared.object.Func.{Func}
 use Rattle.obj_core.specs.declared.run.Run.{Run}
 use Rattle.obj_core.specs.declared.code.CodePlan.{CodePlan}
 use Rattle.obj_core.specs.Slots.{positions}
-use Rattle.obj_core.specs.Placement.{Piece, filler, overlaid, piece, pieces, order, order_purpose, gap_purpose, place_of, code_base, placed, starts}
-use Rattle.obj_core.specs.Runs.{room, address_at}
+use Rattle.obj_core.specs.Placement.{Piece, filler, overlaid, piece, pieces, order, order_purpose, gap_purpose, index_in, code_base, pieces_in, starts}
+use Rattle.obj_core.specs.Runs.{end_of_runs, address_at}
 use Rattle.obj_core.specs.Plans.{function_start, function_runs, code_size, IsPlan}
 use Rattle.obj_core.proofs.Pieces.{whole_or, piece_whole, pieces_as_many}
-use Rattle.obj_core.proofs.Orders.{StandsAt, shuffled_stands, inverse_index}
+use Rattle.obj_core.proofs.Orders.{IsListed, shuffled_stands, inverse_index}
 use Rattle.obj_core.proofs.Sizes.{code_len}
 use Rattle.obj_core.proofs.Fronts.{front_of, front_next, front_small, front_room, front_address}
 use Rattle.obj_core.specs.Layout.{linked, code_from, code_bytes}
-use Rattle.obj_lay.proofs.Growing.{shown, shown_all, starts_above, blank_code, reaches, one_written}
+use Rattle.obj_lay.proofs.Growing.{first_written, all_written, starts_above, blank_code, reaches, one_written}
 
 -- code with its first functions
 unfoldable pub written : Object → ℕ → ℕ → List ℕ
-written o seed n = code_from (positions o) (code_base seed) (starts o seed) (placed (shown o.functions n) (order o seed))
+written o seed n = code_from (positions o) (code_base seed) (starts o seed) (pieces_in (first_written o.functions n) (order o seed))
 
 -- none of them
 pub written_first : (plan : CodePlan) (o : Object) (seed : ℕ) → IsPlan plan o seed → filler plan.size ≡ written o seed 0
@@ -31,23 +31,23 @@ written_first plan o seed is = ap filler is.size ∙ sym (blank_code (positions 
 -- all of them
 pub written_last : (o : Object) (seed n : ℕ) → length o.functions ≤ n → written o seed n ≡ code_bytes o seed
 unfolding written code_bytes
-written_last o seed n h = ap (λ fs. code_from (positions o) (code_base seed) (starts o seed) (placed fs (order o seed))) (shown_all o.functions n h)
+written_last o seed n h = ap (λ fs. code_from (positions o) (code_base seed) (starts o seed) (pieces_in fs (order o seed))) (all_written o.functions n h)
 
 -- how a function is written
 pub record Fits (o : Object) (seed n : ℕ) (f : Func) : Type 0 where
-  pub room_left : front_of o.functions n + length f.bytes ≤ room (function_runs o seed)
+  pub room_left : front_of o.functions n + length f.bytes ≤ end_of_runs (function_runs o seed)
   pub together : (p : ℕ) → p < length f.bytes → address_at (function_runs o seed) (front_of o.functions n + p) ≡ address_at (function_runs o seed) (front_of o.functions n) + p
   pub low : code_base seed ≤ address_at (function_runs o seed) (front_of o.functions n)
   pub within : address_at (function_runs o seed) (front_of o.functions n) - code_base seed + length f.bytes ≤ length (written o seed n)
   pub after : written o seed (n + 1) ≡ overlaid (written o seed n) (address_at (function_runs o seed) (front_of o.functions n) - code_base seed) (linked (positions o) (address_at (function_runs o seed) (front_of o.functions n)) f.links f.bytes)
 
-placed_long : (fs : List Func) (ks : List ℕ) → length (placed fs ks) ≡ length ks
+placed_long : (fs : List Func) (ks : List ℕ) → length (pieces_in fs ks) ≡ length ks
 placed_long fs [] = refl
 placed_long fs (k ∷ ks) = ap suc (placed_long fs ks)
 
 module _ (o : Object) (seed n : ℕ) (f : Func) (there : slice_get o.functions n ≡ Some f) where
   -- it has one place in the order
-  in_order : StandsAt (order o seed) n
+  in_order : IsListed (order o seed) n
   unfolding order
   in_order = shuffled_stands (keystream_word seed order_purpose 0) (length (pieces o.functions)) n (let many = pieces_as_many o.functions in let within = slice_get_within o.functions n f there in omega (arith, many, within))
 
@@ -61,7 +61,7 @@ module _ (o : Object) (seed n : ℕ) (f : Func) (there : slice_get o.functions n
 
   -- where it starts
   abbrev start : ℕ
-  start = slice_index (starts o seed) (place_of (order o seed) n)
+  start = slice_index (starts o seed) (index_in (order o seed) n)
 
   start_is : function_start o seed n ≡ start
   start_is =
@@ -79,7 +79,7 @@ module _ (o : Object) (seed n : ℕ) (f : Func) (there : slice_get o.functions n
       ap (λ k. function_start o seed k + p) number ∙
       ap (λ s. s + p) start_is
 
-  room_is : front_of o.functions n + length f.bytes ≤ room (function_runs o seed)
+  room_is : front_of o.functions n + length f.bytes ≤ end_of_runs (function_runs o seed)
   unfolding function_runs
   room_is = let room_left = front_room (function_start o seed) 0 0 o.functions n f there in omega (arith, room_left)
 
@@ -87,26 +87,26 @@ module _ (o : Object) (seed n : ℕ) (f : Func) (there : slice_get o.functions n
   unfolding starts
   start_low =
       let stands = in_order in
-      let within : place_of (order o seed) n < length (order o seed) = stands.within in
+      let within : index_in (order o seed) n < length (order o seed) = stands.within in
       let long = placed_long o.functions (order o seed) in
-      starts_above (keystream_word seed gap_purpose 0) 1 (code_base seed) (placed o.functions (order o seed)) (place_of (order o seed) n) (omega (arith, within, long))
+      starts_above (keystream_word seed gap_purpose 0) 1 (code_base seed) (pieces_in o.functions (order o seed)) (index_in (order o seed) n) (omega (arith, within, long))
 
   start_within : start - code_base seed + length f.bytes ≤ length (written o seed n)
   unfolding written starts
   start_within =
       let stands = in_order in
-      let there_is : slice_index (order o seed) (place_of (order o seed) n) ≡ n = stands.there in
-      let size : length (piece o.functions (slice_index (order o seed) (place_of (order o seed) n))).bytes ≡ length f.bytes =
+      let there_is : slice_index (order o seed) (index_in (order o seed) n) ≡ n = stands.there in
+      let size : length (piece o.functions (slice_index (order o seed) (index_in (order o seed) n))).bytes ≡ length f.bytes =
       ap (λ k. length (piece o.functions k).bytes) there_is ∙ ap (λ (x : Piece). length x.bytes) (piece_whole o.functions n ∙ ap (whole_or n) there) in
-      subst (λ k. slice_index (starts o seed) (place_of (order o seed) n) - code_base seed + k ≤ length (written o seed n)) size
-      (reaches (positions o) (keystream_word seed gap_purpose 0) o.functions n 1 (code_base seed) (order o seed) (place_of (order o seed) n) stands.within)
+      subst (λ k. slice_index (starts o seed) (index_in (order o seed) n) - code_base seed + k ≤ length (written o seed n)) size
+      (reaches (positions o) (keystream_word seed gap_purpose 0) o.functions n 1 (code_base seed) (order o seed) (index_in (order o seed) n) stands.within)
 
   start_after : written o seed (suc n) ≡ overlaid (written o seed n) (start - code_base seed) (linked (positions o) start f.links f.bytes)
   unfolding written starts
   start_after =
       let stands = in_order in
-      one_written (positions o) (keystream_word seed gap_purpose 0) o.functions n f there 1 (code_base seed) (order o seed) (place_of (order o seed) n) stands.within stands.there
-      (λ p lt e. one_place p (place_of (order o seed) n) lt stands.within (e ∙ sym stands.there))
+      one_written (positions o) (keystream_word seed gap_purpose 0) o.functions n f there 1 (code_base seed) (order o seed) (index_in (order o seed) n) stands.within stands.there
+      (λ p lt e. one_place p (index_in (order o seed) n) lt stands.within (e ∙ sym stands.there))
 
   pub fits : 1 ≤ length f.bytes → Fits o seed n f
   fits some =
@@ -125,7 +125,7 @@ module _ (o : Object) (seed n : ℕ) (f : Func) (there : slice_get o.functions n
 -- the same of a builder
 pub record Ready (o : Object) (seed n : ℕ) (f : Func) (at : List ℕ) (base : ℕ) (runs : List Run) (bytes : List ℕ) (front : ℕ) : Type 0 where
   pub small : front + length f.bytes ≤ 67108864
-  pub room_left : front + length f.bytes ≤ room runs
+  pub room_left : front + length f.bytes ≤ end_of_runs runs
   pub together : (p : ℕ) → p < length f.bytes → address_at runs (front + p) ≡ address_at runs front + p
   pub low : base ≤ address_at runs front
   pub within : address_at runs front - base + length f.bytes ≤ length bytes

@@ -12,11 +12,11 @@ use Rattle.obj_core.specs.declared.object.Link.{Link}
 use Rattle.obj_core.specs.declared.object.Slot.{Slot}
 use Rattle.obj_core.specs.declared.object.CodeAt.{CodeAt}
 use Rattle.obj_core.specs.Slots.{positions, slot_purpose}
-use Rattle.obj_core.specs.Placement.{Piece, placed, order, gap_purpose, inverse, place_of, displacement, slot_in, up16, start_behind, starts_from, starts, code_base, address}
+use Rattle.obj_core.specs.Placement.{Piece, pieces_in, order, gap_purpose, inverse, index_in, displacement_bytes, slot_in, up16, start_behind, starts_from, starts, code_base, address}
 use Rattle.obj_core.proofs.Overlaid.{overlaid_long}
 use Rattle.obj_core.proofs.Sizes.{code_len}
 use Rattle.obj_core.proofs.Totals.{piece_len, order_sum, order_long}
-use Rattle.obj_core.specs.Layout.{linked, code_from, code_bytes, trampoline, trampolines, slot_bytes}
+use Rattle.obj_core.specs.Layout.{linked, code_from, code_bytes, trampoline, trampolines, trampoline_bytes}
 
 -- each slot has sixteen bytes
 pub slot_long : (code : CodeAt → ℕ) (at : ℕ) (s : Option Slot) → length (trampoline code at s) ≡ 16
@@ -33,17 +33,17 @@ slots_long code at slots (k ∷ ks) =
     length-append (trampoline code (slot_in at k) (slice_get slots k)) (trampolines code at slots ks) ∙
     omega (arith, slot_long code (slot_in at k) (slice_get slots k), slots_long code at slots ks)
 
-pub length-slot_bytes : (o : Object) (seed : ℕ) → length (slot_bytes o seed) ≡ 16 * length o.slots
-unfolding slot_bytes positions
-length-slot_bytes o seed =
+pub length-trampoline_bytes : (o : Object) (seed : ℕ) → length (trampoline_bytes o seed) ≡ 16 * length o.slots
+unfolding trampoline_bytes positions
+length-trampoline_bytes o seed =
     slots_long (address o seed) (positions o) o.slots (inverse (positions o)) ∙
-    ap (λ n. 16 * n) (length-map-range_with_len (place_of (positions o)) 0 (length (positions o)) ∙ shuffled_long (keystream_word o.slot_seed slot_purpose 0) (length o.slots))
+    ap (λ n. 16 * n) (length-map-range_with_len (index_in (positions o)) 0 (length (positions o)) ∙ shuffled_long (keystream_word o.slot_seed slot_purpose 0) (length o.slots))
 
 -- links change no length
 pub linked_long : (at : List ℕ) (start : ℕ) (ls : List Link) (bytes : List ℕ) → length (linked at start ls bytes) ≡ length bytes
 linked_long at start [] bytes = refl
 linked_long at start (l ∷ ls) bytes =
-    let d = displacement (slot_in at l.slot) (start + l.at + 4) in
+    let d = displacement_bytes (slot_in at l.slot) (start + l.at + 4) in
     linked_long at start ls _ ∙ overlaid_long bytes l.at d
 
 -- a gap has at most 15 + 31 * 16 bytes
@@ -65,5 +65,5 @@ code_long at words i end (p ∷ ps) =
 pub code_small : (o : Object) (seed : ℕ) → length (code_bytes o seed) ≤ code_len o.functions + 511 * length o.functions + 15
 unfolding code_bytes starts
 code_small o seed =
-    let bound = code_long (positions o) (keystream_word seed gap_purpose 0) 1 (code_base seed) (placed o.functions (order o seed)) in
+    let bound = code_long (positions o) (keystream_word seed gap_purpose 0) 1 (code_base seed) (pieces_in o.functions (order o seed)) in
     omega (arith, bound, order_sum o seed, order_long o seed)

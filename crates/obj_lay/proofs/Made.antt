@@ -9,7 +9,7 @@ use Rattle.obj_core.specs.declared.code.CodePlan.{CodePlan}
 use Rattle.obj_core.specs.Slots.{slot_base, positions}
 use Rattle.obj_core.specs.Placement.{code_base, inverse}
 use Rattle.obj_core.specs.Plans.{planned, IsPlan}
-use Rattle.obj_core.specs.Layout.{present, trampolines, slot_bytes, code_bytes, layout}
+use Rattle.obj_core.specs.Layout.{present, trampolines, trampoline_bytes, code_bytes, layout}
 use Rattle.obj_lay.proofs.Slotting.{planned_slots}
 
 -- a segment, unless it is empty
@@ -27,9 +27,9 @@ pub made : (o : Object) (seed : ℕ) (plan : CodePlan) (at : List ℕ) (entry : 
     → image entry all ≡ layout o seed
 unfolding layout
 made o seed plan at entry slots code all is at_is entry_is slots_are code_is all_are =
-    let slots_here : slots ≡ segment slot_base (slot_bytes o seed) 1 = slots_are ∙ ap (λ bs. segment slot_base bs 1) (planned_slots plan o seed at is at_is) in
+    let slots_here : slots ≡ segment slot_base (trampoline_bytes o seed) 1 = slots_are ∙ ap (λ bs. segment slot_base bs 1) (planned_slots plan o seed at is at_is) in
     ap (λ n. image n all) (entry_is ∙ ap (λ (a : List ℕ). slot_base + 16 * slice_index a 0) at_is) ∙
     ap (image (slot_base + 16 * slice_index (positions o) 0)) (
     all_are ∙
     ap (λ (s : Segment). given s ++ (present 536870912 o.ro 4 ++ (present 805306368 o.rw 6 ++ given code))) slots_here ∙
-    ap (λ (s : Segment). present slot_base (slot_bytes o seed) 1 ++ (present 536870912 o.ro 4 ++ (present 805306368 o.rw 6 ++ given s))) code_is)
+    ap (λ (s : Segment). present slot_base (trampoline_bytes o seed) 1 ++ (present 536870912 o.ro 4 ++ (present 805306368 o.rw 6 ++ given s))) code_is)

@@ -10,12 +10,12 @@ use Rattle.obj_core.specs.declared.object.Slot.{Slot}
 use Rattle.obj_core.specs.declared.object.CodeAt.{CodeAt}
 use Rattle.obj_core.specs.declared.code.CodePlan.{CodePlan}
 use Rattle.obj_core.specs.Slots.{slot_base, slot_purpose, positions}
-use Rattle.obj_core.specs.Placement.{filler, overlaid, slot_in, place_of, inverse, start_of, address}
+use Rattle.obj_core.specs.Placement.{filler, overlaid, slot_in, index_in, inverse, start_of, address}
 use Rattle.obj_core.specs.Plans.{planned, IsPlan}
 use Rattle.obj_core.proofs.Looked.{planned_is}
 use Rattle.obj_core.proofs.Overlaid.{overlaid_behind, overlaid_first}
 use Rattle.obj_core.proofs.Orders.{shuffled_stands, place_again, index_below, inverse_index, inverse_long}
-use Rattle.obj_core.specs.Layout.{jump, call, trampoline, trampolines, slot_bytes}
+use Rattle.obj_core.specs.Layout.{jump, call, trampoline, trampolines, trampoline_bytes}
 use Rattle.obj_lay.proofs.Lengths.{slot_long, slots_long}
 
 -- the first slots
@@ -137,7 +137,7 @@ module _ (o : Object) (n : ℕ) (lt : n < length o.slots) where
       let words = keystream_word o.slot_seed slot_purpose 0 in
       let long = inverse_long (shuffled words (length o.slots)) in
       let long2 = shuffled_long words (length o.slots) in
-      let is : place_of (shuffled words (length o.slots)) p ≡ n = sym (inverse_index (shuffled words (length o.slots)) p (omega (arith, long, low))) ∙ e in
+      let is : index_in (shuffled words (length o.slots)) p ≡ n = sym (inverse_index (shuffled words (length o.slots)) p (omega (arith, long, low))) ∙ e in
       let there = shuffled_stands words (length o.slots) p (omega (arith, long, long2, low)) in
       sym there.there ∙ ap (slice_index (shuffled words (length o.slots))) is
 
@@ -192,8 +192,8 @@ slots_same code way h at slots (k ∷ ks) =
     ap (λ xs. trampoline way (slot_in at k) (slice_get slots k) ++ xs) (slots_same code way h at slots ks)
 
 -- the slots of a plan are the layout's
-pub planned_slots : (plan : CodePlan) (o : Object) (seed : ℕ) (at : List ℕ) → IsPlan plan o seed → at ≡ positions o → trampolines (planned plan) at o.slots (inverse at) ≡ slot_bytes o seed
-unfolding slot_bytes
+pub planned_slots : (plan : CodePlan) (o : Object) (seed : ℕ) (at : List ℕ) → IsPlan plan o seed → at ≡ positions o → trampolines (planned plan) at o.slots (inverse at) ≡ trampoline_bytes o seed
+unfolding trampoline_bytes
 planned_slots plan o seed at is same =
     slots_same (planned plan) (address o seed) (λ c. planned_is plan c o seed is) at o.slots (inverse at) ∙
     ap (λ a. trampolines (address o seed) a o.slots (inverse a)) same

@@ -10,10 +10,10 @@ use Rattle.obj_core.specs.declared.object.Func.{Func}
 use Rattle.obj_core.specs.Slots.{slot_base}
 use Rattle.elf_file.specs.Sound.{IsRights, IsSegment, AreApart, total_bytes, IsSound}
 use Rattle.obj_core.specs.Placement.{code_base}
-use Rattle.obj_core.specs.Layout.{present, layout, slot_bytes, code_bytes}
+use Rattle.obj_core.specs.Layout.{present, layout, trampoline_bytes, code_bytes}
 use Rattle.obj_core.specs.WellFormed.{IsWellFormed}
 use Rattle.obj_core.proofs.Sizes.{code_len, few_functions, some_slot, few_slots, little_code, little_data}
-use Rattle.obj_lay.proofs.Lengths.{length-slot_bytes, code_small}
+use Rattle.obj_lay.proofs.Lengths.{length-trampoline_bytes, code_small}
 
 -- segments from an address on, at most so many, with so many bytes
 pub record Fits (end count bytes : ℕ) (ss : List Segment) : Type 0 where
@@ -75,7 +75,7 @@ pub layout_sound : (o : Object) (seed : ℕ) → length o.functions ≤ 4112 →
     → sum (map (λ (f : Func). length f.bytes) o.functions) ≤ 67108864 → length o.ro + length o.rw ≤ 67108864 → IsSound (layout o seed)
 unfolding layout
 layout_sound o seed functions some slots code data_bytes =
-    let slots_size : length (slot_bytes o seed) ≡ 16 * length o.slots = length-slot_bytes o seed in
+    let slots_size : length (trampoline_bytes o seed) ≡ 16 * length o.slots = length-trampoline_bytes o seed in
     let total : sum (map (λ (f : Func). length f.bytes) o.functions) ≡ code_len o.functions = sum-map (λ (f : Func). length f.bytes) o.functions in
     let code_size : length (code_bytes o seed) ≤ code_len o.functions + 511 * length o.functions + 15 = code_small o seed in
     let base = code_base seed in
@@ -84,11 +84,11 @@ layout_sound o seed functions some slots code data_bytes =
     let rights : (n : ℕ) → 1 ≤ n → n ≤ 7 → IsRights n = λ n a b. (a, b) in
     let at_code = front_fits (rw_start + length o.rw) base 0 0 1 (code_bytes o seed) [] (base_aligned seed) (omega arith) (omega arith) (rights 1 (omega arith) (omega arith)) (omega arith) (none_fits (base + length (code_bytes o seed))) in
     let at_rw = front_fits (ro_start + length o.ro) rw_start 1 (length (code_bytes o seed) + 0) 6 o.rw _ refl (omega arith) (omega arith) (rights 6 (omega arith) (omega arith)) (omega arith) at_code in
-    let at_ro = front_fits (slot_base + length (slot_bytes o seed)) ro_start 2 (length o.rw + (length (code_bytes o seed) + 0)) 4 o.ro _ refl (omega arith) (omega arith) (rights 4 (omega arith) (omega arith)) (omega arith) at_rw in
-    let all = front_fits 0 slot_base 3 (length o.ro + (length o.rw + (length (code_bytes o seed) + 0))) 1 (slot_bytes o seed) _ refl (omega arith) (omega arith) (rights 1 (omega arith) (omega arith)) (omega arith) at_ro in
+    let at_ro = front_fits (slot_base + length (trampoline_bytes o seed)) ro_start 2 (length o.rw + (length (code_bytes o seed) + 0)) 4 o.ro _ refl (omega arith) (omega arith) (rights 4 (omega arith) (omega arith)) (omega arith) at_rw in
+    let all = front_fits 0 slot_base 3 (length o.ro + (length o.rw + (length (code_bytes o seed) + 0))) 1 (trampoline_bytes o seed) _ refl (omega arith) (omega arith) (rights 1 (omega arith) (omega arith)) (omega arith) at_ro in
     let last : present base (code_bytes o seed) 1 ++ [] ≡ present base (code_bytes o seed) 1 = append_none (present base (code_bytes o seed) 1) in
-    let others = λ (cs : List Segment). present slot_base (slot_bytes o seed) 1 ++ (present ro_start o.ro 4 ++ (present rw_start o.rw 6 ++ cs)) in
-    sound_of _ _ _ _ (ap others last) all (omega arith) (present_some slot_base 1 (slot_bytes o seed) _ (omega arith))
+    let others = λ (cs : List Segment). present slot_base (trampoline_bytes o seed) 1 ++ (present ro_start o.ro 4 ++ (present rw_start o.rw 6 ++ cs)) in
+    sound_of _ _ _ _ (ap others last) all (omega arith) (present_some slot_base 1 (trampoline_bytes o seed) _ (omega arith))
 
 -- the same of an object that is only known to be well formed
 pub checked_sound : (o : Object) (seed : ℕ) → ∥ IsWellFormed o ∥₁ → IsSound (layout o seed)

@@ -8,7 +8,7 @@ use Rattle.obj_core.specs.declared.object.Link.{Link}
 use Rattle.obj_core.specs.declared.code.CodeBuilder.{CodeBuilder}
 use Rattle.obj_core.specs.declared.run.Run.{Run}
 use Rattle.obj_core.specs.Slots.{slot_base}
-use Rattle.obj_core.specs.Placement.{filler, overlaid, displacement, slot_in}
+use Rattle.obj_core.specs.Placement.{filler, overlaid, displacement_bytes, slot_in}
 use Rattle.obj_core.specs.Runs.{address_at, put_at, slot_run}
 use Rattle.obj_core.proofs.Overlaid.{overlaid_long, overlaid_inside, overlaid_first, overlaid_both}
 use Rattle.obj_core.proofs.Written.{put_together}
@@ -25,9 +25,9 @@ pub filled_first : (at : List ℕ) (start : ℕ) (old : List ℕ) (off : ℕ) (l
 filled_first at start old off links bytes all e = record { inner = bytes; long = refl; rest = refl; is = e }
 
 pub filled_more : (at : List ℕ) (start : ℕ) (old : List ℕ) (off : ℕ) (l : Link) (ls links : List Link) (bytes all new : List ℕ) → Filled at start old off (l ∷ ls) links bytes all
-    → off + length bytes ≤ length old → l.at + 4 ≤ length bytes → new ≡ overlaid all (off + l.at) (displacement (slot_in at l.slot) (start + l.at + 4)) → Filled at start old off ls links bytes new
+    → off + length bytes ≤ length old → l.at + 4 ≤ length bytes → new ≡ overlaid all (off + l.at) (displacement_bytes (slot_in at l.slot) (start + l.at + 4)) → Filled at start old off ls links bytes new
 filled_more at start old off l ls links bytes all new f within inside e =
-    let d = displacement (slot_in at l.slot) (start + l.at + 4) in
+    let d = displacement_bytes (slot_in at l.slot) (start + l.at + 4) in
     let long : length f.inner ≡ length bytes = f.long in
     record {
       inner = overlaid f.inner l.at d;
@@ -45,13 +45,13 @@ pub link_put : (at : List ℕ) (base : ℕ) (runs : List Run) (old : List ℕ) (
     → base ≤ address_at runs front → ((k : ℕ) → k < length bytes → address_at runs (front + k) ≡ address_at runs front + k)
     → address_at runs front - base + length bytes ≤ length old → (get_or items i d).at + 4 ≤ length bytes
     → base_now ≡ base → runs_now ≡ runs → p ≡ slice_index at (get_or items i d).slot
-    → new ≡ put_at runs_now base_now all (front + (get_or items i d).at) (displacement (slot_base + 16 * p) (address_at runs_now (front + (get_or items i d).at + 3) + 1))
+    → new ≡ put_at runs_now base_now all (front + (get_or items i d).at) (displacement_bytes (slot_base + 16 * p) (address_at runs_now (front + (get_or items i d).at + 3) + 1))
     → Filled at (address_at runs front) old (address_at runs front - base) (drop (i + 1) links) links bytes new
 link_put at base runs old front links items bytes all new i d base_now runs_now p same lt f low together within inside base_is runs_are p_is new_is =
     let l = get_or items i d in
     let a = address_at runs front in
     let left : drop i links ≡ l ∷ drop (i + 1) links = ap (drop i) (sym same) ∙ rw add-one (drop-cons items i d lt) ∙ ap (λ ls. l ∷ drop (i + 1) ls) same in
-    let way = displacement (slot_in at l.slot) (a + l.at + 4) in
+    let way = displacement_bytes (slot_in at l.slot) (a + l.at + 4) in
     let three : front + (l.at + 3) ≡ front + l.at + 3 = omega arith in
     let four : a + (l.at + 3) + 1 ≡ a + l.at + 4 = omega arith in
     let end : address_at runs (front + l.at + 3) + 1 ≡ a + l.at + 4 = ap (λ k. address_at runs k + 1) (sym three) ∙ ap (λ n. n + 1) (together (l.at + 3) (omega (arith, inside))) ∙ four in
@@ -60,10 +60,10 @@ link_put at base runs old front links items bytes all new i d base_now runs_now 
     let far : a + l.at - base ≡ a - base + l.at = omega (arith, low) in
     let put : new ≡ overlaid all (a - base + l.at) way =
     new_is ∙
-    ap (λ n. put_at runs_now n all (front + l.at) (displacement (slot_base + 16 * p) (address_at runs_now (front + l.at + 3) + 1))) base_is ∙
-    ap (λ rs. put_at rs base all (front + l.at) (displacement (slot_base + 16 * p) (address_at rs (front + l.at + 3) + 1))) runs_are ∙
-    ap (λ n. put_at runs base all (front + l.at) (displacement (slot_base + 16 * n) (address_at runs (front + l.at + 3) + 1))) p_is ∙
-    ap (λ n. put_at runs base all (front + l.at) (displacement (slot_in at l.slot) n)) end ∙
+    ap (λ n. put_at runs_now n all (front + l.at) (displacement_bytes (slot_base + 16 * p) (address_at runs_now (front + l.at + 3) + 1))) base_is ∙
+    ap (λ rs. put_at rs base all (front + l.at) (displacement_bytes (slot_base + 16 * p) (address_at rs (front + l.at + 3) + 1))) runs_are ∙
+    ap (λ n. put_at runs base all (front + l.at) (displacement_bytes (slot_base + 16 * n) (address_at runs (front + l.at + 3) + 1))) p_is ∙
+    ap (λ n. put_at runs base all (front + l.at) (displacement_bytes (slot_in at l.slot) n)) end ∙
     put_together runs base (a + l.at) all (front + l.at) way (omega (arith, low)) each ∙
     ap (λ n. overlaid all n way) far in
     filled_more at a old (a - base) l (drop (i + 1) links) links bytes all new (subst (λ ls. Filled at a old (a - base) ls links bytes all) left f) within inside put
@@ -93,7 +93,7 @@ module _ (b : CodeBuilder) (at : ℕ) (blank : b.bytes ≡ overlaid b.bytes at (
       ap (with_bytes b) (on_blank b.bytes xs at blank within (omega (arith, e)) ∙ ap (λ n. overlaid b.bytes at (xs ++ filler n)) left)
 
   -- five bytes, and a jump that ends five bytes behind them
-  pub ten_made : (xs : List ℕ) (to : ℕ) → length xs ≡ 5 → with_bytes b (overlaid (overlaid b.bytes at xs) (at + 5) (0xE9 ∷ displacement to (slot_base + (at + 5) + 5))) ≡ with_bytes b (overlaid b.bytes at (xs ++ (jump to (slot_base + at + 10) ++ filler 6)))
+  pub ten_made : (xs : List ℕ) (to : ℕ) → length xs ≡ 5 → with_bytes b (overlaid (overlaid b.bytes at xs) (at + 5) (0xE9 ∷ displacement_bytes to (slot_base + (at + 5) + 5))) ≡ with_bytes b (overlaid b.bytes at (xs ++ (jump to (slot_base + at + 10) ++ filler 6)))
   ten_made xs to e =
       let end : slot_base + (at + 5) + 5 ≡ slot_base + at + 10 = omega arith in
       let ys = jump to (slot_base + at + 10) in
@@ -101,7 +101,7 @@ module _ (b : CodeBuilder) (at : ℕ) (blank : b.bytes ≡ overlaid b.bytes at (
       let size : length (xs ++ ys) ≡ length xs + 5 = length-append xs ys in
       let left : 16 - length (xs ++ ys) ≡ 6 = omega (arith, e, size) in
       ap (with_bytes b) (
-      ap (λ n. overlaid (overlaid b.bytes at xs) (at + 5) (0xE9 ∷ displacement to n)) end ∙
+      ap (λ n. overlaid (overlaid b.bytes at xs) (at + 5) (0xE9 ∷ displacement_bytes to n)) end ∙
       ap (λ k. overlaid (overlaid b.bytes at xs) k ys) more ∙
       sym (overlaid_both b.bytes xs ys at) ∙
       on_blank b.bytes (xs ++ ys) at blank within (omega (arith, e, size)) ∙

@@ -1,4 +1,4 @@
-pub mod Placed
+pub mod Held
 pub mod Mirrors
 pub mod Places
 pub mod Hidden

@@ -10,7 +10,7 @@ use Rattle.obj_core.specs.declared.object.Place.{Place}
 use Rattle.obj_core.specs.Slots.{slot_start}
 use Rattle.obj_core.specs.Disassembly.{found, starts_at}
 use Rattle.obj_core.specs.SymbolicMachine.{link_before, target, at_code}
-use Rattle.obj_lay.specs.Placed.{AreHidden, IsAt, IsAtTo, HasInstr}
+use Rattle.obj_lay.specs.Held.{AreHidden, IsAt, IsAtTo, HasInstr}
 
 -- the starts of instructions
 abbrev pub is_code_place : Option (List Instr) → ℕ → Bool
@@ -49,7 +49,7 @@ module _ (exec : List Segment) (place : Place → ℕ) (o : Object) where
       IsAt exec (place (Place.Slot k 4)) Nop × IsAtTo exec (place (Place.Slot k 5)) Jmp (place (at_code back))
 
   -- hidden bytes hold each instruction and each slot of an object with these disassemblies, and neighbours in a function are neighbours
-  pub record IsLaid (disassemblies : List (List Instr)) : Type 0 where
+  pub record HoldsInstrs (disassemblies : List (List Instr)) : Type 0 where
     pub hidden : AreHidden exec
     pub code : (n off : ℕ) → is_code_place (slice_get disassemblies n) off ≡ true → (s : HasInstr o n off) → CodeBytes s.func n off s.instr
     pub neighbours : (n off size : ℕ) → is_code_place (slice_get disassemblies n) off ≡ true → is_code_place (slice_get disassemblies n) (off + size) ≡ true → place (Place.Code n (off + size)) ≡ (place (Place.Code n off) + size) % 2 ^ 64

@@ -8,7 +8,7 @@ ghost use Rattle.obj_core.specs.declared.object.Link.{Link};
 ghost use Rattle.obj_core.specs.Slots.{positions as positions_of};
 ghost use Rattle.obj_core.specs.WellFormed.{IsWellFormed};
 ghost use Rattle.obj_core.specs.Placement.{code_base, overlaid};
-ghost use Rattle.obj_core.specs.Runs.{room, address_at};
+ghost use Rattle.obj_core.specs.Runs.{end_of_runs, address_at};
 ghost use Rattle.obj_core.specs.Plans.{IsPlan};
 ghost use Rattle.obj_core.specs.Layout.{linked, code_bytes};
 
@@ -58,7 +58,7 @@ pub fn code_of(
 /// Puts a function whose bytes stand from a place on, and the displacements of its links. Takes no memory.
 fn put_function(builder: &mut CodeBuilder, front: u32, function: &Func, positions: &[u32])
     requires small { front + length function.now.bytes ≤ 67108864 }
-    requires room { front + length function.now.bytes ≤ room builder.old.runs }
+    requires room { front + length function.now.bytes ≤ end_of_runs builder.old.runs }
     requires together { (p : ℕ) → p < length function.now.bytes → address_at builder.old.runs (front + p) ≡ address_at builder.old.runs front + p }
     requires low { builder.old.start ≤ address_at builder.old.runs front }
     requires within { address_at builder.old.runs front - builder.old.start + length function.now.bytes ≤ length builder.old.bytes }

@@ -1,7 +1,7 @@
 //! Laws of images that hold an object, as the contracts of functions that do nothing.
 //!
 //! `lay` says of its own image what it shows. Here the same is said of every image that holds an
-//! object, wherever its code stands (`specs/Placed.antt`), and of what an image means. That bytes at
+//! object, wherever its code stands (`specs/Held.antt`), and of what an image means. That bytes at
 //! the addresses of places are enough for it, is `specs/Places.antt`. All of it holds until the
 //! object's run strays: goes by a word that is no slot's address and none behind a slot's call.
 
@@ -17,14 +17,14 @@ ghost use Rattle.obj_core.specs.declared.object.Place.{Place};
 ghost use Rattle.obj_core.specs.SymbolicMachine.{symbolic_behavior};
 ghost use Rattle.obj_core.specs.WellFormed.{IsWellFormed};
 ghost use Rattle.obj_core.specs.Layout.{layout};
-ghost use Rattle.obj_lay.specs.Placed.{HoldsObject, Placed};
-ghost use Rattle.obj_lay.specs.Places.{IsLaid, is_step_place};
+ghost use Rattle.obj_lay.specs.Held.{HoldsObject, HoldsPlaces};
+ghost use Rattle.obj_lay.specs.Places.{HoldsInstrs, is_step_place};
 ghost use Rattle.obj_lay.specs.Hidden.{ShowsObject};
 
 /// Bytes that hold each instruction and each slot of a well-formed object hold the object.
-pub fn laid_is_placed()
+pub fn instructions_hold_the_object()
     ensures { (exec : Row Segment) (place : Place → ℕ) (o : Object) (well : IsWellFormed o) →
-        IsLaid exec place o well.disassemblies → Placed exec place (is_step_place o well.disassemblies) o }
+        HoldsInstrs exec place o well.disassemblies → HoldsPlaces exec place (is_step_place o well.disassemblies) o }
 {}
 
 /// An image that holds an object shows what the object shows, wherever it has its code.

@@ -3,7 +3,7 @@
 ghost use Rattle.std.specs.Prelude.{ℕ, ◌≡◌, ◌+◌, ◌*◌, ◌<◌, ◌≤◌, [], ◌∷◌, length, IfOk, Some};
 ghost use Rattle.x86_core.specs.Data.{segment};
 ghost use Rattle.obj_core.specs.Slots.{slot_base, positions as positions_of};
-ghost use Rattle.obj_core.specs.Placement.{inverse, filler, start_of, displacement, overlaid};
+ghost use Rattle.obj_core.specs.Placement.{inverse, filler, start_of, displacement_bytes, overlaid};
 ghost use Rattle.obj_core.specs.Runs.{slot_run};
 ghost use Rattle.obj_core.specs.Plans.{planned};
 ghost use Rattle.obj_core.specs.Layout.{jump, trampoline, trampolines};
@@ -67,7 +67,7 @@ fn put_branch(builder: &mut CodeBuilder, plan: &CodePlan, at: u32, opcode: u8, t
     requires runs { builder.old.runs ≡ slot_run (length builder.old.bytes) ∷ [] }
     requires small { length builder.old.bytes ≤ 16777216 }
     requires inside { at + 5 ≤ length builder.old.bytes }
-    ensures { builder.new ≡ record builder.old { bytes = overlaid builder.old.bytes at (opcode ∷ displacement (planned plan.now to.now) (slot_base + at + 5)) } }
+    ensures { builder.new ≡ record builder.old { bytes = overlaid builder.old.bytes at (opcode ∷ displacement_bytes (planned plan.now to.now) (slot_base + at + 5)) } }
 {
     builder.bytes(at, &[opcode]);
     builder.branch(at + 1, &plan.place(to));

@@ -10,7 +10,7 @@ use Rattle.x86_core.proofs.Laws.{some_bytes, few_bytes}
 use Rattle.x86_core.specs.Memory.{code_at, code_of, data_of}
 use Rattle.x86_core.specs.Data.{ro_start, rw_start, stack, data_segments}
 use Rattle.obj_core.specs.Slots.{slot_base}
-use Rattle.obj_lay.specs.Placed.{AreHidden, IsAt}
+use Rattle.obj_lay.specs.Held.{AreHidden, IsAt}
 use Rattle.obj_core.specs.Layout.{present}
 use Rattle.obj_lay.proofs.hidden.Instrs.{Front}
 

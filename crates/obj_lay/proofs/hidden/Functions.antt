@@ -19,16 +19,16 @@ use Rattle.obj_core.specs.Slots.{slot_start, positions}
 use Rattle.obj_core.specs.Disassembly.{IsDisassembly, found, size_of, spelled}
 use Rattle.obj_core.specs.SymbolicMachine.{link_before, target}
 use Rattle.obj_core.specs.WellFormed.{displacement, is_zero, is_linked, goes_well, IsWellFormed}
-use Rattle.obj_lay.specs.Placed.{IsAt, IsAtTo, HasInstr}
+use Rattle.obj_lay.specs.Held.{IsAt, IsAtTo, HasInstr}
 use Rattle.obj_lay.specs.Places.{is_code_place, CodeBytes}
 use Rattle.obj_core.proofs.Kept.{KeepsRules, function_keeps}
 use Rattle.obj_lay.proofs.lockstep.Rules.{function_of_disassembly}
-use Rattle.obj_core.specs.Placement.{slot_in, code_base, address, displacement as displacement_bytes}
-use Rattle.obj_core.specs.Layout.{linked, code_bytes, slot_bytes}
+use Rattle.obj_core.specs.Placement.{slot_in, code_base, address, displacement_bytes}
+use Rattle.obj_core.specs.Layout.{linked, code_bytes, trampoline_bytes}
 use Rattle.obj_lay.proofs.hidden.Instrs.{IsIn, lies, Front, front, apart, which_starts, each_in, branches_well, zero_is}
 use Rattle.obj_lay.proofs.hidden.Numbers.{between, between_leads, between_fits, displacement_between, local_leads}
 use Rattle.obj_lay.proofs.hidden.Linked.{link_good, unlinked_stays, jump_leads, test_leads}
-use Rattle.obj_lay.proofs.Lengths.{length-slot_bytes, linked_long}
+use Rattle.obj_lay.proofs.Lengths.{length-trampoline_bytes, linked_long}
 use Rattle.obj_lay.proofs.hidden.Executable.{executable, in_code}
 use Rattle.obj_lay.proofs.hidden.Places.{start, func_stands, place, slot_low, address_is}
 
@@ -62,7 +62,7 @@ same_instr bs i j xs ys a b e f =
 module _ (o : Object) (w : IsWellFormed o) (seed : ℕ) where
   -- what may be executed of the layout
   abbrev pub exec : List Segment
-  exec = executable (slot_bytes o seed) (code_base seed) (code_bytes o seed)
+  exec = executable (trampoline_bytes o seed) (code_base seed) (code_bytes o seed)
 
   -- the address of a place
   abbrev pub at_place : Place → ℕ
@@ -102,10 +102,10 @@ module _ (o : Object) (w : IsWellFormed o) (seed : ℕ) where
         let low : code_base seed ≤ start o seed n = x.low in
         let inside : off + size_of i ≤ length f.bytes = (near off i h).inside in
         let same = linked_long (positions o) (start o seed n) f.links f.bytes in
-        let long = length-slot_bytes o seed in
+        let long = length-trampoline_bytes o seed in
         let few : length o.slots ≤ 1048576 = w.few.slots in
         let split : start o seed n + off - code_base seed ≡ (start o seed n - code_base seed) + off = omega (arith, low) in
-        in_code (slot_bytes o seed) (code_base seed) (code_bytes o seed) (start o seed n + off) j is (omega (arith, long, few, low)) (omega (arith, low)) (record {
+        in_code (trampoline_bytes o seed) (code_base seed) (code_bytes o seed) (start o seed n + off) j is (omega (arith, long, few, low)) (omega (arith, low)) (record {
           more = y.more ++ x.more;
           begins =
               ap (λ k. drop k (code_bytes o seed)) split ∙

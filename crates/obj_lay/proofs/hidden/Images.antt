@@ -18,25 +18,25 @@ use Rattle.obj_core.specs.declared.object.Place.{Place}
 use Rattle.obj_core.specs.Slots.{slot_start}
 use Rattle.obj_core.specs.WellFormed.{IsWellFormed}
 use Rattle.obj_core.specs.SymbolicMachine.{symbolic_start, symbolic_step, symbolic_run, symbolic_behavior}
-use Rattle.obj_lay.specs.Placed.{Placed, HoldsObject}
-use Rattle.obj_lay.specs.Places.{is_step_place, IsLaid}
+use Rattle.obj_lay.specs.Held.{HoldsPlaces, HoldsObject}
+use Rattle.obj_lay.specs.Places.{is_step_place, HoldsInstrs}
 use Rattle.obj_lay.specs.Hidden.{ShowsObject, HasDataOf, replies, image_shown, object_shown, RepliesAsObject, ShowTheSame}
-use Rattle.obj_lay.proofs.lockstep.Closed.{laid_placed}
+use Rattle.obj_lay.proofs.lockstep.Closed.{instrs_held}
 use Rattle.obj_lay.proofs.lockstep.Images.{image_shows, image_agrees, image_preserves}
 use Rattle.obj_core.specs.Placement.{code_base}
-use Rattle.obj_core.specs.Layout.{layout, code_bytes, slot_bytes}
+use Rattle.obj_core.specs.Layout.{layout, code_bytes, trampoline_bytes}
 use Rattle.obj_lay.proofs.hidden.Executable.{executable, all_code, all_data, all_hidden}
 use Rattle.obj_lay.proofs.hidden.Functions.{exec, at_place, code_laid, neighbours}
 use Rattle.obj_lay.proofs.hidden.SlotsStand.{slot_laid}
 
 -- what may be executed of a layout, what may be read of it, and where it is entered
-code_is : (o : Object) (seed : ℕ) → code_of (machine_segments (layout o seed)) ≡ executable (slot_bytes o seed) (code_base seed) (code_bytes o seed)
+code_is : (o : Object) (seed : ℕ) → code_of (machine_segments (layout o seed)) ≡ executable (trampoline_bytes o seed) (code_base seed) (code_bytes o seed)
 unfolding layout
-code_is o seed = all_code (slot_bytes o seed) o.ro o.rw (code_base seed) (code_bytes o seed)
+code_is o seed = all_code (trampoline_bytes o seed) o.ro o.rw (code_base seed) (code_bytes o seed)
 
 pub data_is : (o : Object) (seed : ℕ) → data_of (machine_segments (layout o seed)) ≡ data_segments o.ro o.rw
 unfolding layout
-data_is o seed = all_data (slot_bytes o seed) o.ro o.rw (code_base seed) (code_bytes o seed)
+data_is o seed = all_data (trampoline_bytes o seed) o.ro o.rw (code_base seed) (code_bytes o seed)
 
 pub entry_is : (o : Object) (seed : ℕ) → (layout o seed).entry ≡ slot_start o 0
 unfolding layout
@@ -44,9 +44,9 @@ entry_is o seed = refl
 
 module _ (o : Object) (w : IsWellFormed o) (seed : ℕ) where
   -- the layout holds each instruction and each slot
-  laid : IsLaid (exec o w seed) (at_place o w seed) o w.disassemblies
+  laid : HoldsInstrs (exec o w seed) (at_place o w seed) o w.disassemblies
   laid = record {
-    hidden = all_hidden (slot_bytes o seed) (code_base seed) (code_bytes o seed);
+    hidden = all_hidden (trampoline_bytes o seed) (code_base seed) (code_bytes o seed);
     code = code_laid o w seed;
     neighbours = λ n off size here next. neighbours o w seed n off size next;
     slots = slot_laid o w seed;
@@ -55,7 +55,7 @@ module _ (o : Object) (w : IsWellFormed o) (seed : ℕ) where
 
   pub is_image : HoldsObject (layout o seed) (at_place o w seed) (is_step_place o w.disassemblies) o
   is_image = record {
-    placed = subst (λ ss. Placed ss (at_place o w seed) (is_step_place o w.disassemblies) o) (sym (code_is o seed)) (laid_placed o w (exec o w seed) (at_place o w seed) laid);
+    places = subst (λ ss. HoldsPlaces ss (at_place o w seed) (is_step_place o w.disassemblies) o) (sym (code_is o seed)) (instrs_held o w (exec o w seed) (at_place o w seed) laid);
     readable = data_is o seed;
     entry = entry_is o seed;
     some_slot = let some = w.few.some_slot in omega (arith, some);

@@ -61,11 +61,11 @@ front at (j ∷ js) off i (inr h) =
     record { more = x.more; begins = drop_behind (encoding j) (spelled js) (size_of j) (off - at) refl (omega (arith, from)) ∙ ap (λ k. drop k (spelled js)) less ∙ x.begins }
 
 -- two instructions of a row are one, or lie apart
-abbrev pub AreApart : ℕ → Instr → ℕ → Instr → Type 0
-AreApart off i off2 j = ((off ≡ off2) × (i ≡ j)) ⊎ ((off + size_of i ≤ off2) ⊎ (off2 + size_of j ≤ off))
+abbrev pub OneOrApart : ℕ → Instr → ℕ → Instr → Type 0
+OneOrApart off i off2 j = ((off ≡ off2) × (i ≡ j)) ⊎ ((off + size_of i ≤ off2) ⊎ (off2 + size_of j ≤ off))
 
 -- any two are so
-pub apart : (at : ℕ) (is : List Instr) (off : ℕ) (i : Instr) (off2 : ℕ) (j : Instr) → IsIn at is off i → IsIn at is off2 j → AreApart off i off2 j
+pub apart : (at : ℕ) (is : List Instr) (off : ℕ) (i : Instr) (off2 : ℕ) (j : Instr) → IsIn at is off i → IsIn at is off2 j → OneOrApart off i off2 j
 apart at [] off i off2 j h k = absurd h
 apart at (x ∷ xs) off i off2 j (inl h) (inl k) = inl (h.0 ∙ sym k.0, h.1 ∙ sym k.1)
 apart at (x ∷ xs) off i off2 j (inl h) (inr k) =

@@ -12,7 +12,7 @@ use Rattle.obj_core.specs.Disassembly.{Found, found, size_of}
 use Rattle.obj_core.specs.SymbolicMachine.{link_before}
 use Rattle.obj_core.specs.WellFormed.{fills_zero, is_good_link, bad_links}
 use Rattle.obj_core.proofs.Kept.{good_parts, good_first}
-use Rattle.obj_core.specs.Placement.{displacement, overlaid, slot_in}
+use Rattle.obj_core.specs.Placement.{displacement_bytes, overlaid, slot_in}
 use Rattle.obj_core.specs.Layout.{linked}
 use Rattle.obj_lay.proofs.hidden.Instrs.{IsIn, Front, apart, FillsZero, which_fills, IsZeroBranch, zero_branch}
 
@@ -112,16 +112,16 @@ module _ (positions : List ℕ) (start : ℕ) (is : List Instr) (slots : ℕ) (o
       ]
 
   -- a link that does not end an instruction leaves it, and so one of its size that stands there
-  one_aside : (j : Instr) → size_of j ≡ size_of i → (l : Link) (to from : ℕ) (bs : List ℕ) → fills_zero (found is) l.at ≡ true → (l.at + 4 ≡ off + size_of i → ⊥) → Front (drop off bs) j → Front (drop off (overlaid bs l.at (displacement to from))) j
+  one_aside : (j : Instr) → size_of j ≡ size_of i → (l : Link) (to from : ℕ) (bs : List ℕ) → fills_zero (found is) l.at ≡ true → (l.at + 4 ≡ off + size_of i → ⊥) → Front (drop off bs) j → Front (drop off (overlaid bs l.at (displacement_bytes to from))) j
   one_aside j size l to from bs good other h =
-      stays bs (displacement to from) l.at off j (elim (aside l good other) [
+      stays bs (displacement_bytes to from) l.at off j (elim (aside l good other) [
         | inl le ↦ inl le
         | inr le ↦ inr (omega (arith, le, size))
       ]) h
 
   -- the bytes after one link
-  after : Link → List ℕ → List ℕ
-  after l bs = overlaid bs l.at (displacement (slot_in positions l.slot) (start + l.at + 4))
+  with_link : Link → List ℕ → List ℕ
+  with_link l bs = overlaid bs l.at (displacement_bytes (slot_in positions l.slot) (start + l.at + 4))
 
   -- no link at all, so not the first
   none_first : (l : Link) (ls : List Link) → link_before (l ∷ ls) (off + size_of i) ≡ None → (nat_eq (l.at + 4) (off + size_of i) ≡ false) × (link_before ls (off + size_of i) ≡ None)
@@ -142,7 +142,7 @@ module _ (positions : List ℕ) (start : ℕ) (is : List Instr) (slots : ℕ) (o
       (one_aside j size l (slot_in positions l.slot) (start + l.at + 4) bs good.0 (eqb-false (l.at + 4) (off + size_of i) other.0) h)
 
 -- a branch with a link leads to its slot
-module _ (positions : List ℕ) (start : ℕ) (is : List Instr) (slots : ℕ) (off : ℕ) (make : ℤ → Instr) (filled : IsFilled make) (sized : (by : ℤ) → size_of (make by) ≡ size_of (make (pos 0))) (there : IsIn 0 is off (make (pos 0))) (k : ℕ) (by : ℤ) (way : displacement (slot_in positions k) (start + (off + size_of (make (pos 0)))) ≡ number32 by) where
+module _ (positions : List ℕ) (start : ℕ) (is : List Instr) (slots : ℕ) (off : ℕ) (make : ℤ → Instr) (filled : IsFilled make) (sized : (by : ℤ) → size_of (make by) ≡ size_of (make (pos 0))) (there : IsIn 0 is off (make (pos 0))) (k : ℕ) (by : ℤ) (way : displacement_bytes (slot_in positions k) (start + (off + size_of (make (pos 0)))) ≡ number32 by) where
   -- where the branch ends
   abbrev end : ℕ
   end = off + size_of (make (pos 0))
@@ -150,30 +150,30 @@ module _ (positions : List ℕ) (start : ℕ) (is : List Instr) (slots : ℕ) (o
   -- the links before leave it, its own fills it, and those behind leave it again
   linked_leads : (before : Option ℕ) (ls : List Link) (bs : List ℕ) → bad_links before (found is) slots ls ≡ [] → link_before ls end ≡ Some k → Front (drop off bs) (make (pos 0)) → Front (drop off (linked positions start ls bs)) (make by)
   linked_leads before [] bs e f h = absurd (cc)
-  linked_leads before (l ∷ ls) bs e f h = by_test (linked_leads (Some l.at) ls (overlaid bs l.at (displacement (slot_in positions l.slot) (start + l.at + 4))) (good_first before (found is) slots l ls e).1) (nat_eq (l.at + 4) end) refl f
+  linked_leads before (l ∷ ls) bs e f h = by_test (linked_leads (Some l.at) ls (overlaid bs l.at (displacement_bytes (slot_in positions l.slot) (start + l.at + 4))) (good_first before (found is) slots l ls e).1) (nat_eq (l.at + 4) end) refl f
     where
       x : (is_good_link before (found is) slots l ≡ true) × (bad_links (Some l.at) (found is) slots ls ≡ [])
       x = good_first before (found is) slots l ls e
 
-      by_test : (link_before ls end ≡ Some k → Front (drop off (overlaid bs l.at (displacement (slot_in positions l.slot) (start + l.at + 4)))) (make (pos 0)) → Front (drop off (linked positions start (l ∷ ls) bs)) (make by)) → (t : Bool) → nat_eq (l.at + 4) end ≡ t → (if t then Some l.slot else link_before ls end) ≡ Some k → Front (drop off (linked positions start (l ∷ ls) bs)) (make by)
+      by_test : (link_before ls end ≡ Some k → Front (drop off (overlaid bs l.at (displacement_bytes (slot_in positions l.slot) (start + l.at + 4)))) (make (pos 0)) → Front (drop off (linked positions start (l ∷ ls) bs)) (make by)) → (t : Bool) → nat_eq (l.at + 4) end ≡ t → (if t then Some l.slot else link_before ls end) ≡ Some k → Front (drop off (linked positions start (l ∷ ls) bs)) (make by)
       by_test later true same f =
           let this : l.slot ≡ k = cc in
           let ends : l.at + 4 ≡ end = eqb-true (l.at + 4) end same in
           let from : start + l.at + 4 ≡ start + end = omega arith in
-          let d : displacement (slot_in positions l.slot) (start + l.at + 4) ≡ number32 by = ap (λ s. displacement (slot_in positions s) (start + l.at + 4)) this ∙ ap (displacement (slot_in positions k)) from ∙ way in
+          let d : displacement_bytes (slot_in positions l.slot) (start + l.at + 4) ≡ number32 by = ap (λ s. displacement_bytes (slot_in positions s) (start + l.at + 4)) this ∙ ap (displacement_bytes (slot_in positions k)) from ∙ way in
           unlinked_stays positions start is slots off (make (pos 0)) there (make by) (sized by) (Some l.at) ls _ x.1
           (ap (link_before ls) (sym ends) ∙ no_later (found is) slots l.at l.at ls (omega arith) x.1)
-          (filled bs (displacement (slot_in positions l.slot) (start + l.at + 4)) l.at off by ends d h)
+          (filled bs (displacement_bytes (slot_in positions l.slot) (start + l.at + 4)) l.at off by ends d h)
       by_test later false same f =
           later f
           (one_aside positions start is slots off (make (pos 0)) there (make (pos 0)) refl l (slot_in positions l.slot) (start + l.at + 4) bs (good_parts before (found is) slots l x.0).0 (eqb-false (l.at + 4) end same) h)
 
 -- a jump with a link
-pub jump_leads : (positions : List ℕ) (start : ℕ) (is : List Instr) (slots off : ℕ) → IsIn 0 is off (Jmp (pos 0)) → (k : ℕ) (by : ℤ) → displacement (slot_in positions k) (start + (off + 5)) ≡ number32 by →
+pub jump_leads : (positions : List ℕ) (start : ℕ) (is : List Instr) (slots off : ℕ) → IsIn 0 is off (Jmp (pos 0)) → (k : ℕ) (by : ℤ) → displacement_bytes (slot_in positions k) (start + (off + 5)) ≡ number32 by →
     (ls : List Link) (bs : List ℕ) → bad_links None (found is) slots ls ≡ [] → link_before ls (off + 5) ≡ Some k → Front (drop off bs) (Jmp (pos 0)) → Front (drop off (linked positions start ls bs)) (Jmp by)
 jump_leads positions start is slots off there k by way ls bs e f h = linked_leads positions start is slots off Jmp jump_filled (λ x. refl) there k by way None ls bs e f h
 
 -- a conditional branch with a link
-pub test_leads : (positions : List ℕ) (start : ℕ) (is : List Instr) (slots off : ℕ) (c : Cond) → IsIn 0 is off (Jcc c (pos 0)) → (k : ℕ) (by : ℤ) → displacement (slot_in positions k) (start + (off + 6)) ≡ number32 by →
+pub test_leads : (positions : List ℕ) (start : ℕ) (is : List Instr) (slots off : ℕ) (c : Cond) → IsIn 0 is off (Jcc c (pos 0)) → (k : ℕ) (by : ℤ) → displacement_bytes (slot_in positions k) (start + (off + 6)) ≡ number32 by →
     (ls : List Link) (bs : List ℕ) → bad_links None (found is) slots ls ≡ [] → link_before ls (off + 6) ≡ Some k → Front (drop off bs) (Jcc c (pos 0)) → Front (drop off (linked positions start ls bs)) (Jcc c by)
 test_leads positions start is slots off c there k by way ls bs e f h = linked_leads positions start is slots off (Jcc c) (test_filled c) (λ x. refl) there k by way None ls bs e f h

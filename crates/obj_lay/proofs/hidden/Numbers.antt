@@ -5,7 +5,7 @@ use Rattle.std.proofs.lemmas.Bool.{leb-true, leb-false}
 use Rattle.rd_num.specs.Number.{le_bytes}
 use Rattle.x86_core.specs.Arithmetic.{moved}
 use Rattle.x86_core.specs.Encoding.{number32, IsNumber32}
-use Rattle.obj_core.specs.Placement.{displacement}
+use Rattle.obj_core.specs.Placement.{displacement_bytes}
 
 -- the way from an address to another
 abbrev pub between : ℕ → ℕ → ℤ
@@ -51,7 +51,7 @@ by_order to from false e a b c =
     ap (le_bytes 4) same ∙ four_above (2 ^ 32 - suc (from - to - 1)) 4294967295
 
 -- and so for any two near addresses
-pub displacement_between : (to from : ℕ) → from < 2 ^ 63 → to < 2 ^ 63 → from ≤ to + 2 ^ 31 → displacement to from ≡ number32 (between to from)
+pub displacement_between : (to from : ℕ) → from < 2 ^ 63 → to < 2 ^ 63 → from ≤ to + 2 ^ 31 → displacement_bytes to from ≡ number32 (between to from)
 displacement_between to from a b c = by_order to from (nat_le from to) refl a b c
 
 -- a branch within a function leads as far in a layout

@@ -12,26 +12,26 @@ use Rattle.obj_core.specs.declared.object.CodeAt.{CodeAt}
 use Rattle.obj_core.specs.declared.object.Place.{Place}
 use Rattle.obj_core.specs.Slots.{slot_start, slot_purpose, positions}
 use Rattle.obj_core.specs.WellFormed.{AreFew}
-use Rattle.obj_core.specs.Placement.{order_purpose, gap_purpose, Piece, whole, pieces, piece, order, inverse, place_of, code_base, placed, starts_from, starts, address}
+use Rattle.obj_core.specs.Placement.{order_purpose, gap_purpose, Piece, whole, pieces, piece, order, inverse, index_in, code_base, pieces_in, starts_from, starts, address}
 use Rattle.obj_core.specs.Layout.{code_from, code_bytes, linked}
 use Rattle.obj_core.proofs.Pieces.{pieces_as_many}
-use Rattle.obj_core.proofs.Orders.{StandsAt, shuffled_stands, place_again, index_below, inverse_index, inverse_get}
+use Rattle.obj_core.proofs.Orders.{IsListed, shuffled_stands, place_again, index_below, inverse_index, inverse_get}
 use Rattle.obj_core.proofs.Totals.{piece_len, order_sum, order_long, order_as_many}
 use Rattle.obj_lay.proofs.hidden.Standing.{piece_stands, piece_below, piece_is, address_known}
 
 module _ (o : Object) (seed : ℕ) where
   -- where a function starts
   unfoldable pub start : ℕ → ℕ
-  start n = slice_index (starts o seed) (place_of (order o seed) n)
+  start n = slice_index (starts o seed) (index_in (order o seed) n)
 
   -- each function has a place in the order
-  order_stands : (n : ℕ) → n < length o.functions → StandsAt (order o seed) n
+  order_stands : (n : ℕ) → n < length o.functions → IsListed (order o seed) n
   unfolding order
   order_stands n lt = shuffled_stands (keystream_word seed order_purpose 0) (length (pieces o.functions)) n (let long = pieces_as_many o.functions in omega (arith, long, lt))
 
   -- the pieces in their order
   abbrev row : List Piece
-  row = placed o.functions (order o seed)
+  row = pieces_in o.functions (order o seed)
 
   -- the words that are drawn for gaps
   abbrev words : ℕ → ℕ
@@ -48,11 +48,11 @@ module _ (o : Object) (seed : ℕ) where
   code_is = refl
 
   -- a function in the row
-  row_has : (n : ℕ) (f : Func) → slice_get o.functions n ≡ Some f → slice_get row (place_of (order o seed) n) ≡ Some (whole n f)
+  row_has : (n : ℕ) (f : Func) → slice_get o.functions n ≡ Some f → slice_get row (index_in (order o seed) n) ≡ Some (whole n f)
   row_has n f e =
       let x = order_stands n (slice_get_within o.functions n f e) in
-      slice_get-map (piece o.functions) (order o seed) (place_of (order o seed) n) ∙
-      ap (option_map (piece o.functions)) (slice_get-get_or (order o seed) (place_of (order o seed) n) 0 x.within ∙ ap Some x.there) ∙
+      slice_get-map (piece o.functions) (order o seed) (index_in (order o seed) n) ∙
+      ap (option_map (piece o.functions)) (slice_get-get_or (order o seed) (index_in (order o seed) n) 0 x.within ∙ ap Some x.there) ∙
       ap Some (piece_is o.functions n f e)
 
   -- a function in the code
@@ -65,10 +65,10 @@ module _ (o : Object) (seed : ℕ) where
   pub func_stands : (n : ℕ) (f : Func) → AreFew o → slice_get o.functions n ≡ Some f → FuncStands n f
   unfolding start
   func_stands n f few e =
-      let x = piece_stands (positions o) words 1 (code_base seed) row (place_of (order o seed) n) (whole n f) (row_has n f e) in
-      let reach = piece_below words 1 (code_base seed) row (place_of (order o seed) n) (whole n f) (row_has n f e) in
-      let same : start n ≡ slice_index (starts_from words 1 (code_base seed) row) (place_of (order o seed) n) = ap (λ ss. slice_index ss (place_of (order o seed) n)) starts_are in
-      let from : code_base seed ≤ slice_index (starts_from words 1 (code_base seed) row) (place_of (order o seed) n) = x.from in
+      let x = piece_stands (positions o) words 1 (code_base seed) row (index_in (order o seed) n) (whole n f) (row_has n f e) in
+      let reach = piece_below words 1 (code_base seed) row (index_in (order o seed) n) (whole n f) (row_has n f e) in
+      let same : start n ≡ slice_index (starts_from words 1 (code_base seed) row) (index_in (order o seed) n) = ap (λ ss. slice_index ss (index_in (order o seed) n)) starts_are in
+      let from : code_base seed ≤ slice_index (starts_from words 1 (code_base seed) row) (index_in (order o seed) n) = x.from in
       let whole_size : sum_by piece_len row ≡ sum (map (λ (f : Func). length f.bytes) o.functions) = order_sum o seed ∙ sym (sum-map (λ (f : Func). length f.bytes) o.functions) in
       let long : length row ≡ length o.functions = order_long o seed in
       let code : sum (map (λ (f : Func). length f.bytes) o.functions) ≤ 67108864 = few.code in
@@ -80,7 +80,7 @@ module _ (o : Object) (seed : ℕ) where
         more = x.more;
         bytes =
             ap (λ s. drop (s - code_base seed) (code_bytes o seed)) same ∙
-            ap (drop (slice_index (starts_from words 1 (code_base seed) row) (place_of (order o seed) n) - code_base seed)) code_is ∙
+            ap (drop (slice_index (starts_from words 1 (code_base seed) row) (index_in (order o seed) n) - code_base seed)) code_is ∙
             x.bytes ∙
             ap (λ s. linked (positions o) s f.links f.bytes ++ x.more) (sym same);
       }

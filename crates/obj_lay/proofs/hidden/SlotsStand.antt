@@ -16,13 +16,13 @@ use Rattle.obj_core.specs.Slots.{slot_base, slot_start}
 use Rattle.obj_core.specs.Disassembly.{size_of}
 use Rattle.obj_core.specs.SymbolicMachine.{at_code}
 use Rattle.obj_core.specs.WellFormed.{is_start, is_good_slot, IsWellFormed}
-use Rattle.obj_lay.specs.Placed.{IsAt, IsAtTo}
+use Rattle.obj_lay.specs.Held.{IsAt, IsAtTo}
 use Rattle.obj_lay.specs.Places.{is_code_place, SlotBytes}
 use Rattle.obj_lay.proofs.lockstep.Starts.{is_start_code}
 use Rattle.obj_core.proofs.Kept.{slot_keeps}
 use Rattle.obj_lay.proofs.lockstep.Rules.{function_starts}
-use Rattle.obj_core.specs.Placement.{filler, displacement, start_of, code_base, address}
-use Rattle.obj_core.specs.Layout.{jump, trampoline, code_bytes, slot_bytes}
+use Rattle.obj_core.specs.Placement.{filler, displacement_bytes, start_of, code_base, address}
+use Rattle.obj_core.specs.Layout.{jump, trampoline, code_bytes, trampoline_bytes}
 use Rattle.obj_lay.proofs.hidden.Instrs.{Front}
 use Rattle.obj_lay.proofs.hidden.Numbers.{between, between_leads, between_fits, displacement_between}
 use Rattle.obj_lay.proofs.hidden.Executable.{in_slots}
@@ -54,18 +54,18 @@ module _ (o : Object) (w : IsWellFormed o) (seed : ℕ) where
         let x = slot_there o seed k (slice_get_within o.slots k s there) in
         let y = h x.0 in
         let split : slot_start o k + at - slot_base ≡ (slot_start o k - slot_base) + at = omega arith in
-        in_slots (slot_bytes o seed) (code_base seed) (code_bytes o seed) (slot_start o k + at) i is (omega arith) (record {
+        in_slots (trampoline_bytes o seed) (code_base seed) (code_bytes o seed) (slot_start o k + at) i is (omega arith) (record {
           more = y.more;
           begins =
-              ap (λ n. drop n (slot_bytes o seed)) split ∙
-              sym (drop-drop at (slot_start o k - slot_base) (slot_bytes o seed)) ∙
+              ap (λ n. drop n (trampoline_bytes o seed)) split ∙
+              sym (drop-drop at (slot_start o k - slot_base) (trampoline_bytes o seed)) ∙
               ap (drop at) (x.1 ∙ ap (λ z. trampoline (address o seed) (slot_start o k) z ++ x.0) there) ∙
               y.begins;
         })
 
     -- a jump or a call of the slot
     leads : (make : ℤ → Instr) (at : ℕ) → at ≤ 5 → (n off : ℕ) → Starts n off → ((x : ℤ) → size_of (make x) ≡ 5) → ((x : ℤ) → IsNumber32 x → IsInstr (make x)) →
-        ((by : ℤ) → displacement (address o seed (record { function = n; offset = off })) (slot_start o k + (at + 5)) ≡ number32 by → (more : List ℕ) → Front (drop at (bytes_of k s ++ more)) (make by)) →
+        ((by : ℤ) → displacement_bytes (address o seed (record { function = n; offset = off })) (slot_start o k + (at + 5)) ≡ number32 by → (more : List ℕ) → Front (drop at (bytes_of k s ++ more)) (make by)) →
         IsAtTo (exec o w seed) (at_place o w seed (Place.Slot k at)) make (at_place o w seed (Place.Code n off))
     leads make at le n off ok sized fits fill =
         let x = near_code o w seed n off ok in
@@ -73,7 +73,7 @@ module _ (o : Object) (w : IsWellFormed o) (seed : ℕ) where
         let high_to : start o seed n + off ≤ 1412000000 = x.high in
         let below = low in
         let bytes =
-        ap (λ to. displacement to (slot_start o k + (at + 5))) x.given ∙
+        ap (λ to. displacement_bytes to (slot_start o k + (at + 5))) x.given ∙
         displacement_between (start o seed n + off) (slot_start o k + (at + 5)) (omega (arith, below, le)) (omega (arith, high_to)) (omega (arith, below, le)) in
         let size = sized (between (start o seed n + off) (slot_start o k + (at + 5))) in
         let end : slot_start o k + at + size_of (make (between (start o seed n + off) (slot_start o k + (at + 5)))) ≡ slot_start o k + (at + 5) = omega (arith, size) in

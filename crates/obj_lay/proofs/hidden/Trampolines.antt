@@ -6,7 +6,7 @@ use Rattle.obj_core.specs.declared.object.Slot.{Slot}
 use Rattle.obj_core.specs.declared.object.CodeAt.{CodeAt}
 use Rattle.obj_core.specs.Slots.{slot_base, slot_start, positions}
 use Rattle.obj_core.specs.Placement.{slot_in, inverse, address}
-use Rattle.obj_core.specs.Layout.{trampoline, trampolines, slot_bytes}
+use Rattle.obj_core.specs.Layout.{trampoline, trampolines, trampoline_bytes}
 use Rattle.obj_lay.proofs.hidden.Instrs.{drop_behind}
 use Rattle.obj_lay.proofs.Lengths.{slot_long}
 use Rattle.obj_lay.proofs.hidden.Places.{slot_place}
@@ -25,9 +25,9 @@ module _ (code : CodeAt → ℕ) (at : List ℕ) (slots : List Slot) where
 
 module _ (o : Object) (seed : ℕ) where
   -- a slot's sixteen bytes
-  pub slot_there : (k : ℕ) → k < length o.slots → (more : List ℕ) × (drop (slot_start o k - slot_base) (slot_bytes o seed) ≡ trampoline (address o seed) (slot_start o k) (slice_get o.slots k) ++ more)
-  unfolding slot_bytes
+  pub slot_there : (k : ℕ) → k < length o.slots → (more : List ℕ) × (drop (slot_start o k - slot_base) (trampoline_bytes o seed) ≡ trampoline (address o seed) (slot_start o k) (slice_get o.slots k) ++ more)
+  unfolding trampoline_bytes
   slot_there k lt =
       let x = one_there (address o seed) (positions o) o.slots (inverse (positions o)) (slice_index (positions o) k) k (slot_place o seed k lt) in
       let less : slot_start o k - slot_base ≡ 16 * slice_index (positions o) k = omega arith in
-      (x.0, ap (λ n. drop n (slot_bytes o seed)) less ∙ x.1)
+      (x.0, ap (λ n. drop n (trampoline_bytes o seed)) less ∙ x.1)

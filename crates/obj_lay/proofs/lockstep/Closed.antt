@@ -22,9 +22,9 @@ use Rattle.obj_core.specs.Disassembly.{IsDisassembly, found, starts_at, spelled,
 use Rattle.obj_core.specs.WellFormed.{forbidden_in, bad_branches, open_end, is_slots_own, displacement, is_linked, goes_well, is_end, is_start, is_good_slot, IsWellFormed}
 use Rattle.obj_core.specs.SymbolicMachine.{link_before, target, at_code}
 use Rattle.obj_core.proofs.Spelling.{spelled-append, each_right}
-use Rattle.obj_lay.specs.Placed.{IsAt, IsAtTo, HasInstr, Leads, FallsThrough, CodeStands, Idles, SlotStands, HasSlot, Placed}
-use Rattle.obj_lay.specs.Places.{is_code_place, is_slot_place, is_step_place, CodeBytes, SlotBytes, IsLaid}
-use Rattle.obj_lay.proofs.lockstep.Starts.{is_start_code, IsIn, start_is_in, none_of_slots, branch_goes, goes_on, next_start}
+use Rattle.obj_lay.specs.Held.{IsAt, IsAtTo, HasInstr, Leads, FallsThrough, CodeStands, Idles, SlotStands, HasSlot, HoldsPlaces}
+use Rattle.obj_lay.specs.Places.{is_code_place, is_slot_place, is_step_place, CodeBytes, SlotBytes, HoldsInstrs}
+use Rattle.obj_lay.proofs.lockstep.Starts.{is_start_code, SplitsAt, start_splits, none_of_slots, branch_goes, goes_on, next_start}
 use Rattle.obj_core.proofs.Kept.{function_keeps, slot_keeps}
 use Rattle.obj_lay.proofs.lockstep.Rules.{function_of_disassembly, function_starts, LinkSays, link_says}
 
@@ -56,13 +56,13 @@ pub slot_fits : (o : Object) (k : ℕ) → length o.slots ≤ 1048576 → k < le
 slot_fits o k few lt = omega (arith, few, position_below o k lt)
 
 -- the bytes of a function from an instruction on
-pub bytes_from : (bytes : List ℕ) (instrs : List Instr) (off : ℕ) → IsDisassembly bytes instrs → (h : IsIn instrs 0 off) → drop off bytes ≡ encoding h.instr ++ spelled h.after
+pub bytes_from : (bytes : List ℕ) (instrs : List Instr) (off : ℕ) → IsDisassembly bytes instrs → (h : SplitsAt instrs 0 off) → drop off bytes ≡ encoding h.instr ++ spelled h.after
 bytes_from bytes instrs off c h =
     let split : bytes ≡ spelled h.before ++ (encoding h.instr ++ spelled h.after) = sym c.whole ∙ ap spelled h.split ∙ spelled-append h.before (h.instr ∷ h.after) in
     ap (drop off) split ∙ drop_at (spelled h.before) (encoding h.instr ++ spelled h.after) off (omega (arith, h.offset))
 
 -- the instruction of a disassembly is in range
-pub instr_from : (bytes : List ℕ) (instrs : List Instr) (off : ℕ) → IsDisassembly bytes instrs → (h : IsIn instrs 0 off) → IsInstr h.instr
+pub instr_from : (bytes : List ℕ) (instrs : List Instr) (off : ℕ) → IsDisassembly bytes instrs → (h : SplitsAt instrs 0 off) → IsInstr h.instr
 instr_from bytes instrs off c h = (each_right IsInstr h.before (h.instr ∷ h.after) (subst (Each IsInstr) h.split c.instructions)).0
 
 module _ (o : Object) (well : IsWellFormed o) where
@@ -84,7 +84,7 @@ module _ (o : Object) (well : IsWellFormed o) where
   start_is : (f : ℕ) → nat_lt f (length well.disassemblies) ≡ true → IsPlace (Place.Code f 0)
   start_is f h = function_starts o.functions well.disassemblies well.disassembled f (ltb-true f (length well.disassemblies) h)
 
-  module _ (exec : List Segment) (place : Place → ℕ) (laid : IsLaid exec place o well.disassemblies) where
+  module _ (exec : List Segment) (place : Place → ℕ) (laid : HoldsInstrs exec place o well.disassemblies) where
     abbrev Stands : Func → ℕ → ℕ → Instr → Type 0
     Stands = CodeStands exec place (is_step_place o well.disassemblies) o
 
@@ -115,7 +115,7 @@ module _ (o : Object) (well : IsWellFormed o) where
     code_here n off None d h = absurd (cc)
     code_here n off (Some instrs) d h =
         let c = function_of_disassembly o.functions well.disassemblies well.disassembled n instrs d in
-        let p = start_is_in instrs 0 off h in
+        let p = start_splits instrs 0 off h in
         let keeps = function_keeps o well.disassemblies well.kept n c.func instrs c.found d in
         let here : IsPlace (Place.Code n off) = ap (λ y. is_code_place y off) d ∙ h in
         let s : HasInstr o n off = record { func = c.func; found = c.found; instr = p.instr; is_instr = instr_from c.func.bytes instrs off c.is_disassembly p; rest = spelled p.after; bytes = bytes_from c.func.bytes instrs off c.is_disassembly p } in
@@ -191,8 +191,8 @@ module _ (o : Object) (well : IsWellFormed o) where
       }
 
     -- bytes that hold the instructions hold the object
-    pub laid_placed : Placed exec place (is_step_place o well.disassemblies) o
-    laid_placed = record {
+    pub instrs_held : HoldsPlaces exec place (is_step_place o well.disassemblies) o
+    instrs_held = record {
       hidden = laid.hidden;
       code = λ n off h. code_here n off (slice_get well.disassemblies n) refl h;
       slots = λ k at h. slot_here k at (slice_get o.slots k) refl h;

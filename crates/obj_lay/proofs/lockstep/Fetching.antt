@@ -19,7 +19,7 @@ use Rattle.obj_core.specs.declared.object.Place.{Place}
 use Rattle.obj_core.specs.Slots.{slot_start}
 use Rattle.obj_core.specs.Disassembly.{size_of}
 use Rattle.obj_core.specs.SymbolicMachine.{link_before, target, by_decoded, in_function, in_slot, at_code, symbolic_fetch}
-use Rattle.obj_lay.specs.Placed.{IsAt, HasInstr, Leads, CodeStands, Idles, SlotStands, Placed}
+use Rattle.obj_lay.specs.Held.{IsAt, HasInstr, Leads, CodeStands, Idles, SlotStands, HoldsPlaces}
 use Rattle.obj_lay.proofs.lockstep.Natural.{addressed, StaysWithin}
 
 -- the instruction that the machine reads at an address
@@ -126,13 +126,13 @@ module _ (exec : List Segment) (place : Place → ℕ) (is_place : Place → Boo
         subst (λ x. Alike x (machine_fetch exec (place (Place.Slot k at)))) (sym (system_idles at back h.0 h.1)) (idles at h.1 e h.2)
     slot_alike at e (Slot.System back) (inr (inr h)) = subst (At (Slot.System back)) (sym h.0) (jumps 5 (at_code back) h.1)
 
-  module _ (placed : Placed exec place is_place o) where
+  module _ (held : HoldsPlaces exec place is_place o) where
     -- at each place
     pub fetches_same : (p : Place) → is_place p ≡ true → FetchesSame place is_place (symbolic_fetch o p) (machine_fetch exec (place p))
     fetches_same (Place.Code n off) ok =
-        let h = placed.code n off ok in
+        let h = held.code n off ok in
         subst (λ x. Alike x (machine_fetch exec (place (Place.Code n off)))) (sym (read_in_function o n off h.0)) (code_alike h.0.func n off h.0.instr h.1)
     fetches_same (Place.Slot k at) ok =
-        let h = placed.slots k at ok in
+        let h = held.slots k at ok in
         subst (λ s. Alike (in_slot s o k at) (machine_fetch exec (place (Place.Slot k at)))) (sym h.found)
-        (slot_alike k h.fits (λ n i. (placed.slots k n i).address) at h.address h.slot h.stands)
+        (slot_alike k h.fits (λ n i. (held.slots k n i).address) at h.address h.slot h.stands)

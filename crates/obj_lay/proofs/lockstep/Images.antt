@@ -16,7 +16,7 @@ use Rattle.x86_core.specs.Machine.{machine_step, machine_segments, machine_start
 use Rattle.obj_core.specs.declared.object.Object.{Object}
 use Rattle.obj_core.specs.declared.object.Place.{Place}
 use Rattle.obj_core.specs.SymbolicMachine.{symbolic_step, symbolic_start, symbolic_run, symbolic_behavior}
-use Rattle.obj_lay.specs.Placed.{HoldsObject}
+use Rattle.obj_lay.specs.Held.{HoldsObject}
 use Rattle.obj_lay.specs.Mirrors.{Mirrors}
 use Rattle.obj_lay.proofs.lockstep.Lockstep.{run_shows}
 
@@ -24,8 +24,8 @@ module _ (image : Image) (place : Place → ℕ) (is_place : Place → Bool) (o 
   -- both begin at slot 0
   start_mirrors : (input : List ℕ) → Mirrors (code_of (machine_segments image)) place is_place (symbolic_start o input) (machine_start image input)
   start_mirrors input =
-      let first = h.placed.landing 0 h.some_slot in
-      let address = (h.placed.slots 0 0 first.start).address in
+      let first = h.places.landing 0 h.some_slot in
+      let address = (h.places.slots 0 0 first.start).address in
       let entry : image.entry ≡ place (Place.Slot 0 0) = omega (arith, h.entry, address) in
       record {
         segments = machine_segments image;
@@ -36,7 +36,7 @@ module _ (image : Image) (place : Place → ℕ) (is_place : Place → Bool) (o 
       }
 
   pub image_shows : (input : List ℕ) (acts : List Act) → (symbolic_run o input acts).ending ≢ Strayed → observe (machine_run image input acts) ≡ observe (symbolic_run o input acts)
-  image_shows input acts straight = run_shows (code_of (machine_segments image)) place is_place o h.placed acts (symbolic_start o input) (machine_start image input) (start_mirrors input) straight
+  image_shows input acts straight = run_shows (code_of (machine_segments image)) place is_place o h.places acts (symbolic_start o input) (machine_start image input) (start_mirrors input) straight
 
   -- after each step the same moment
   pub image_agrees : (input : List ℕ) (n : ℕ) → (symbolic_behavior o input n).ending ≢ Strayed → Agrees (symbolic_behavior o input n) (machine_behavior image input n)

@@ -13,10 +13,10 @@ use Rattle.obj_core.specs.declared.object.Object.{Object}
 use Rattle.obj_core.specs.declared.object.Place.{Place}
 use Rattle.obj_core.specs.Slots.{slot_base, positions}
 use Rattle.obj_core.specs.SymbolicMachine.{landing_from, symbolic_fetch, symbolic_land, symbolic_step}
-use Rattle.obj_lay.specs.Placed.{Placed}
+use Rattle.obj_lay.specs.Held.{HoldsPlaces}
 use Rattle.obj_lay.specs.Mirrors.{at_address, Mirrors}
 use Rattle.obj_lay.proofs.lockstep.Segments.{code_same, readable_same}
-use Rattle.obj_lay.proofs.lockstep.Natural.{addressed, StandsAt, act_mirrors, write_act_mirrors}
+use Rattle.obj_lay.proofs.lockstep.Natural.{addressed, IsPlaceAt, act_mirrors, write_act_mirrors}
 use Rattle.obj_core.proofs.Landing.{positions_long}
 use Rattle.obj_core.proofs.Strays.{strayed_over}
 use Rattle.obj_lay.proofs.lockstep.Fetching.{fetches_same}
@@ -30,12 +30,12 @@ module _ (place : Place → ℕ) (is_place : Place → Bool) where
     back_is : is_place (Place.Slot k 5) ≡ true
 
   -- the place of a word by a test, or one that is found later
-  tested : (w n : ℕ) (p : Place) (rest : Option Place) → place p ≡ n → is_place p ≡ true → StandsAt place is_place w rest → (t : Bool) → nat_eq w n ≡ t → StandsAt place is_place w (if t then Some p else rest)
+  tested : (w n : ℕ) (p : Place) (rest : Option Place) → place p ≡ n → is_place p ≡ true → IsPlaceAt place is_place w rest → (t : Bool) → nat_eq w n ≡ t → IsPlaceAt place is_place w (if t then Some p else rest)
   tested w n p rest e k h true same = (e ∙ sym (eqb-true w n same), k)
   tested w n p rest e k h false same = h
 
   -- a word leads to a place that stands at it
-  landing_stands : (ps : List ℕ) (k w : ℕ) → ((i : ℕ) → i < length ps → IsKnown (k + i) (slice_index ps i)) → StandsAt place is_place w (landing_from ps k w)
+  landing_stands : (ps : List ℕ) (k w : ℕ) → ((i : ℕ) → i < length ps → IsKnown (k + i) (slice_index ps i)) → IsPlaceAt place is_place w (landing_from ps k w)
   landing_stands [] k w known = tt
   landing_stands (p ∷ ps) k w known =
       let none : k + 0 ≡ k = omega arith in
@@ -45,21 +45,21 @@ module _ (place : Place → ℕ) (is_place : Place → Bool) where
       (tested w _ (Place.Slot k 5) _ first.back first.back_is others (nat_eq w (slot_base + 16 * p + 5)) refl)
       (nat_eq w (slot_base + 16 * p)) refl
 
-module _ (exec : List Segment) (place : Place → ℕ) (is_place : Place → Bool) (o : Object) (placed : Placed exec place is_place o) where
+module _ (exec : List Segment) (place : Place → ℕ) (is_place : Place → Bool) (o : Object) (held : HoldsPlaces exec place is_place o) where
   abbrev R : State Place → State ℕ → Type 0
   R = Mirrors exec place is_place
 
   -- each slot is known
   slot_known : (i : ℕ) → i < length (positions o) → IsKnown place is_place (0 + i) (slice_index (positions o) i)
   slot_known i lt =
-      let h = placed.landing i (omega (arith, lt, positions_long o)) in
-      let start = (placed.slots i 0 h.start).address in
+      let h = held.landing i (omega (arith, lt, positions_long o)) in
+      let start = (held.slots i 0 h.start).address in
       let none : i ≡ 0 + i = omega arith in
       subst (λ j. IsKnown place is_place j (slice_index (positions o) i)) none
-      (record { start = omega (arith, start); start_is = h.start; back = (placed.slots i 5 h.back).address; back_is = h.back })
+      (record { start = omega (arith, start); start_is = h.start; back = (held.slots i 5 h.back).address; back_is = h.back })
 
   -- a word is the address of its landing place
-  lands : (w : ℕ) → StandsAt place is_place w (symbolic_land o w)
+  lands : (w : ℕ) → IsPlaceAt place is_place w (symbolic_land o w)
   lands w = landing_stands place is_place (positions o) 0 w slot_known
 
   -- a step of a run that goes on, and of one that has stopped
@@ -68,10 +68,10 @@ module _ (exec : List Segment) (place : Place → ℕ) (is_place : Place → Boo
       let b = at_address place segments a in
       a2.ending ≢ Strayed → R a2 (if_going e (act Some (machine_fetch segments (place a.place)) b) b)
   by_ending Going a segments readable runs here straight =
-      let x = fetches_same exec place is_place o placed a.place here in
+      let x = fetches_same exec place is_place o held a.place here in
       let same : machine_fetch segments (place a.place) ≡ addressed place (symbolic_fetch o a.place) = ap (by_bytes (place a.place)) (code_same segments (place a.place) ∙ ap (λ ss. code_at ss (place a.place)) runs) ∙ x.same in
       subst (λ y. R (act (symbolic_land o) (symbolic_fetch o a.place) a) (act Some y (at_address place segments a))) (sym same)
-      (act_mirrors exec placed.hidden place is_place a segments readable runs here (symbolic_land o) lands (symbolic_fetch o a.place) x.within straight)
+      (act_mirrors exec held.hidden place is_place a segments readable runs here (symbolic_land o) lands (symbolic_fetch o a.place) x.within straight)
   by_ending e a segments readable runs here straight = record { segments = segments; same = refl; readable = readable; runs = runs; here = here }
 
   -- one step
@@ -85,7 +85,7 @@ module _ (exec : List Segment) (place : Place → ℕ) (is_place : Place → Boo
   acted_mirrors (Write at []) a b r straight = r
   acted_mirrors (Write at (n ∷ ns)) a b r straight =
       subst (λ t. R (wrote (write_at a.segments at (n ∷ ns)) a) (wrote (write_at t.segments at (n ∷ ns)) t)) (sym r.same)
-      (write_act_mirrors exec placed.hidden place is_place a r.segments r.readable r.runs r.here at (n ∷ ns))
+      (write_act_mirrors exec held.hidden place is_place a r.segments r.readable r.runs r.here at (n ∷ ns))
 
   -- any list of acts
   pub run_mirrors : (acts : List Act) (a : State Place) (b : State ℕ) → Mirrors exec place is_place a b → (run_over (symbolic_step o) acts a).ending ≢ Strayed → Mirrors exec place is_place (run_over (symbolic_step o) acts a) (run_over machine_step acts b)

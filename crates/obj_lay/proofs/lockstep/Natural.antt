@@ -18,7 +18,7 @@ use Rattle.x86_core.specs.Memory.{read_at, write_at, data_of, code_of}
 use Rattle.x86_core.specs.Step.{State, Fetched, Stops, Plain, Goes, Tests, Calls, Returns, Follows, CallsWord, Systems, size_bytes, after_read, after_write, by_access, by_change, tested, landed, returned, below, called, called_word, after_print, after_take, next_byte, Request, Exits, Idles, Prints, Takes, Unknowns, request_of, served, act}
 use Rattle.x86_core.specs.Run.{wrote}
 use Rattle.obj_core.specs.declared.object.Place.{Place}
-use Rattle.obj_lay.specs.Placed.{AreHidden}
+use Rattle.obj_lay.specs.Held.{AreHidden}
 use Rattle.obj_lay.specs.Mirrors.{at_address, Mirrors}
 use Rattle.obj_lay.proofs.lockstep.Segments.{read_same, write_same, data_after, CodeStays, code_stays}
 
@@ -47,9 +47,9 @@ StaysWithin is_place (CallsWord back) = Unit {0}
 StaysWithin is_place (Systems after back) = is_place after ≡ true
 
 -- the place of a word is one, and stands at the word
-abbrev pub StandsAt : (Place → ℕ) → (Place → Bool) → ℕ → Option Place → Type 0
-StandsAt place is_place w None = Unit {0}
-StandsAt place is_place w (Some p) = (place p ≡ w) × (is_place p ≡ true)
+abbrev pub IsPlaceAt : (Place → ℕ) → (Place → Bool) → ℕ → Option Place → Type 0
+IsPlaceAt place is_place w None = Unit {0}
+IsPlaceAt place is_place w (Some p) = (place p ≡ w) × (is_place p ≡ true)
 
 module _ (exec : List Segment) (hidden : AreHidden exec) (place : Place → ℕ) (is_place : Place → Bool) (a : State Place) (segments : List Segment) (readable : data_of segments ≡ a.segments) (runs : code_of segments ≡ exec) (here : is_place a.place ≡ true) where
   -- the state of the machine
@@ -105,7 +105,7 @@ module _ (exec : List Segment) (hidden : AreHidden exec) (place : Place → ℕ)
   test_mirrors (Some false) to after k l = unwritten (tested (Some false) to after a) refl l
 
   -- to the place of a word
-  land_mirrors : (w : ℕ) (regs : List ℕ) (o : Option Place) → StandsAt place is_place w o → (landed o regs a).ending ≢ Strayed → R (landed o regs a) (landed (Some w) regs b)
+  land_mirrors : (w : ℕ) (regs : List ℕ) (o : Option Place) → IsPlaceAt place is_place w o → (landed o regs a).ending ≢ Strayed → R (landed o regs a) (landed (Some w) regs b)
   land_mirrors w regs None h straight = absurd (straight refl)
   land_mirrors w regs (Some p) h straight = subst (λ n. R (landed (Some p) regs a) (landed (Some n) regs b)) h.0 (unwritten (landed (Some p) regs a) refl h.1)
 
@@ -115,7 +115,7 @@ module _ (exec : List Segment) (hidden : AreHidden exec) (place : Place → ℕ)
   call_mirrors to k (Some ss) h = record { segments = ss; same = refl; readable = refl; runs = h; here = k }
 
   -- a call of a word
-  word_mirrors : (w : ℕ) (p : Option Place) → StandsAt place is_place w p → (o : Option (List Segment)) → CodeStays exec o → (called_word p (data_after o) a).ending ≢ Strayed → R (called_word p (data_after o) a) (called_word (Some w) o b)
+  word_mirrors : (w : ℕ) (p : Option Place) → IsPlaceAt place is_place w p → (o : Option (List Segment)) → CodeStays exec o → (called_word p (data_after o) a).ending ≢ Strayed → R (called_word p (data_after o) a) (called_word (Some w) o b)
   word_mirrors w p h None c straight = unwritten (called_word p None a) refl here
   word_mirrors w None h (Some ss) c straight = absurd (straight refl)
   word_mirrors w (Some p) h (Some ss) c straight =
@@ -139,7 +139,7 @@ module _ (exec : List Segment) (hidden : AreHidden exec) (place : Place → ℕ)
   serve_mirrors Takes after back k = over_write (word a.regs Rsi) (next_byte a.left ∷ []) (λ x y. R (after_take x a.left after back a) (after_take y a.left (place after) back b)) (take_mirrors a.left after back k)
   serve_mirrors Unknowns after back k = unwritten (served Unknowns after back a) refl here
 
-  module _ (land : ℕ → Option Place) (lands : (w : ℕ) → StandsAt place is_place w (land w)) where
+  module _ (land : ℕ → Option Place) (lands : (w : ℕ) → IsPlaceAt place is_place w (land w)) where
     -- a return
     return_mirrors : (o : Option (List ℕ)) → (returned land o a).ending ≢ Strayed → R (returned land o a) (returned Some o b)
     return_mirrors None straight = unwritten (returned land None a) refl here

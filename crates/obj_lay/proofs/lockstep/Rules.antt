@@ -11,13 +11,13 @@ use Rattle.obj_lay.specs.Places.{is_code_place}
 use Rattle.obj_core.proofs.Kept.{good_parts, good_first}
 
 -- a function and its disassembly have one number
-pub record HasDisassembly (fs : List Func) (n : ℕ) (instrs : List Instr) : Type 0 where
+pub record HasFunction (fs : List Func) (n : ℕ) (instrs : List Instr) : Type 0 where
   pub func : Func
   pub found : slice_get fs n ≡ Some func
   pub is_disassembly : IsDisassembly func.bytes instrs
 
 -- a disassembly has a function
-pub function_of_disassembly : (fs : List Func) (disassemblies : List (List Instr)) → AreDisassemblies fs disassemblies → (n : ℕ) (instrs : List Instr) → slice_get disassemblies n ≡ Some instrs → HasDisassembly fs n instrs
+pub function_of_disassembly : (fs : List Func) (disassemblies : List (List Instr)) → AreDisassemblies fs disassemblies → (n : ℕ) (instrs : List Instr) → slice_get disassemblies n ≡ Some instrs → HasFunction fs n instrs
 function_of_disassembly [] [] h n instrs e = absurd (cc)
 function_of_disassembly [] (c ∷ disassemblies) h n instrs e = absurd h
 function_of_disassembly (f ∷ fs) [] h n instrs e = absurd h

@@ -3,7 +3,7 @@ use Rattle.std.proofs.Common.{◌≡◌, ℕ, Bool, true, false, ◌&&◌, ◌||
 use Rattle.x86_core.specs.declared.image.Segment.{Segment}
 use Rattle.x86_core.specs.Memory.{executes, reads, writes, covers, read_at, with_bytes, behind, write_at, code_at, data_of, code_of}
 use Rattle.x86_core.specs.Observation.{readable}
-use Rattle.obj_lay.specs.Placed.{AreHidden}
+use Rattle.obj_lay.specs.Held.{AreHidden}
 
 -- a read sees data alone
 pub read_same : (ss : List Segment) (at n : ℕ) → read_at ss at n ≡ read_at (data_of ss) at n

@@ -17,7 +17,7 @@ pub is_start_code : (disassemblies : List (List Instr)) (c : CodeAt) → is_star
 is_start_code disassemblies c = refl
 
 -- an instruction of a row, and how far it stands from the start
-pub record IsIn (instrs : List Instr) (at off : ℕ) : Type 0 where
+pub record SplitsAt (instrs : List Instr) (at off : ℕ) : Type 0 where
   pub before : List Instr
   pub instr : Instr
   pub after : List Instr
@@ -25,7 +25,7 @@ pub record IsIn (instrs : List Instr) (at off : ℕ) : Type 0 where
   pub offset : off ≡ at + length (spelled before)
 
 -- an instruction of the others is one of the row
-further : (i : Instr) (is : List Instr) (at off : ℕ) → IsIn is (at + size_of i) off → IsIn (i ∷ is) at off
+further : (i : Instr) (is : List Instr) (at off : ℕ) → SplitsAt is (at + size_of i) off → SplitsAt (i ∷ is) at off
 further i is at off h = record {
   before = i ∷ h.before;
   instr = h.instr;
@@ -35,14 +35,14 @@ further i is at off h = record {
 }
 
 -- the first instruction, or one of the others
-by_first : (i : Instr) (is : List Instr) (at off : ℕ) (more : starts_at (found_from (at + size_of i) is) off ≡ true → IsIn is (at + size_of i) off) (t : Bool) → nat_eq at off ≡ t → (t || starts_at (found_from (at + size_of i) is) off) ≡ true → IsIn (i ∷ is) at off
+by_first : (i : Instr) (is : List Instr) (at off : ℕ) (more : starts_at (found_from (at + size_of i) is) off ≡ true → SplitsAt is (at + size_of i) off) (t : Bool) → nat_eq at off ≡ t → (t || starts_at (found_from (at + size_of i) is) off) ≡ true → SplitsAt (i ∷ is) at off
 by_first i is at off more true e h = let same = eqb-true at off e in record { before = []; instr = i; after = is; split = refl; offset = omega (arith, same) }
 by_first i is at off more false e h = further i is at off (more h)
 
 -- where a start is, an instruction is
-pub start_is_in : (instrs : List Instr) (at off : ℕ) → starts_at (found_from at instrs) off ≡ true → IsIn instrs at off
-start_is_in [] at off h = absurd (cc)
-start_is_in (i ∷ is) at off h = by_first i is at off (start_is_in is (at + size_of i) off) (nat_eq at off) refl h
+pub start_splits : (instrs : List Instr) (at off : ℕ) → starts_at (found_from at instrs) off ≡ true → SplitsAt instrs at off
+start_splits [] at off h = absurd (cc)
+start_splits (i ∷ is) at off h = by_first i is at off (start_splits is (at + size_of i) off) (nat_eq at off) refl h
 
 -- the offset behind the first of some instructions
 behind_first : (b : Instr) (bs : List Instr) (at off : ℕ) → off ≡ at + length (spelled (b ∷ bs)) → off ≡ at + size_of b + length (spelled bs)

@@ -1,7 +1,7 @@
 use Rattle.std.proofs.Common.{◌≡◌, ◌++◌, ◌+◌, ◌*◌, ◌≤◌, drop, length}
 use Rattle.std.specs.List.{sum_by}
 use Rattle.rd_draw.specs.Draw.{stream_key, keystream_word}
-use Rattle.obj_core.specs.Placement.{Piece, gap_purpose, placed, starts_from, code_base}
+use Rattle.obj_core.specs.Placement.{Piece, gap_purpose, pieces_in, starts_from, code_base}
 use Rattle.obj_core.specs.Plans.{end_from}
 use Rattle.obj_core.proofs.row.row_of.Given as goal
 
@@ -9,8 +9,8 @@ use Rattle.obj_core.proofs.row.row_of.Given as goal
 abbrev pub invariant-loop-number : goal.invariant-loop-number
 invariant-loop-number l =
     let words = keystream_word l.seed gap_purpose 0 in
-    let left = placed l.functions (drop l.number-index l.order) in
-    let all = placed l.functions l.order in
+    let left = pieces_in l.functions (drop l.number-index l.order) in
+    let all = pieces_in l.functions l.order in
     record {
       base : l.base ≡ code_base l.seed;
       ahead : l.base ≤ l.end;

@@ -1,11 +1,11 @@
-use Rattle.obj_file.specs.Faults.{Explains}
+use Rattle.obj_file.specs.Faults.{NamesFault}
 use Rattle.obj_file.proofs.Primitive.{at_exit}
 use Rattle.obj_file.proofs.NoObject.{explained, longer}
 use Rattle.obj_file.proofs.read.read.Goals as goal
 
 pub returns-in_err-part-clause-fault : goal.returns-in_err-part-clause-fault
 returns-in_err-part-clause-fault c =
-    at_exit _ _ (Explains c.args.bytes.now) c.from_residual.ensures.1
+    at_exit _ _ (NamesFault c.args.bytes.now) c.from_residual.ensures.1
     (explained c.args.bytes.now _ c.in_err-part.ensures.fault)
 
 pub returns-then-part-bytes-clause-fault : goal.returns-then-part-bytes-clause-fault

@@ -22,6 +22,6 @@ Judges o None = IsWellFormed o
 Judges o (Some b) = IsFirstViolation o (violation_of b)
 
 -- a fault names the first violation; want of memory says nothing of the object
-abbrev pub Explains : Object → ShapeFault → Type 0
-Explains o (ShapeFault.Rule rule spot offset) = IsFirstViolation o (record { rule = rule; spot = spot_of spot; offset = offset })
-Explains o ShapeFault.NoMemory = Unit {0}
+abbrev pub NamesViolation : Object → ShapeFault → Type 0
+NamesViolation o (ShapeFault.Rule rule spot offset) = IsFirstViolation o (record { rule = rule; spot = spot_of spot; offset = offset })
+NamesViolation o ShapeFault.NoMemory = Unit {0}

@@ -112,7 +112,7 @@ module _ (exec : List Segment) (place : Place → ℕ) (is_place : Place → Boo
     pub back : IsPlace (Place.Slot k 5)
 
   -- the executable bytes hold the object, with these addresses for its places
-  pub record Placed : Type 0 where
+  pub record HoldsPlaces : Type 0 where
     pub hidden : AreHidden exec
     pub code : (n off : ℕ) → IsPlace (Place.Code n off) → (s : HasInstr o n off) × CodeStands s.func n off s.instr
     pub slots : (k at : ℕ) → IsPlace (Place.Slot k at) → HasSlot k at
@@ -120,7 +120,7 @@ module _ (exec : List Segment) (place : Place → ℕ) (is_place : Place → Boo
 
 -- an image of an object: its executable segments hold the object, the others are the object's data, and it is entered at slot 0
 pub record HoldsObject (image : Image) (place : Place → ℕ) (is_place : Place → Bool) (o : Object) : Type 0 where
-  pub placed : Placed (code_of (machine_segments image)) place is_place o
+  pub places : HoldsPlaces (code_of (machine_segments image)) place is_place o
   pub readable : data_of (machine_segments image) ≡ data_segments o.ro o.rw
   pub entry : image.entry ≡ slot_start o 0
   pub some_slot : 0 < length o.slots
