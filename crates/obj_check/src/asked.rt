@@ -1,4 +1,9 @@
-//! What the rules ask of one instruction.
+//! What the rules ask of one instruction: whether it is a slot's own, an end or a branch, and its
+//! registers.
+//!
+//! Each function answers for one instruction alone and keeps nothing; `notes` puts the answers of a
+//! function's instructions together. The rules are those of `specs/WellFormed.antt` and, for
+//! registers, `specs/Saved.antt`, both of `obj_core`; a register is named by its number in the machine.
 
 ghost use Rattle.std.specs.Prelude.{◌≡◌, ◌≤◌, ◌||◌, nat_eq, [], ◌∷◌};
 ghost use Rattle.x86_core.specs.declared.reg.Reg.{Reg as Register};
@@ -59,7 +64,8 @@ pub fn is_push_or_pop(instr: &Instr) -> bool
 fn mark_register(table: &mut Table, reg: Reg)
     requires { 16 ≤ room table.old }
     ensures room { room table.new ≡ room table.old }
-    ensures marks { (r : Register) → marked table.new (number_of r) ≡ (nat_eq (number_of r) (number_of reg) || marked table.old (number_of r)) }
+    ensures marks { (r : Register) → marked table.new (number_of r) ≡
+        (nat_eq (number_of r) (number_of reg) || marked table.old (number_of r)) }
 {
     mark(table, number(reg) as usize);
 }
@@ -68,7 +74,8 @@ fn mark_register(table: &mut Table, reg: Reg)
 fn mark_one(table: &mut Table, reg: Reg)
     requires { 16 ≤ room table.old }
     ensures room { room table.new ≡ room table.old }
-    ensures marks { (r : Register) → marked table.new (number_of r) ≡ (is_among r (reg ∷ []) || marked table.old (number_of r)) }
+    ensures marks { (r : Register) → marked table.new (number_of r) ≡
+        (is_among r (reg ∷ []) || marked table.old (number_of r)) }
 {
     mark_register(table, reg);
 }
@@ -77,7 +84,8 @@ fn mark_one(table: &mut Table, reg: Reg)
 fn mark_two(table: &mut Table, a: Reg, b: Reg)
     requires { 16 ≤ room table.old }
     ensures room { room table.new ≡ room table.old }
-    ensures marks { (r : Register) → marked table.new (number_of r) ≡ (is_among r (a ∷ b ∷ []) || marked table.old (number_of r)) }
+    ensures marks { (r : Register) → marked table.new (number_of r) ≡
+        (is_among r (a ∷ b ∷ []) || marked table.old (number_of r)) }
 {
     mark_register(table, b);
     mark_register(table, a);
@@ -87,7 +95,8 @@ fn mark_two(table: &mut Table, a: Reg, b: Reg)
 pub fn mark_registers(table: &mut Table, instr: &Instr)
     requires { 16 ≤ room table.old }
     ensures room { room table.new ≡ room table.old }
-    ensures marks { (r : Register) → marked table.new (number_of r) ≡ (is_among r (registers_of instr.now) || marked table.old (number_of r)) }
+    ensures marks { (r : Register) → marked table.new (number_of r) ≡
+        (is_among r (registers_of instr.now) || marked table.old (number_of r)) }
 {
     match *instr {
         Instr::Mov(_, d, s)

@@ -1,5 +1,9 @@
 //! The rule of branches: links stand in order at displacements of 0 and name slots, and every other
 //! branch goes to the start of an instruction.
+//!
+//! A function and its notes come in, the least offset at which the rule fails goes out. The function is
+//! decoded once more, since a branch forwards can only be judged when all starts are known. Offsets
+//! count bytes from the function's start.
 
 ghost use Rattle.std.specs.Prelude.{◌≡◌, ◌++◌, ◌+◌, ◌≤◌, ◌||◌, if◌then◌else◌, None, IfOk, length};
 ghost use Rattle.x86_core.specs.Arithmetic.{moved};
@@ -27,7 +31,10 @@ pub fn first_bad_branch(
 ) -> Result<Option<u32>, NoMemory>
     requires noted { IsNoted function.now.bytes notes.now }
     requires few { length function.now.bytes ≤ 67108864 }
-    ensures { IfOk result (λ r. r ≡ least_with None (bad_links None (found (disassembly_of function.now.bytes)) slots function.now.links ++ bad_branches function.now.links (found (disassembly_of function.now.bytes)) (found (disassembly_of function.now.bytes)))) }
+    ensures { IfOk result (λ r. r ≡ least_with None
+        (bad_links None (found (disassembly_of function.now.bytes)) slots function.now.links ++
+        bad_branches function.now.links (found (disassembly_of function.now.bytes))
+        (found (disassembly_of function.now.bytes)))) }
 {
     let linked = linked_of(alloc, function)?;
     let least = first_bad_link(function, notes, slots);
@@ -36,7 +43,8 @@ pub fn first_bad_branch(
 
 /// The places at which the four bytes of a link end.
 fn linked_of(alloc: Global, function: &Func) -> Result<Table, NoMemory>
-    ensures { IfOk result (λ t. MarksBelow (length function.now.bytes + 1) t (is_linked function.now.links)) }
+    ensures { IfOk result (λ t. MarksBelow (length function.now.bytes + 1) t
+        (is_linked function.now.links)) }
 {
     let mut linked = blank(alloc, function.bytes.len())?;
     let links = function.links.as_slice();
@@ -67,7 +75,8 @@ fn is_good_link(
 /// The least place of a link that isn't good.
 fn first_bad_link(function: &Func, notes: &Notes, slots: usize) -> Option<u32>
     requires { IsNoted function.now.bytes notes.now }
-    ensures { result ≡ least_with None (bad_links None (found (disassembly_of function.now.bytes)) slots function.now.links) }
+    ensures { result ≡ least_with None (bad_links None
+        (found (disassembly_of function.now.bytes)) slots function.now.links) }
 {
     let mut least = None;
     let mut before = None;
@@ -84,7 +93,8 @@ fn first_bad_link(function: &Func, notes: &Notes, slots: usize) -> Option<u32>
 /// Whether an instruction is no branch, or goes to the start of an instruction.
 fn goes_well(function: &Func, notes: &Notes, here: &InstrAt) -> bool
     requires { IsNoted function.now.bytes notes.now }
-    ensures { result ≡ goes_well (found (disassembly_of function.now.bytes)) here.now.end (displacement here.now.instr) }
+    ensures { result ≡ goes_well (found (disassembly_of function.now.bytes)) here.now.end
+        (displacement here.now.instr) }
 {
     match displacement(&here.instr) {
         None => true,
@@ -108,9 +118,12 @@ fn with_goal(
     here: &InstrAt,
 ) -> Option<u32>
     requires noted { IsNoted function.now.bytes notes.now }
-    requires linked { MarksBelow (length function.now.bytes + 1) linked.now (is_linked function.now.links) }
+    requires linked { MarksBelow (length function.now.bytes + 1) linked.now
+        (is_linked function.now.links) }
     requires inside { here.now.end ≤ length function.now.bytes }
-    ensures { result ≡ (if is_linked function.now.links here.now.end || goes_well (found (disassembly_of function.now.bytes)) here.now.end (displacement here.now.instr) then least else lesser_of least here.now.at) }
+    ensures { result ≡ (if is_linked function.now.links here.now.end ||
+        goes_well (found (disassembly_of function.now.bytes)) here.now.end
+        (displacement here.now.instr) then least else lesser_of least here.now.at) }
 {
     if is_marked(linked, here.end as usize) || goes_well(function, notes, here) {
         least
@@ -128,8 +141,10 @@ fn first_bad_goal(
 ) -> Option<u32>
     requires noted { IsNoted function.now.bytes notes.now }
     requires few { length function.now.bytes ≤ 67108864 }
-    requires linked { MarksBelow (length function.now.bytes + 1) linked.now (is_linked function.now.links) }
-    ensures { result ≡ least_with before (bad_branches function.now.links (found (disassembly_of function.now.bytes)) (found (disassembly_of function.now.bytes))) }
+    requires linked { MarksBelow (length function.now.bytes + 1) linked.now
+        (is_linked function.now.links) }
+    ensures { result ≡ least_with before (bad_branches function.now.links
+        (found (disassembly_of function.now.bytes)) (found (disassembly_of function.now.bytes))) }
 {
     let bytes = function.bytes.as_slice();
     let mut least = before;

@@ -1,4 +1,8 @@
 //! The rules of code: the first function in which a rule fails, and the least offset there.
+//!
+//! A rule is asked of the functions in their order, from what is noted of them; the first one that
+//! fails it ends the search. Which rule is asked what is told by `CodeRule`. Rules on slots are in
+//! `slots`, and which rule comes first is decided in the root of the crate.
 
 ghost use Rattle.std.specs.Prelude.{◌≡◌, ◌≤◌, None, IfOk, length};
 ghost use Rattle.obj_core.specs.WellFormed.{AreFew, in_functions};
@@ -49,7 +53,9 @@ pub fn first_in_functions(
 ) -> Result<Option<Broken>, NoMemory>
     requires noted { AreNoted o.now.functions noted.now }
     requires few { AreFew o.now }
-    ensures { IfOk result (λ r. as_violation r ≡ in_functions (rule_number rule) (failing rule o.now) 0 o.now.functions (disassemblies_of o.now.functions)) }
+    ensures { IfOk result (λ r. as_violation r ≡
+        in_functions (rule_number rule) (failing rule o.now) 0 o.now.functions
+        (disassemblies_of o.now.functions)) }
 {
     let functions = o.functions.as_slice();
     for (n, function) in functions.iter().enumerate() {
@@ -78,7 +84,8 @@ fn first_in_function(
 ) -> Result<Option<u32>, NoMemory>
     requires noted { IsNoted function.now.bytes notes.now }
     requires few { length function.now.bytes ≤ 67108864 }
-    ensures { IfOk result (λ r. r ≡ least_with None (failing rule o.now n function.now (disassembly_of function.now.bytes))) }
+    ensures { IfOk result (λ r. r ≡ least_with None
+        (failing rule o.now n function.now (disassembly_of function.now.bytes))) }
 {
     match rule {
         CodeRule::Transfers => Ok(notes.transfer),

@@ -1,4 +1,8 @@
 //! Functions disassembled, with what the rules ask of their instructions.
+//!
+//! Bytes come in, one function after the other; what goes out are notes of each, or the first function
+//! that is no row of instructions with the offset where none begins. No instruction is kept. An empty
+//! function has none, and is stuck at 0. Time is linear in the bytes.
 
 ghost use Rattle.std.specs.Prelude.{◌≡◌, ◌≤◌, IfOk, length};
 ghost use Rattle.obj_core.specs.WellFormed.{AreFew};

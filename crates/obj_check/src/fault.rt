@@ -1,4 +1,8 @@
 //! What is wrong with an object that isn't well formed.
+//!
+//! A rule by its number, the function or slot where it fails first, and an offset in bytes from the
+//! function's start, 0 for slots and for the object as a whole. Rules are numbered as in
+//! docs/object-format.md, and `Refused` hands the object back as it was.
 
 use obj_core::object::Object;
 

@@ -1,4 +1,8 @@
 //! Sizes: how many functions and slots, and how much code and data.
+//!
+//! This is rule 1, which is asked before anything else and alone of an object that may be of any size:
+//! no sum is taken that might not fit. What passes has at most 67,108,864 bytes of code and as many of
+//! data, so the other modules count in 32 bits.
 
 ghost use Rattle.std.specs.Prelude.{◌≡◌, ◌+◌, ◌≤◌, ◌<◌, ◌^◌, ◌↔◌, IsTrue, length, sum, map};
 ghost use Rattle.obj_core.specs.declared.object.Func.{Func as Function};
@@ -34,7 +38,8 @@ fn is_little_data(o: &Object) -> bool
 }
 
 fn is_little_code(functions: &[Func]) -> bool
-    ensures { IsTrue result ↔ (sum (map (λ (f : Function). length f.bytes) functions.now) ≤ 67108864) }
+    ensures { IsTrue result ↔ (sum (map (λ (f : Function). length f.bytes) functions.now) ≤
+        67108864) }
 {
     let mut left = MOST_BYTES;
     for function in functions {

@@ -1,4 +1,7 @@
-//! One instruction at its offset.
+//! One instruction at its offset in a function's bytes.
+//!
+//! Offsets count from the function's start; `end` is the offset behind the instruction. What stands at
+//! an offset is the decoder's answer, of `x86_decode`; whether it may stand there is not asked here.
 
 ghost use Rattle.std.specs.Prelude.{◌≤◌, length};
 ghost use Rattle.obj_check.specs.Instrs.{IsInstrAt};

@@ -1,14 +1,11 @@
-//! The verifier of objects: takes exactly the well-formed ones.
+//! The verifier of objects: takes exactly the well-formed ones, and asks nothing of the others.
 //!
-//! Eight rules are asked in order: sizes (`few`), whole instructions (`disassembly`), transfers and ends
-//! (`code`), branches and links (`branches`), the goals of slots and the entry (`slots`), and saved
-//! registers (`saved`). The first rule that fails is told, with the first function or slot in which it
-//! fails and the least offset there.
-//!
-//! Code is decoded twice: by `disassembly`, which notes what the rules ask (`notes`), and by `branches`, when
-//! all starts are known. No instruction is kept: where one starts is a bit of a table (`marks`). Time
-//! is linear in the object; memory is two bits a byte of code, and a third for the function whose
-//! branches are looked at.
+//! Eight rules are asked in order: sizes (`few`), whole instructions (`disassembly`), transfers and
+//! ends (`code`), branches and links (`branches`), goals of slots and the entry (`slots`), saved
+//! registers (`saved`); the first that fails is told, where it fails first. Code is decoded twice:
+//! by `disassembly`, which notes what the rules ask (`notes`), and by `branches`, when all starts are
+//! known. No instruction is kept: where one starts is a bit of a table (`marks`). Time is linear in
+//! the object; memory is two bits a byte of code, and a third for the function that is looked at.
 #![tactic(auto)]
 
 ghost use Rattle.std.specs.Prelude.{◌≡◌, IfOk, IfErr};
@@ -99,7 +96,8 @@ fn first_broken(alloc: Global, o: &Object) -> Result<Option<Broken>, NoMemory>
 fn first_in_noted(alloc: Global, o: &Object, noted: &[Notes]) -> Result<Option<Broken>, NoMemory>
     requires noted { AreNoted o.now.functions noted.now }
     requires few { AreFew o.now }
-    ensures { IfOk result (λ r. as_violation r ≡ violation o.now (disassemblies_of o.now.functions)) }
+    ensures { IfOk result (λ r. as_violation r ≡
+        violation o.now (disassemblies_of o.now.functions)) }
 {
     if let Some(broken) = first_in_functions(alloc, CodeRule::Transfers, o, noted)? {
         return Ok(Some(broken));
@@ -117,7 +115,8 @@ fn first_in_noted(alloc: Global, o: &Object, noted: &[Notes]) -> Result<Option<B
 fn first_in_rest(alloc: Global, o: &Object, noted: &[Notes]) -> Result<Option<Broken>, NoMemory>
     requires noted { AreNoted o.now.functions noted.now }
     requires few { AreFew o.now }
-    ensures { IfOk result (λ r. as_violation r ≡ later_violation o.now (disassemblies_of o.now.functions)) }
+    ensures { IfOk result (λ r. as_violation r ≡
+        later_violation o.now (disassemblies_of o.now.functions)) }
 {
     match first_bad_slot(o.functions.as_slice(), noted, o.slots.as_slice()) {
         Some(broken) => Ok(Some(broken)),

@@ -1,4 +1,8 @@
 //! Tables that mark places, a bit for each.
+//!
+//! A table is made for the places up to a size, and marks none at first. A mark past its end is
+//! dropped, and no place there is marked. The verifier keeps the starts of instructions so, the ends
+//! of branches with displacement 0, the links of one function, and registers by their numbers.
 
 ghost use Rattle.std.specs.Prelude.{◌≡◌, ℕ, ◌<◌, ◌≤◌, ◌||◌, false, nat_eq, IfOk};
 ghost use Rattle.obj_check.specs.Marked.{is_set, room, marked};
@@ -44,7 +48,8 @@ fn has_bit(word: u64, bit: u32) -> bool
 /// Marks a place, and nothing where the table has no room for it.
 pub fn mark(table: &mut Table, place: usize)
     ensures room { room table.new ≡ room table.old }
-    ensures marks { place < room table.old → (k : ℕ) → marked table.new k ≡ (nat_eq place k || marked table.old k) }
+    ensures marks { place < room table.old → (k : ℕ) → marked table.new k ≡
+        (nat_eq place k || marked table.old k) }
     ensures past { room table.old ≤ place → table.new ≡ table.old }
 {
     let at = place / 64;

@@ -1,4 +1,8 @@
 //! What the rules ask of a function's instructions, noted while they are decoded one after another.
+//!
+//! Notes begin empty and take one instruction at a time, in order; they hold two bits a byte of the
+//! function, the registers that occur, and two offsets. What they say is what the rules ask of the
+//! list of these instructions (`specs/Noted.antt`), so the list itself need not be kept.
 
 ghost use Rattle.std.specs.Prelude.{◌≡◌, ℕ, ◌<◌, ◌≤◌, ◌||◌, ◌&&◌, false, nat_eq, if◌then◌else◌, None, Some, [], IfOk};
 ghost use Rattle.x86_core.specs.declared.reg.Reg.{Reg as Register};
@@ -61,7 +65,8 @@ pub fn lesser(least: Option<u32>, offset: u32) -> Option<u32>
 fn note_zero(zeros: &mut Table, here: &InstrAt)
     requires { here.now.end < room zeros.old }
     ensures room { room zeros.new ≡ room zeros.old }
-    ensures marks { (k : ℕ) → marked zeros.new k ≡ ((nat_eq here.now.end k && is_zero (displacement here.now.instr)) || marked zeros.old k) }
+    ensures marks { (k : ℕ) → marked zeros.new k ≡
+        ((nat_eq here.now.end k && is_zero (displacement here.now.instr)) || marked zeros.old k) }
 {
     if is_zero_branch(&here.instr) {
         mark(zeros, here.end as usize);
@@ -72,7 +77,9 @@ fn note_zero(zeros: &mut Table, here: &InstrAt)
 fn note_registers(registers: &mut Table, here: &InstrAt)
     requires { 16 ≤ room registers.old }
     ensures room { room registers.new ≡ room registers.old }
-    ensures marks { (r : Register) → marked registers.new (number_of r) ≡ ((if is_push_or_pop here.now.instr then false else is_among r (registers_of here.now.instr)) || marked registers.old (number_of r)) }
+    ensures marks { (r : Register) → marked registers.new (number_of r) ≡
+        ((if is_push_or_pop here.now.instr then false else is_among r
+        (registers_of here.now.instr)) || marked registers.old (number_of r)) }
 {
     if !is_push_or_pop(&here.instr) {
         mark_registers(registers, &here.instr);
@@ -81,7 +88,8 @@ fn note_registers(registers: &mut Table, here: &InstrAt)
 
 /// The least offset of a transfer, with one instruction more.
 fn transfer_with(before: Option<u32>, here: &InstrAt) -> Option<u32>
-    ensures { result ≡ (if is_slots_own here.now.instr then lesser_of before here.now.at else before) }
+    ensures { result ≡ (if is_slots_own here.now.instr then lesser_of before here.now.at else
+        before) }
 {
     if is_slots_own(&here.instr) {
         lesser(before, here.at)

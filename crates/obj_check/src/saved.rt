@@ -1,4 +1,9 @@
 //! The rule of saved registers: how a saved function begins, and which of the five it uses.
+//!
+//! A saved function begins with a test and five pushes, in an order that the register seed draws with
+//! purpose 4 and the function's number; the registers that occur in it are those of the first colours,
+//! by the order of purpose 3. The definition is `specs/Saved.antt` of `obj_core`. A plain function
+//! passes.
 
 ghost use Rattle.std.specs.Prelude.{◌≡◌, ◌++◌, ◌<◌, ◌&&◌, nat_lt, slice_index, IfOk, OnOk, length};
 ghost use Rattle.obj_core.specs.Disassembly.{spelled};
@@ -28,7 +33,8 @@ pub fn is_saved_well(
     notes: &Notes,
 ) -> Result<bool, NoMemory>
     requires { IsNoted function.now.bytes notes.now }
-    ensures { IfOk result (λ r. r ≡ is_saved_well reg_seed n function.now (disassembly_of function.now.bytes)) }
+    ensures { IfOk result (λ r. r ≡ is_saved_well reg_seed n function.now
+        (disassembly_of function.now.bytes)) }
 {
     match function.kind {
         FuncKind::Plain => Ok(true),
@@ -46,7 +52,8 @@ fn is_saved(
     notes: &Notes,
 ) -> Result<bool, NoMemory>
     requires { IsNoted function.now.bytes notes.now }
-    ensures { IfOk result (λ r. r ≡ (begins_with (prologue reg_seed n) function.now.bytes && are_first_colors reg_seed n (disassembly_of function.now.bytes))) }
+    ensures { IfOk result (λ r. r ≡ (begins_with (prologue reg_seed n) function.now.bytes &&
+        are_first_colors reg_seed n (disassembly_of function.now.bytes))) }
 {
     let front = prologue(alloc, reg_seed, n)?;
     let names = five(alloc, reg_seed, 3, n)?;
@@ -60,7 +67,8 @@ fn is_saved(
 
 fn begins_and_uses(front: &[u8], names: &[u32], bytes: &[u8], registers: &Table) -> bool
     requires { length names.now ≡ 5 }
-    ensures { result ≡ (begins_with front.now bytes.now && are_colored names.now (used_in registers.now)) }
+    ensures { result ≡ (begins_with front.now bytes.now &&
+        are_colored names.now (used_in registers.now)) }
 {
     begins_with(front, bytes) && are_colored(names, registers)
 }
@@ -156,7 +164,8 @@ fn are_colored(order: &[u32], registers: &Table) -> bool
 /// Whether a colour's register is used exactly where the colour is below a number.
 fn is_colored(order: &[u32], color: usize, count: u32, registers: &Table) -> bool
     requires { color < length order.now }
-    ensures { result ≡ agree (used_in registers.now (saved_register (slice_index order.now color))) (nat_lt color count) }
+    ensures { result ≡ agree (used_in registers.now (saved_register (slice_index order.now color)))
+        (nat_lt color count) }
 {
     is_used(order[color], registers) == (color < count as usize)
 }

@@ -1,4 +1,8 @@
 //! The rules of slots: their goals exist, and the first slot alone is the entry.
+//!
+//! Functions come in with what is noted of them, so that a way back is known to be the start of an
+//! instruction by one look at a table. Slots are asked in their order, first all of them by rule 6 and
+//! then by rule 7. Time is linear in the slots.
 
 ghost use Rattle.std.specs.Prelude.{◌≡◌, ◌≤◌, ℕ, length, nat_lt};
 ghost use Rattle.obj_core.specs.declared.object.Slot.{Slot as Trampoline};
@@ -28,7 +32,8 @@ pub fn first_bad_slot(functions: &[Func], noted: &[Notes], slots: &[Slot]) -> Op
 fn first_bad_goal(functions: &[Func], noted: &[Notes], slots: &[Slot]) -> Option<Broken>
     requires noted { AreNoted functions.now noted.now }
     requires few { length slots.now ≤ 1048576 }
-    ensures { as_violation result ≡ in_slots 6 (λ (k : ℕ) (s : Trampoline). is_good_slot (disassemblies_of functions.now) s) 0 slots.now }
+    ensures { as_violation result ≡ in_slots 6
+        (λ (k : ℕ) (s : Trampoline). is_good_slot (disassemblies_of functions.now) s) 0 slots.now }
 {
     for (k, slot) in slots.iter().enumerate() {
         if !is_good_slot(functions, noted, *slot) {

@@ -1,4 +1,7 @@
 //! Worked objects: the smallest one passes, and small changes fail a rule each.
+//!
+//! Each row is a file of one function at most, with entry slots, and what the verifier tells of it. The
+//! files are put together here by hand, and read by `obj_file`.
 
 ghost use Rattle.std.specs.Prelude.{◌<◌, length};
 

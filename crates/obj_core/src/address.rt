@@ -1,4 +1,8 @@
 //! Addresses of slots, which are public.
+//!
+//! A slot stands at 0x10000000 plus 16 times its position, and no layout seed is in that. So data may
+//! hold a `SlotAddr`, and its number may be asked for. Where slots stand in an object's order is
+//! `specs/Slots.antt`; addresses of code are `Hidden`, in `code`, and have no such call.
 
 ghost use Rattle.std.specs.Prelude.{◌≡◌, ◌+◌, ◌*◌, ◌<◌, ◌^◌};
 ghost use Rattle.obj_core.specs.Slots.{slot_base};

@@ -1,4 +1,8 @@
-//! Bytes and numbers that segments are made of.
+//! Bytes and numbers that segments are made of: displacements, round numbers, breakpoints.
+//!
+//! What goes in and out are plain numbers and lists of bytes; no address is kept here. A displacement
+//! is four bytes, little-endian, counted from the end of its instruction. What these bytes mean in a
+//! layout stands in `specs/Placement.antt`; `row` and `code` put them where they belong.
 
 ghost use Rattle.std.specs.Prelude.{◌≡◌, ◌<◌, ◌^◌, slice_index, slice_set, IfOk};
 ghost use Rattle.obj_core.specs.Placement.{filler, up16, displacement_bytes};

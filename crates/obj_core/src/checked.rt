@@ -1,4 +1,8 @@
 //! An object that is known to be well formed.
+//!
+//! `obj_check::check` makes one of an object that may be anything, and `rd_compile` of one that it has
+//! just made. Whoever takes a `Checked`, as `obj_lay::lay`, asks nothing more of it. Nothing is stored
+//! beside the object: that it is well formed is known to proofs alone.
 
 ghost use Rattle.std.specs.Prelude.{◌≡◌};
 ghost use Rattle.obj_core.specs.WellFormed.{IsWellFormed};

@@ -72,7 +72,8 @@ impl CodePlan {
     /// Takes no memory.
     pub fn place(&self, at: &CodeAt) -> Hidden
         ensures planned { result.address ≡ planned self.now at.now }
-        ensures layout { (o : Object) (seed : ℕ) → IsPlan self.now o seed → result.address ≡ address o seed at.now }
+        ensures layout { (o : Object) (seed : ℕ) → IsPlan self.now o seed → result.address ≡
+            address o seed at.now }
     {
         Hidden {
             address: self.address_of(at),
@@ -109,7 +110,8 @@ fn runs_of(
     starts: &[u32],
 ) -> Result<Runs, NoMemory>
     requires { sum_by (λ (f : Func). length f.bytes) functions.now ≤ 67108864 }
-    ensures { IfOk result (λ all. all ≡ runs_from (λ n. slice_index starts.now (slice_index places.now n)) 0 0 functions.now) }
+    ensures { IfOk result (λ all. all ≡ runs_from
+        (λ n. slice_index starts.now (slice_index places.now n)) 0 0 functions.now) }
 {
     let mut all = List::new(alloc);
     let mut front = 0;
@@ -134,7 +136,11 @@ pub struct CodeBuilder {
 impl CodeBuilder {
     /// A segment for the slots of an object, all breakpoints; places count from its start.
     pub fn for_slots(alloc: Global, o: &Checked) -> Result<CodeBuilder, NoMemory>
-        ensures { IfOk result (λ b. b ≡ record { start = slot_base; runs = slot_run (16 * length o.now.object.slots) ∷ []; bytes = filler (16 * length o.now.object.slots) }) }
+        ensures { IfOk result (λ b. b ≡ record {
+          start = slot_base;
+          runs = slot_run (16 * length o.now.object.slots) ∷ [];
+          bytes = filler (16 * length o.now.object.slots);
+        }) }
     {
         let object = o.object();
         sizes_known(object);
@@ -156,7 +162,11 @@ impl CodeBuilder {
     /// A segment for the code of a plan, all breakpoints; places count through the functions' bytes, put
     /// end to end in the object's order.
     pub fn for_code(alloc: Global, plan: &CodePlan) -> Result<CodeBuilder, NoMemory>
-        ensures { IfOk result (λ b. b ≡ record { start = plan.now.base; runs = plan.now.runs; bytes = filler plan.now.size }) }
+        ensures { IfOk result (λ b. b ≡ record {
+          start = plan.now.base;
+          runs = plan.now.runs;
+          bytes = filler plan.now.size;
+        }) }
     {
         let runs = plan.runs.copied(alloc)?;
         let bytes = breakpoints(alloc, plan.size)?;
@@ -170,7 +180,10 @@ impl CodeBuilder {
     /// Puts bytes at a place and on. Takes no memory.
     pub fn bytes(&mut self, at: u32, bytes: &[u8])
         requires { at + length bytes.now ≤ end_of_runs self.old.runs }
-        ensures { self.new ≡ record self.old { bytes = put_at self.old.runs self.old.start self.old.bytes at bytes.now } }
+        ensures { self.new ≡ record self.old {
+          bytes = put_at self.old.runs self.old.start
+              self.old.bytes at bytes.now;
+        } }
     {
         if bytes.is_empty() {
             return;
@@ -190,7 +203,11 @@ impl CodeBuilder {
     /// Puts the displacement to a byte of code at a place, counted from behind its four bytes. Takes no memory.
     pub fn branch(&mut self, at: u32, to: &Hidden)
         requires { at + 4 ≤ end_of_runs self.old.runs }
-        ensures { self.new ≡ record self.old { bytes = put_at self.old.runs self.old.start self.old.bytes at (displacement_bytes to.now.address (address_at self.old.runs (at + 3) + 1)) } }
+        ensures { self.new ≡ record self.old {
+          bytes = put_at self.old.runs self.old.start
+              self.old.bytes at (displacement_bytes to.now.address
+              (address_at self.old.runs (at + 3) + 1));
+        } }
     {
         let bytes = way(to.address, self.behind(at));
         self.bytes(at, &bytes);
@@ -199,7 +216,11 @@ impl CodeBuilder {
     /// Puts the displacement to a slot at a place, counted from behind its four bytes. Takes no memory.
     pub fn branch_slot(&mut self, at: u32, to: &SlotAddr)
         requires { at + 4 ≤ end_of_runs self.old.runs }
-        ensures { self.new ≡ record self.old { bytes = put_at self.old.runs self.old.start self.old.bytes at (displacement_bytes (slot_base + 16 * to.now.position) (address_at self.old.runs (at + 3) + 1)) } }
+        ensures { self.new ≡ record self.old {
+          bytes = put_at self.old.runs self.old.start
+              self.old.bytes at (displacement_bytes (slot_base + 16 * to.now.position)
+              (address_at self.old.runs (at + 3) + 1));
+        } }
     {
         let bytes = way(to.number(), self.behind(at));
         self.bytes(at, &bytes);

@@ -1,4 +1,7 @@
 //! How large a well-formed object is at most, made known to proofs.
+//!
+//! The functions do nothing when they run; they are called where sums of lengths are taken, so that
+//! these fit their types. The limits themselves are rule 1 of `specs/WellFormed.antt`.
 
 ghost use Rattle.std.specs.Prelude.{ℕ, ◌≡◌, ◌≤◌, length};
 ghost use Rattle.std.specs.List.{sum_by};
@@ -20,5 +23,6 @@ pub fn sizes_known(o: &Object)
 /// Makes it known to a proof that the functions in their order are as large. Takes no memory.
 pub fn row_known(o: &Object, layout_seed: u64)
     requires { ∥ IsWellFormed o.now ∥₁ }
-    ensures { sum_by (λ (p : Piece). length p.bytes) (pieces_in o.now.functions (order o.now layout_seed)) ≤ 67108864 }
+    ensures { sum_by (λ (p : Piece). length p.bytes)
+        (pieces_in o.now.functions (order o.now layout_seed)) ≤ 67108864 }
 {}

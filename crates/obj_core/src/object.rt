@@ -1,4 +1,9 @@
 //! An object: functions, the slots that they call and jump by, and data. It has no code address.
+//!
+//! These are plain values that anybody may make; which of them are well formed is
+//! `specs/WellFormed.antt`, and a `Checked` is one of those. Offsets count bytes from the start of a
+//! function, and functions and slots are named by their numbers from 0. The bytes of an object's file
+//! are `obj_file`'s.
 
 use rd_num::list::List;
 

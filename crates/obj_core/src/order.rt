@@ -1,4 +1,7 @@
 //! Orders of numbers, and where each number stands in them.
+//!
+//! An order is a list in which each number below its length stands once, as `rd_draw` shuffles one.
+//! Its inverse answers by number what the order answers by place, so that nothing is searched.
 
 ghost use Rattle.std.specs.Prelude.{◌≡◌, ◌<◌, ◌^◌, ◌+◌, slice_index, length, IfOk, replicate, slice_set};
 ghost use Rattle.obj_core.specs.Placement.{inverse};

@@ -1,4 +1,8 @@
 //! Readable segments, which are made of plain bytes and addresses of slots alone.
+//!
+//! A program can read whatever stands here, and so can who looks on. So there is no call that takes a
+//! `Hidden`, the address of code: to hand one over doesn't compile. Segments that may be run alone are
+//! made by `code`. A start is an address, and rights are 4 to read and 6 to read and write.
 
 ghost use Rattle.std.specs.Prelude.{◌≡◌, ◌+◌, ◌*◌, ◌++◌, [], OnOk, OnErr, if◌then◌else◌};
 ghost use Rattle.rd_num.specs.Number.{le_bytes};
@@ -33,7 +37,8 @@ impl ReadBuilder {
 
     /// Puts bytes at the end. Where memory is wanting nothing changes.
     pub fn bytes(&mut self, bytes: &[u8]) -> Result<(), NoMemory>
-        ensures put { OnOk result (self.new ≡ record self.old { bytes = self.old.bytes ++ bytes.now }) }
+        ensures put { OnOk result (self.new ≡
+            record self.old { bytes = self.old.bytes ++ bytes.now }) }
         ensures unchanged { OnErr result (self.new ≡ self.old) }
     {
         self.bytes.append(bytes)
@@ -41,7 +46,11 @@ impl ReadBuilder {
 
     /// Puts the eight bytes of a slot's address at the end. Where memory is wanting nothing changes.
     pub fn slot(&mut self, to: &SlotAddr) -> Result<(), NoMemory>
-        ensures put { OnOk result (self.new ≡ record self.old { bytes = self.old.bytes ++ le_bytes 8 (slot_base + 16 * to.now.position) }) }
+        ensures put { OnOk result (self.new ≡
+            record self.old {
+              bytes = self.old.bytes ++
+                  le_bytes 8 (slot_base + 16 * to.now.position);
+            }) }
         ensures unchanged { OnErr result (self.new ≡ self.old) }
     {
         self.bytes.append(&put_u64_le(to.number()))

@@ -1,4 +1,8 @@
 //! Functions in the order in which they stand, at gaps that the seed draws.
+//!
+//! A layout seed comes in with the functions; out come the address where code begins, where each
+//! function starts, and where code ends, in bytes. Words of purpose 1 draw the order and words of
+//! purpose 5 the base and the gaps, as `specs/Placement.antt` says. No byte of code is looked at.
 
 ghost use Rattle.std.specs.Prelude.{◌≡◌, ℕ, ◌+◌, ◌*◌, ◌<◌, ◌≤◌, ◌^◌, length, IfOk, slice_index};
 ghost use Rattle.std.specs.List.{sum_by};
@@ -51,10 +55,14 @@ pub fn function_order(alloc: Global, o: &Object, layout_seed: u64) -> Result<Lis
 pub fn row_of(alloc: Global, functions: &[Func], order: &[u32], seed: u64) -> Result<Row, NoMemory>
     requires few { length order.now ≤ 4112 }
     requires small { (k : ℕ) → length (piece functions.now k).bytes ≤ 67108864 }
-    requires little { sum_by (λ (p : Piece). length p.bytes) (pieces_in functions.now order.now) ≤ 67108864 }
+    requires little { sum_by (λ (p : Piece). length p.bytes)
+        (pieces_in functions.now order.now) ≤ 67108864 }
     ensures base { IfOk result (λ r. r.base ≡ code_base seed) }
-    ensures starts { IfOk result (λ r. r.starts ≡ starts_from (keystream_word seed gap_purpose 0) 1 (code_base seed) (pieces_in functions.now order.now)) }
-    ensures end { IfOk result (λ r. r.end ≡ end_from (keystream_word seed gap_purpose 0) 1 (code_base seed) (pieces_in functions.now order.now)) }
+    ensures starts { IfOk result (λ r. r.starts ≡
+        starts_from (keystream_word seed gap_purpose 0) 1 (code_base seed)
+        (pieces_in functions.now order.now)) }
+    ensures end { IfOk result (λ r. r.end ≡ end_from (keystream_word seed gap_purpose 0) 1
+        (code_base seed) (pieces_in functions.now order.now)) }
     ensures ahead { IfOk result (λ r. r.base ≤ r.end) }
 {
     let mut draw = Draw::new(seed, GAP_PURPOSE, 0);

@@ -1,4 +1,7 @@
 //! A run of bytes: where it stands among all functions' bytes, and where in an image.
+//!
+//! Places count through the bytes of all functions, put end to end in the object's order; starts are
+//! addresses. A row of runs is looked up by place in `runs`.
 
 use rd_num::copied::Copied;
 use rd_num::width::NoMemory;

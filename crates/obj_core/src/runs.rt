@@ -1,4 +1,8 @@
 //! A row of runs, looked up by place.
+//!
+//! Runs lie one behind the other, so the one that holds a place is found by halving, in time that is
+//! the logarithm of their number. Contracts see the row as the list of its runs, which never changes.
+//! What a place's address is, is `specs/Runs.antt`.
 
 ghost use Rattle.std.specs.Prelude.{◌≡◌, ◌+◌, ◌-◌, ◌<◌, ◌≤◌, ◌^◌, ℕ, length, IfOk, slice_get};
 ghost use Rattle.std.specs.Option.{option_copied};
@@ -59,7 +63,8 @@ impl Runs {
     pub fn find(&self, at: u64) -> Run
         requires { at < end_of_runs self.now }
         ensures ahead { at < result.end }
-        ensures addresses { (p : ℕ) → at ≤ p → p < result.end → address_at self.now p ≡ result.start + (p - result.front) }
+        ensures addresses { (p : ℕ) → at ≤ p → p < result.end → address_at self.now p ≡
+            result.start + (p - result.front) }
     {
         let number = self
             .kept

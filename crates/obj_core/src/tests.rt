@@ -1,4 +1,7 @@
 //! Worked segments: a slot, code at its places, and data.
+//!
+//! The small object of `specs/Small.antt` is placed by a seed for which its addresses are known, and
+//! the bytes that the builders make are compared with bytes that were worked out by hand.
 
 ghost use Rattle.std.specs.Prelude.{◌≡◌, IfOk};
 ghost use Rattle.obj_core.specs.Plans.{IsPlan};

@@ -1,4 +1,7 @@
 //! Why bytes aren't read as an object.
+//!
+//! There is one fault of bytes, and it names a place; which part of the format is left there can be read
+//! off docs/object-format.md. Which objects are well formed is no matter of the format.
 
 ghost use Rattle.std.specs.Prelude.{◌≡◌};
 

@@ -1,4 +1,7 @@
 //! Laws of the file: an object has one spelling, and each object in range can be written.
+//!
+//! They are the contracts of functions that do nothing. The spelling itself is `object_bytes`, in
+//! `specs/Object.antt` of `obj_core`.
 
 ghost use Rattle.std.specs.Prelude.{◌≡◌};
 ghost use Rattle.obj_core.specs.declared.object.Object.{Object};

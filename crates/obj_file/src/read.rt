@@ -1,4 +1,8 @@
 //! An object from the bytes of its file, part after part in the order of the file.
+//!
+//! Each function reads one part at `at`, which counts bytes from the start of the file, and answers the
+//! part and where it ends, or the place where the bytes leave what may stand there. The parts are those
+//! of `write`, in the same order; words and fields are read in `part`.
 
 ghost use Rattle.std.specs.Prelude.{◌≡◌, ◌≢◌, ◌+◌, ◌<◌, ◌≤◌, ◌^◌, ◌++◌, nat_le, length, IfOk, IfErr};
 ghost use Rattle.rd_num.specs.Number.{le_bytes};
@@ -81,7 +85,8 @@ fn read_object(alloc: Global, bytes: &[u8]) -> Result<Part<Object>, FormFault>
 fn read_counted(alloc: Global, bytes: &[u8], at: usize) -> Result<Body, FormFault>
     requires { at ≤ length bytes.now }
     ensures parts { IfOk result (λ b. AreCounted b.functions b.slots b.ro b.rw) }
-    ensures read { IfOk result (λ b. Spans bytes.now at b.end (counted_bytes b.functions b.slots b.ro b.rw)) }
+    ensures read { IfOk result (λ b. Spans bytes.now at b.end
+        (counted_bytes b.functions b.slots b.ro b.rw)) }
     ensures fault { IfErr result (λ e. Fault CountedText bytes.now at e) }
 {
     let functions = read_field(bytes, at)?;
@@ -100,9 +105,12 @@ fn read_counted(alloc: Global, bytes: &[u8], at: usize) -> Result<Body, FormFaul
 
 fn read_body(alloc: Global, bytes: &[u8], at: usize, counts: Counts) -> Result<Body, FormFault>
     requires { at ≤ length bytes.now }
-    ensures parts { IfOk result (λ b. AreParts counts.functions counts.slots counts.ro counts.rw b.functions b.slots b.ro b.rw) }
-    ensures read { IfOk result (λ b. Spans bytes.now at b.end (body_bytes b.functions b.slots b.ro b.rw)) }
-    ensures fault { IfErr result (λ e. Fault (BodyText counts.functions counts.slots counts.ro counts.rw) bytes.now at e) }
+    ensures parts { IfOk result (λ b. AreParts counts.functions counts.slots counts.ro counts.rw
+        b.functions b.slots b.ro b.rw) }
+    ensures read { IfOk result (λ b. Spans bytes.now at b.end
+        (body_bytes b.functions b.slots b.ro b.rw)) }
+    ensures fault { IfErr result (λ e. Fault (BodyText counts.functions counts.slots counts.ro
+        counts.rw) bytes.now at e) }
 {
     let functions = read_functions(alloc, bytes, at, counts.functions)?;
     let slots = read_slots(alloc, bytes, functions.end, counts.slots)?;

@@ -1,4 +1,7 @@
 //! Worked files: the smallest object, one with a slot of each kind, and bytes that are no object's.
+//!
+//! The bytes were put together by hand from docs/object-format.md. A file is read, and its object is
+//! written again; a file that is spoiled must name the place where it leaves the format.
 
 use crate::fault::FormFault;
 use crate::read::read;

@@ -1,4 +1,8 @@
 //! The bytes of an object, part after part in the order of the file.
+//!
+//! Each function puts one part at the end of what is written; memory is the only fault. The parts are
+//! those of `specs/Object.antt` of `obj_core`, and their sizes in bytes are fixed but for rows. Counts
+//! must fit their fields, which `laws` says of each object in range.
 
 ghost use Rattle.std.specs.Prelude.{◌≡◌, ◌++◌, ◌<◌, ◌^◌, length, IfOk, OnOk};
 ghost use Rattle.rd_num.specs.Number.{le_bytes};
@@ -40,7 +44,9 @@ fn put_header(out: &mut List<u8>, o: &Object) -> Result<(), NoMemory>
 
 fn put_counts(out: &mut List<u8>, o: &Object) -> Result<(), NoMemory>
     requires { CountsFit o.now }
-    ensures { OnOk result (out.new ≡ out.old ++ (field (length o.now.functions) ++ (field (length o.now.slots) ++ (field (length o.now.ro) ++ field (length o.now.rw))))) }
+    ensures { OnOk result (out.new ≡ out.old ++
+        (field (length o.now.functions) ++ (field (length o.now.slots) ++
+        (field (length o.now.ro) ++ field (length o.now.rw))))) }
 {
     put_length(out, &o.functions)?;
     put_length(out, &o.slots)?;
@@ -143,7 +149,8 @@ const NOWHERE: CodeAt = CodeAt {
 };
 
 fn put_slot_fields(out: &mut List<u8>, kind: u32, target: u32, back: CodeAt) -> Result<(), NoMemory>
-    ensures { OnOk result (out.new ≡ out.old ++ slot_fields kind target back.function back.offset) }
+    ensures { OnOk result (out.new ≡ out.old ++
+        slot_fields kind target back.function back.offset) }
 {
     put_field(out, kind)?;
     put_field(out, target)?;

@@ -1,4 +1,8 @@
 //! Functions where a plan has them, with the displacements to the slots that their links name.
+//!
+//! A plan of `obj_core` says where each function stands; the bytes go into a segment of breakpoints
+//! through a builder that knows no number of an address. Links are known to lie inside their
+//! functions. What comes out is the segment of all code, and the plan for whoever writes the slots.
 
 ghost use Rattle.std.specs.Prelude.{ℕ, ◌≡◌, ◌+◌, ◌-◌, ◌<◌, ◌≤◌, ◌^◌, length, All, IfOk, slice_get, slice_index};
 ghost use Rattle.std.specs.List.{sum_by};
@@ -38,7 +42,8 @@ pub fn code_of(
     requires positions { positions.now ≡ positions_of o.now.object }
     requires below { (k : ℕ) → slice_index positions.now k < 2 ^ 20 }
     ensures plan { IfOk result (λ c. IsPlan c.plan o.now.object layout_seed) }
-    ensures segment { IfOk result (λ c. c.segment ≡ segment (code_base layout_seed) (code_bytes o.now.object layout_seed) 1) }
+    ensures segment { IfOk result (λ c. c.segment ≡
+        segment (code_base layout_seed) (code_bytes o.now.object layout_seed) 1) }
 {
     let plan = CodePlan::new(alloc, o, layout_seed)?;
     let functions = o.object().functions.as_slice();
@@ -59,12 +64,19 @@ pub fn code_of(
 fn put_function(builder: &mut CodeBuilder, front: u32, function: &Func, positions: &[u32])
     requires small { front + length function.now.bytes ≤ 67108864 }
     requires room { front + length function.now.bytes ≤ end_of_runs builder.old.runs }
-    requires together { (p : ℕ) → p < length function.now.bytes → address_at builder.old.runs (front + p) ≡ address_at builder.old.runs front + p }
+    requires together { (p : ℕ) → p < length function.now.bytes →
+        address_at builder.old.runs (front + p) ≡ address_at builder.old.runs front + p }
     requires low { builder.old.start ≤ address_at builder.old.runs front }
-    requires within { address_at builder.old.runs front - builder.old.start + length function.now.bytes ≤ length builder.old.bytes }
+    requires within { address_at builder.old.runs front - builder.old.start + length
+        function.now.bytes ≤ length builder.old.bytes }
     requires links { All (λ (l : Link). l.at + 4 ≤ length function.now.bytes) function.now.links }
     requires below { (k : ℕ) → slice_index positions.now k < 2 ^ 20 }
-    ensures { builder.new ≡ record builder.old { bytes = overlaid builder.old.bytes (address_at builder.old.runs front - builder.old.start) (linked positions.now (address_at builder.old.runs front) function.now.links function.now.bytes) } }
+    ensures { builder.new ≡ record builder.old {
+      bytes = overlaid builder.old.bytes
+          (address_at builder.old.runs front - builder.old.start)
+          (linked positions.now (address_at builder.old.runs front) function.now.links
+          function.now.bytes);
+    } }
 {
     builder.bytes(front, function.bytes.as_slice());
     for link in function.links.as_slice() {

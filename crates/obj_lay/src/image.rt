@@ -1,4 +1,8 @@
 //! The image of an object: slots, data and code, each in a segment of its own.
+//!
+//! `lay` is the one call: a checked object and a layout seed in, an image out, or want of memory. What
+//! its contract says of runs stands in `specs/Hidden.antt`, and which image it is in `Layout.antt` of
+//! `obj_core`. Only `code` and `slots` see where code stands; nothing of it goes into data or the entry.
 
 ghost use Rattle.std.specs.Prelude.{ℕ, ◌≡◌, ◌++◌, ◌<◌, ◌≤◌, ◌^◌, length, OnOk, IfOk, slice_index, if◌then◌else◌};
 ghost use Rattle.std.specs.List.{sum_by};
@@ -71,7 +75,9 @@ fn four_segments(
     slots: Segment,
     code: Segment,
 ) -> Result<List<Segment>, NoMemory>
-    ensures { IfOk result (λ all. all ≡ present slots.start slots.bytes slots.rights.0 ++ (present 536870912 o.now.ro 4 ++ (present 805306368 o.now.rw 6 ++ present code.start code.bytes code.rights.0))) }
+    ensures { IfOk result (λ all. all ≡ present slots.start slots.bytes slots.rights.0 ++
+        (present 536870912 o.now.ro 4 ++ (present 805306368 o.now.rw 6 ++
+        present code.start code.bytes code.rights.0))) }
 {
     let mut all = List::new(alloc);
     let ro = data(alloc, RO_START, o.ro.as_slice(), false)?;
@@ -94,7 +100,8 @@ fn data(alloc: Global, start: u64, bytes: &[u8], writable: bool) -> Result<Segme
 
 /// Puts a segment at the end, unless it is empty.
 fn put_segment(all: &mut List<Segment>, segment: Segment) -> Result<(), NoMemory>
-    ensures { OnOk result (all.new ≡ all.old ++ present segment.start segment.bytes segment.rights.0) }
+    ensures { OnOk result (all.new ≡ all.old ++
+        present segment.start segment.bytes segment.rights.0) }
 {
     if segment.bytes.is_empty() {
         return Ok(());

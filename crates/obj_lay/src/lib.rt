@@ -1,9 +1,10 @@
-//! The image of an object, with its code in an order and at gaps that a seed draws.
+//! The image of an object, with its code in an order and at gaps that a seed draws, and hidden.
 //!
-//! `lay` gives exactly the layout of `specs/Layout.antt`. Where code stands is a plan's, of `obj_core`:
-//! `code` writes the functions with the displacements of their links, `slots` the trampolines to code
-//! whose addresses are hidden, `image` puts these and the data together; `law` says what no seed changes.
-//! Addresses count bytes: slots stand from 0x10000000 on, code at 0x40000000 or above.
+//! `lay` gives exactly the layout of `obj_core`'s `specs/Layout.antt`, and nothing that its run shows
+//! tells one seed from another (`specs/Hidden.antt`). `code` writes the functions, `slots` the
+//! trampolines to them, `image` puts these and the data together; `law` speaks of any image that holds
+//! an object. Proofs stand in layers: `proofs/lockstep` runs an object beside an image that holds it,
+//! `proofs/hidden` shows that a layout does. Addresses count bytes.
 #![tactic(auto)]
 
 mod code;

@@ -1,4 +1,8 @@
 //! The slots: sixteen bytes each, every one at its position.
+//!
+//! A slot is a trampoline to code, and the way back behind it: its bytes may be run and not read, so
+//! displacements to hidden addresses may stand there. What is left of the sixteen bytes are
+//! breakpoints. Positions come from the slot seed; the displacements are the plan's.
 
 ghost use Rattle.std.specs.Prelude.{ℕ, ◌≡◌, ◌+◌, ◌*◌, ◌<◌, ◌≤◌, [], ◌∷◌, length, IfOk, Some};
 ghost use Rattle.x86_core.specs.Data.{segment};
@@ -24,7 +28,9 @@ pub fn slot_segment(
 ) -> Result<Segment, NoMemory>
     requires few { length o.now.object.slots ≤ 1048576 }
     requires positions { positions.now ≡ positions_of o.now.object }
-    ensures { IfOk result (λ s. s ≡ segment slot_base (trampolines (planned plan.now) positions.now o.now.object.slots (inverse positions.now)) 1) }
+    ensures { IfOk result (λ s. s ≡ segment slot_base
+        (trampolines (planned plan.now) positions.now o.now.object.slots (inverse positions.now))
+        1) }
 {
     let slots = o.object().slots.as_slice();
     let mut builder = CodeBuilder::for_slots(alloc, o)?;
@@ -41,7 +47,10 @@ fn put_slot(builder: &mut CodeBuilder, plan: &CodePlan, at: u32, slot: &Slot)
     requires small { length builder.old.bytes ≤ 16777216 }
     requires inside { at + 16 ≤ length builder.old.bytes }
     requires blank { builder.old.bytes ≡ overlaid builder.old.bytes at (filler 16) }
-    ensures { builder.new ≡ record builder.old { bytes = overlaid builder.old.bytes at (trampoline (planned plan.now) (slot_base + at) (Some slot.now)) } }
+    ensures { builder.new ≡ record builder.old {
+      bytes = overlaid builder.old.bytes at
+          (trampoline (planned plan.now) (slot_base + at) (Some slot.now));
+    } }
 {
     match slot {
         Slot::Entry { target } => put_branch(builder, plan, at, 0xE9, &start(*target)),
@@ -67,7 +76,10 @@ fn put_branch(builder: &mut CodeBuilder, plan: &CodePlan, at: u32, opcode: u8, t
     requires runs { builder.old.runs ≡ slot_run (length builder.old.bytes) ∷ [] }
     requires small { length builder.old.bytes ≤ 16777216 }
     requires inside { at + 5 ≤ length builder.old.bytes }
-    ensures { builder.new ≡ record builder.old { bytes = overlaid builder.old.bytes at (opcode ∷ displacement_bytes (planned plan.now to.now) (slot_base + at + 5)) } }
+    ensures { builder.new ≡ record builder.old {
+      bytes = overlaid builder.old.bytes at
+          (opcode ∷ displacement_bytes (planned plan.now to.now) (slot_base + at + 5));
+    } }
 {
     builder.bytes(at, &[opcode]);
     builder.branch(at + 1, &plan.place(to));
