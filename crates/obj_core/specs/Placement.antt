@@ -82,7 +82,7 @@ inverse xs = map (index_in xs) (range_with_len 0 (length xs))
 
 -- where code begins
 abbrev pub code_base : ℕ → ℕ
-code_base seed = 1073741824 + 4096 * (keystream_word seed gap_purpose 0 0 % 65536)
+code_base seed = 0x40000000 + 4096 * (keystream_word seed gap_purpose 0 0 % 65536)
 
 -- where a piece begins behind the end of another, by the word that is drawn for it
 abbrev pub start_behind : ℕ → ℕ → ℕ

@@ -1,10 +1,11 @@
 -- Where slots stand: at fixed addresses, in an order that the slot seed draws.
 use Rattle.std.specs.Prelude.{ℕ, ◌+◌, ◌*◌, List, length, slice_index}
 use Rattle.rd_draw.specs.Draw.{keystream_word, shuffled}
+use Rattle.obj_core.specs.declared.address.TheConstants.{SLOT_BASE}
 use Rattle.obj_core.specs.declared.object.Object.{Object}
 
 abbrev pub slot_base : ℕ
-slot_base = 268435456
+slot_base = SLOT_BASE
 
 -- what the keystream is drawn for
 abbrev pub slot_purpose : ℕ

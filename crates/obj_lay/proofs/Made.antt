@@ -23,7 +23,7 @@ pub made : (o : Object) (seed : ℕ) (plan : CodePlan) (at : List ℕ) (entry : 
     → entry ≡ slot_base + 16 * slice_index at 0
     → slots ≡ segment slot_base (trampolines (planned plan) at o.slots (inverse at)) 1
     → code ≡ segment (code_base seed) (code_bytes o seed) 1
-    → all ≡ present slots.start slots.bytes slots.rights.0 ++ (present 536870912 o.ro 4 ++ (present 805306368 o.rw 6 ++ present code.start code.bytes code.rights.0))
+    → all ≡ present slots.start slots.bytes slots.rights.0 ++ (present 0x20000000 o.ro 4 ++ (present 0x30000000 o.rw 6 ++ present code.start code.bytes code.rights.0))
     → image entry all ≡ layout o seed
 unfolding layout
 made o seed plan at entry slots code all is at_is entry_is slots_are code_is all_are =
@@ -31,5 +31,5 @@ made o seed plan at entry slots code all is at_is entry_is slots_are code_is all
     ap (λ n. image n all) (entry_is ∙ ap (λ (a : List ℕ). slot_base + 16 * slice_index a 0) at_is) ∙
     ap (image (slot_base + 16 * slice_index (positions o) 0)) (
     all_are ∙
-    ap (λ (s : Segment). given s ++ (present 536870912 o.ro 4 ++ (present 805306368 o.rw 6 ++ given code))) slots_here ∙
-    ap (λ (s : Segment). present slot_base (trampoline_bytes o seed) 1 ++ (present 536870912 o.ro 4 ++ (present 805306368 o.rw 6 ++ given s))) code_is)
+    ap (λ (s : Segment). given s ++ (present 0x20000000 o.ro 4 ++ (present 0x30000000 o.rw 6 ++ given code))) slots_here ∙
+    ap (λ (s : Segment). present slot_base (trampoline_bytes o seed) 1 ++ (present 0x20000000 o.ro 4 ++ (present 0x30000000 o.rw 6 ++ given s))) code_is)

@@ -53,7 +53,7 @@ append_none : (ss : List Segment) → ss ++ [] ≡ ss
 append_none [] = refl
 append_none (s ∷ ss) = ap (λ rest. s ∷ rest) (append_none ss)
 
-base_low : (seed : ℕ) → 1073741824 ≤ code_base seed
+base_low : (seed : ℕ) → 0x40000000 ≤ code_base seed
 base_low seed = omega arith
 
 base_high : (seed : ℕ) → code_base seed ≤ 1342173184
@@ -79,7 +79,7 @@ layout_sound o seed functions some slots code data_bytes =
     let total : sum (map (λ (f : Func). length f.bytes) o.functions) ≡ code_len o.functions = sum-map (λ (f : Func). length f.bytes) o.functions in
     let code_size : length (code_bytes o seed) ≤ code_len o.functions + 511 * length o.functions + 15 = code_small o seed in
     let base = code_base seed in
-    let low : 1073741824 ≤ base = base_low seed in
+    let low : 0x40000000 ≤ base = base_low seed in
     let high : base ≤ 1342173184 = base_high seed in
     let rights : (n : ℕ) → 1 ≤ n → n ≤ 7 → IsRights n = λ n a b. (a, b) in
     let at_code = front_fits (rw_start + length o.rw) base 0 0 1 (code_bytes o seed) [] (base_aligned seed) (omega arith) (omega arith) (rights 1 (omega arith) (omega arith)) (omega arith) (none_fits (base + length (code_bytes o seed))) in

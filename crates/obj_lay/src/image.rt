@@ -6,7 +6,7 @@
 
 ghost use Rattle.std.specs.Prelude.{ℕ, ◌≡◌, ◌++◌, ◌<◌, ◌≤◌, ◌^◌, length, OnOk, IfOk, slice_index, if◌then◌else◌};
 ghost use Rattle.std.specs.List.{sum_by};
-ghost use Rattle.x86_core.specs.Data.{segment as segment_of};
+ghost use Rattle.x86_core.specs.Data.{ro_start, rw_start, segment as segment_of};
 ghost use Rattle.obj_core.specs.declared.object.Func.{Func};
 ghost use Rattle.obj_core.specs.Slots.{positions as positions_of};
 ghost use Rattle.obj_core.specs.WellFormed.{IsWellFormed};
@@ -24,13 +24,7 @@ use rd_draw::{perm, shuffle_known};
 use rd_num::list::List;
 use rd_num::width::NoMemory;
 use std::alloc::Global;
-use x86_core::image::{Image, Segment};
-
-/// Where data stands that may be read.
-const RO_START: u64 = 0x2000_0000;
-
-/// Where data stands that may be read and written.
-const RW_START: u64 = 0x3000_0000;
+use x86_core::image::{Image, RO_START, RW_START, Segment};
 
 /// What the order of slots is drawn for.
 const SLOT_PURPOSE: u32 = 2;
@@ -76,7 +70,7 @@ fn four_segments(
     code: Segment,
 ) -> Result<List<Segment>, NoMemory>
     ensures { IfOk result (λ all. all ≡ present slots.start slots.bytes slots.rights.0 ++
-        (present 536870912 o.now.ro 4 ++ (present 805306368 o.now.rw 6 ++
+        (present ro_start o.now.ro 4 ++ (present rw_start o.now.rw 6 ++
         present code.start code.bytes code.rights.0))) }
 {
     let mut all = List::new(alloc);

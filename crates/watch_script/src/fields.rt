@@ -15,7 +15,8 @@ fn place(bytes: &[u8], mark: u8) -> Option<usize>
 /// What stands before and behind the first mark. `None` comes exactly where there is no mark.
 #[tactic(auto, unfolding(crate::specs::Reading::split_at))]
 pub(crate) fn split(bytes: &[u8], mark: u8) -> Option<(&[u8], &[u8])>
-    ensures { MatchOption result (split_at mark bytes.now ≡ None) (λ p. split_at mark bytes.now ≡ Some (p.0.now, p.1.now)) }
+    ensures { MatchOption result (split_at mark bytes.now ≡ None)
+        (λ p. split_at mark bytes.now ≡ Some (p.0.now, p.1.now)) }
 {
     match place(bytes, mark) {
         Some(i) => Some((&bytes[..i], &bytes[i + 1..])),

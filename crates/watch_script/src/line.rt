@@ -42,7 +42,8 @@ fn read_line(line: &[u8]) -> Option<Event>
 ///
 /// `None` comes exactly where no next line of a script is there.
 pub(crate) fn next_event(bytes: &[u8], least: u64) -> Option<(Event, &[u8])>
-    ensures { MatchOption result (HasNoNext least bytes.now) (λ p. IsNext least bytes.now p.0 p.1.now) }
+    ensures { MatchOption result (HasNoNext least bytes.now)
+        (λ p. IsNext least bytes.now p.0 p.1.now) }
 {
     let (line, rest) = split(bytes, b'\n')?;
     let event = read_line(line)?;

@@ -76,7 +76,8 @@ fn piece(bytes: &[u8], from: usize) -> &[u8]
 
 /// Appends the lines of a segment's bytes.
 fn put_pieces(text: &mut List<u8>, start: u64, bytes: &[u8]) -> Result<(), NoMemory>
-    ensures { OnOk result (text.new ≡ text.old ++ pieces_text start bytes.now ((length bytes.now + 15) / 16)) }
+    ensures { OnOk result (text.new ≡ text.old ++
+        pieces_text start bytes.now ((length bytes.now + 15) / 16)) }
 {
     for i in 0..bytes.len().div_ceil(16) {
         let from = 16 * i;

@@ -24,7 +24,8 @@ pub enum ScriptFault {
 /// `Line` comes exactly where they spell none. A line without its line feed is bad, and so is any
 /// line after 4,096.
 pub fn parse_script(alloc: Global, bytes: &[u8]) -> Result<Script, ScriptFault>
-    ensures { MatchResult result (λ script. ScriptOf bytes.now script.events) (λ fault. FaultOf bytes.now fault) }
+    ensures { MatchResult result (λ script. ScriptOf bytes.now script.events)
+        (λ fault. FaultOf bytes.now fault) }
 {
     let mut events: List<Event> = List::new(alloc);
     let mut least = 0;
@@ -52,7 +53,10 @@ pub fn parse_script(alloc: Global, bytes: &[u8]) -> Result<Script, ScriptFault>
 
 /// A law: bytes are one script at most, no script where a line is the first bad one, and have one such line at most.
 pub fn scripts_are_told_apart()
-    ensures one { (bytes : Row ℕ) (events others : Row Read) → ScriptOf bytes events → ScriptOf bytes others → events ≡ others }
-    ensures none { (bytes : Row ℕ) (line : ℕ) (events : Row Read) → IsFirstBad bytes line → ScriptOf bytes events → ⊥ }
-    ensures line { (bytes : Row ℕ) (line : ℕ) (other : ℕ) → IsFirstBad bytes line → IsFirstBad bytes other → line ≡ other }
+    ensures one { (bytes : Row ℕ) (events others : Row Read) → ScriptOf bytes events →
+        ScriptOf bytes others → events ≡ others }
+    ensures none { (bytes : Row ℕ) (line : ℕ) (events : Row Read) → IsFirstBad bytes line →
+        ScriptOf bytes events → ⊥ }
+    ensures line { (bytes : Row ℕ) (line : ℕ) (other : ℕ) → IsFirstBad bytes line →
+        IsFirstBad bytes other → line ≡ other }
 {}

@@ -18,7 +18,8 @@ use xom_machine::machine::Machine;
 /// Nothing of other segments and no place of code is in the text. Besides the text itself it takes
 /// no memory, and zeros cost one look each.
 pub fn show_text(alloc: Global, machine: &Machine) -> Result<List<u8>, NoMemory>
-    ensures { IfOk result (λ text. (left printed : Row ℕ) (taken : ℕ) → text ≡ text_of (observe (state_of machine.now left printed taken))) }
+    ensures { IfOk result (λ text. (left printed : Row ℕ) (taken : ℕ) → text ≡
+        text_of (observe (state_of machine.now left printed taken))) }
 {
     let mut text = List::new(alloc);
     put_registers(&mut text, machine.regs())?;

@@ -116,7 +116,8 @@ pub fn watch<I: Source>(
     input: &mut I,
 ) -> Result<Report, RunFault>
     ensures reads { IfOk result (λ report. report.events ≡ script.now.events) }
-    ensures answers { WatchedOf image.now script.now.events (I.told input.old).left (I.told input.new).left result }
+    ensures answers { WatchedOf image.now script.now.events (I.told input.old).left
+        (I.told input.new).left result }
     ensures charged { InputCharged (I.told input.old).faults (I.told input.new).faults result }
 {
     let mut machine = match Machine::start(alloc, image) {

@@ -1,19 +1,20 @@
 -- The readable segments of a run, and its stack.
 use Rattle.std.specs.Prelude.{ℕ, List, [], ◌∷◌, replicate}
 use Rattle.x86_core.specs.declared.image.Segment.{Segment}
+use Rattle.x86_core.specs.declared.image.TheConstants.{RO_START, RW_START, STACK_START, STACK_END}
 
 -- where the readable segments and the stack lie
 abbrev pub ro_start : ℕ
-ro_start = 536870912
+ro_start = RO_START
 
 abbrev pub rw_start : ℕ
-rw_start = 805306368
+rw_start = RW_START
 
 abbrev pub stack_start : ℕ
-stack_start = 3154112512
+stack_start = STACK_START
 
 abbrev pub stack_end : ℕ
-stack_end = 3221225472
+stack_end = STACK_END
 
 -- 64 MiB and 4,096 bytes; never opened in a proof
 unfoldable pub stack_bytes : List ℕ

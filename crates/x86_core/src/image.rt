@@ -5,6 +5,12 @@ ghost use Rattle.std.specs.Prelude.{⊤, [], ◌∷◌, codes};
 use bitflags::{Flag, Flags, bitflag_items};
 use rd_num::list::List;
 
+/// Where data stands that may be read.
+pub const RO_START: u64 = 0x2000_0000;
+
+/// Where data stands that may be read and written.
+pub const RW_START: u64 = 0x3000_0000;
+
 /// The lowest address of the stack.
 pub const STACK_START: u64 = 0xBBFF_F000;
 

@@ -93,7 +93,8 @@ impl Machine {
         ensures ran { Ran (served (request_of self.old.regs) after after) self.old self.new
             (streams_told (I.told input.old) (O.told sink.old))
             (streams_told (I.told input.new) (O.told sink.new)) result }
-        ensures charged { Charged (I.told input.old) (I.told input.new) (O.told sink.old) (O.told sink.new) result }
+        ensures charged { Charged (I.told input.old) (I.told input.new) (O.told sink.old)
+            (O.told sink.new) result }
     {
         match asked(&self.regs) {
             Request::Exits => {
@@ -116,10 +117,12 @@ impl Machine {
     // Prints the bytes that `rsi` points to, in one piece.
     fn print<O: Sink>(&mut self, count: usize, after: u64, sink: &mut O) -> Result<(), RunFault>
         requires { 0 < count }
-        ensures ran { (source : SourceTold) → Ran (served (Prints count) after after) self.old self.new
+        ensures ran { (source : SourceTold) →
+            Ran (served (Prints count) after after) self.old self.new
             (streams_told source (O.told sink.old))
             (streams_told source (O.told sink.new)) result }
-        ensures charged { (source : SourceTold) → Charged source source (O.told sink.old) (O.told sink.new) result }
+        ensures charged { (source : SourceTold) →
+            Charged source source (O.told sink.old) (O.told sink.new) result }
     {
         match self.memory.bytes(self.regs.get(Reg::Rsi), count) {
             Some(bytes) => match sink.put(bytes) {
@@ -141,7 +144,8 @@ impl Machine {
     fn take<I: Source>(&mut self, after: u64, input: &mut I) -> Result<(), RunFault>
         ensures ran { (sink : SinkTold) → Ran (served Takes after after) self.old self.new
             (streams_told (I.told input.old) sink) (streams_told (I.told input.new) sink) result }
-        ensures charged { (sink : SinkTold) → Charged (I.told input.old) (I.told input.new) sink sink result }
+        ensures charged { (sink : SinkTold) →
+            Charged (I.told input.old) (I.told input.new) sink sink result }
     {
         let at = self.regs.get(Reg::Rsi);
         match self.memory.prepare(at, 1) {
@@ -160,7 +164,8 @@ impl Machine {
         requires allowed { IsTrue (is_allowed writes self.old.memory at 1) }
         ensures ran { (sink : SinkTold) → Ran (served Takes after after) self.old self.new
             (streams_told (I.told input.old) sink) (streams_told (I.told input.new) sink) result }
-        ensures charged { (sink : SinkTold) → Charged (I.told input.old) (I.told input.new) sink sink result }
+        ensures charged { (sink : SinkTold) →
+            Charged (I.told input.old) (I.told input.new) sink sink result }
     {
         match input.take() {
             Ok(Some(byte)) => {

@@ -29,7 +29,8 @@ impl Machine {
     /// A machine before the first instruction of an image: all registers and flags are 0 but `rsp`,
     /// which is the stack's end.
     pub fn start(alloc: Global, image: &Image) -> Result<Machine, NoMemory>
-        ensures { IfOk result (λ m. (input : List ℕ) → state_of m input [] 0 ≡ machine_start image.now input) }
+        ensures { IfOk result (λ m. (input : List ℕ) → state_of m input [] 0 ≡
+            machine_start image.now input) }
     {
         let memory = Memory::load(alloc, image)?;
         let mut regs = Regs::new();
@@ -90,7 +91,8 @@ impl Machine {
         ensures kept { IfErr result (Kept machine_step self.old
             (streams_told (I.told input.old) (O.told sink.old))
             (streams_told (I.told input.new) (O.told sink.new))) }
-        ensures charged { Charged (I.told input.old) (I.told input.new) (O.told sink.old) (O.told sink.new) result }
+        ensures charged { Charged (I.told input.old) (I.told input.new) (O.told sink.old)
+            (O.told sink.new) result }
     {
         self.advance(input, sink)
     }
@@ -112,7 +114,8 @@ impl Machine {
         ensures cut { IfErr result (CutOff n self.old self.new
             (streams_told (I.told input.old) (O.told sink.old))
             (streams_told (I.told input.new) (O.told sink.new))) }
-        ensures charged { Charged (I.told input.old) (I.told input.new) (O.told sink.old) (O.told sink.new) result }
+        ensures charged { Charged (I.told input.old) (I.told input.new) (O.told sink.old)
+            (O.told sink.new) result }
     {
         for _ in 0..n {
             if has_stopped(self.outcome) {

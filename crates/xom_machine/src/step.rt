@@ -70,7 +70,8 @@ fn moved_by(n: u64, by: i32) -> u64
 
 // Writes the low bytes of a word, and says whether that was allowed.
 fn stored(memory: &mut Memory, at: u64, size: Size, word: u64) -> bool
-    ensures { Wrote result (write_at memory.old at (le_bytes (size_bytes size) word)) memory.old memory.new }
+    ensures { Wrote result (write_at memory.old at (le_bytes (size_bytes size) word)) memory.old
+        memory.new }
 {
     let all = put_u64_le(word);
     memory.write_from(at, &all[..bytes_in(size)]).is_ok()
@@ -198,7 +199,8 @@ impl Machine {
         ensures ran { Ran (act Some (sorted instr.now after (moved after) after)) self.old self.new
             (streams_told (I.told input.old) (O.told sink.old))
             (streams_told (I.told input.new) (O.told sink.new)) result }
-        ensures charged { Charged (I.told input.old) (I.told input.new) (O.told sink.old) (O.told sink.new) result }
+        ensures charged { Charged (I.told input.old) (I.told input.new) (O.told sink.old)
+            (O.told sink.new) result }
     {
         let change = effect(instr, &self.regs, &self.flags);
         match change.next {
@@ -221,7 +223,8 @@ impl Machine {
         ensures ran { Ran machine_step self.old self.new
             (streams_told (I.told input.old) (O.told sink.old))
             (streams_told (I.told input.new) (O.told sink.new)) result }
-        ensures charged { Charged (I.told input.old) (I.told input.new) (O.told sink.old) (O.told sink.new) result }
+        ensures charged { Charged (I.told input.old) (I.told input.new) (O.told sink.old)
+            (O.told sink.new) result }
     {
         if has_stopped(self.outcome) {
             return Ok(());

@@ -70,7 +70,8 @@ impl Memory {
     ///
     /// `None` comes exactly past the last and where the segment may not be read.
     pub fn readable(&self, i: usize) -> Option<ReadableSegment<'_>>
-        ensures { MatchOption result (readable_at self.now i ≡ None) (λ s. readable_at self.now i ≡ Some (lent_segment s)) }
+        ensures { MatchOption result (readable_at self.now i ≡ None)
+            (λ s. readable_at self.now i ≡ Some (lent_segment s)) }
     {
         readable_part(self.parts.as_slice(), &self.stack, i)
     }
@@ -79,7 +80,8 @@ impl Memory {
     #[tactic(auto, using(crate::proofs::Allowed::read_length))]
     pub fn bytes(&self, at: u64, len: usize) -> Option<&[u8]>
         ensures count { IfSome result (λ b. length b.now ≡ len) }
-        ensures read { MatchOption result (read_at self.now at len ≡ None) (λ b. read_at self.now at len ≡ Some b.now) }
+        ensures read { MatchOption result (read_at self.now at len ≡ None)
+            (λ b. read_at self.now at len ≡ Some b.now) }
     {
         lent(self.parts.as_slice(), &self.stack, at, len)
     }
@@ -114,7 +116,9 @@ impl Memory {
         ensures written { OnOk result (self.new ≡ written_at self.old at bytes.now) }
         ensures unchanged { OnErr result (self.new ≡ self.old) }
         ensures refused { IfErr result (λ e. e ≡ WriteFault.Refused) }
-        ensures some { 0 < length bytes.now → MatchResult result (λ _. write_at self.old at bytes.now ≡ Some self.new) (λ _. write_at self.old at bytes.now ≡ None) }
+        ensures some { 0 < length bytes.now →
+            MatchResult result (λ _. write_at self.old at bytes.now ≡ Some self.new)
+            (λ _. write_at self.old at bytes.now ≡ None) }
     {
         if bytes.is_empty() {
             return Ok(());
@@ -174,7 +178,8 @@ fn copied(code: &[u8], out: &mut [u8; 16]) -> u8
 // The outline of a segment or, behind the last, of the stack.
 #[tactic(auto, using(crate::proofs::Behind::get_front, crate::proofs::Behind::get_last))]
 fn outline_at(parts: &[Part], stack: &Stack, i: usize) -> Option<(u64, u64, Rights)>
-    ensures { result ≡ option_map outline_of (slice_get (parts.now ++ segment stack_start stack.now 6 ∷ []) i) }
+    ensures { result ≡ option_map outline_of (slice_get
+        (parts.now ++ segment stack_start stack.now 6 ∷ []) i) }
 {
     match parts.get(i) {
         Some(part) => Some(part.outline()),
@@ -186,7 +191,8 @@ fn outline_at(parts: &[Part], stack: &Stack, i: usize) -> Option<(u64, u64, Righ
 // The whole segment with an index or, behind the last, the stack, where it may be read.
 #[tactic(auto, using(crate::proofs::Whole::whole_front, crate::proofs::Whole::whole_last, crate::proofs::Whole::whole_past))]
 fn readable_part<'a>(parts: &'a [Part], stack: &'a Stack, i: usize) -> Option<ReadableSegment<'a>>
-    ensures { let all = parts.now ++ segment stack_start stack.now 6 ∷ [] in MatchOption result (readable_at all i ≡ None) (λ s. readable_at all i ≡ Some (lent_segment s)) }
+    ensures { let all = parts.now ++ segment stack_start stack.now 6 ∷ [] in MatchOption result
+        (readable_at all i ≡ None) (λ s. readable_at all i ≡ Some (lent_segment s)) }
 {
     match parts.get(i) {
         Some(part) => part.readable(),
@@ -198,7 +204,9 @@ fn readable_part<'a>(parts: &'a [Part], stack: &'a Stack, i: usize) -> Option<Re
 // The bytes of a range, where a segment or the stack may be read and covers it.
 #[tactic(auto, using(crate::proofs::Behind::read_front, crate::proofs::Behind::read_back))]
 fn lent<'a>(parts: &'a [Part], stack: &'a Stack, at: u64, len: usize) -> Option<&'a [u8]>
-    ensures { MatchOption result (read_at (parts.now ++ segment stack_start stack.now 6 ∷ []) at len ≡ None) (λ b. read_at (parts.now ++ segment stack_start stack.now 6 ∷ []) at len ≡ Some b.now) }
+    ensures { MatchOption result (read_at (parts.now ++
+        segment stack_start stack.now 6 ∷ []) at len ≡ None)
+        (λ b. read_at (parts.now ++ segment stack_start stack.now 6 ∷ []) at len ≡ Some b.now) }
 {
     match readable(parts, at, len) {
         Some(bytes) => Some(bytes),
@@ -210,7 +218,8 @@ fn lent<'a>(parts: &'a [Part], stack: &'a Stack, at: u64, len: usize) -> Option<
 // Whether a segment or the stack may be written and covers a range.
 #[tactic(auto, using(crate::proofs::Behind::holds_behind))]
 fn is_writable(parts: &[Part], stack: &Stack, at: u64, len: usize) -> bool
-    ensures { result ≡ one_covers writes (parts.now ++ segment stack_start stack.now 6 ∷ []) at len }
+    ensures { result ≡ one_covers writes (parts.now ++
+        segment stack_start stack.now 6 ∷ []) at len }
 {
     is_any_writable(parts, at, len) || stack.covers(at, len)
 }
@@ -218,7 +227,8 @@ fn is_writable(parts: &[Part], stack: &Stack, at: u64, len: usize) -> bool
 // Writes bytes where a segment or the stack may be written and covers their range.
 #[tactic(auto, using(crate::proofs::Behind::write_front, crate::proofs::Behind::write_back, crate::proofs::Behind::write_none))]
 fn put_at(parts: &mut [Part], stack: &mut Stack, at: u64, bytes: &[u8]) -> bool
-    ensures { let all = parts.old ++ segment stack_start stack.old 6 ∷ [] in Wrote result (write_at all at bytes.now) all (parts.new ++ segment stack_start stack.new 6 ∷ []) }
+    ensures { let all = parts.old ++ segment stack_start stack.old 6 ∷ [] in Wrote result
+        (write_at all at bytes.now) all (parts.new ++ segment stack_start stack.new 6 ∷ []) }
 {
     if write_in(parts, at, bytes) {
         return true;
@@ -250,7 +260,8 @@ fn copies(alloc: Global, segments: &[Segment]) -> Result<Vec<Part>, NoMemory>
 
 // The bytes of a range, where one of the segments may be read and covers it.
 fn readable<'a>(parts: &'a [Part], at: u64, len: usize) -> Option<&'a [u8]>
-    ensures { MatchOption result (read_at parts.now at len ≡ None) (λ b. read_at parts.now at len ≡ Some b.now) }
+    ensures { MatchOption result (read_at parts.now at len ≡ None)
+        (λ b. read_at parts.now at len ≡ Some b.now) }
 {
     for part in parts {
         if may_read(part.rights()) && part.covers(at, len) {
@@ -262,7 +273,8 @@ fn readable<'a>(parts: &'a [Part], at: u64, len: usize) -> Option<&'a [u8]>
 
 // Up to sixteen bytes of code, where one of the segments may be executed and covers their address.
 fn executable<'a>(parts: &'a [Part], at: u64) -> Option<&'a [u8]>
-    ensures { MatchOption result (code_at parts.now at ≡ None) (λ b. code_at parts.now at ≡ Some b.now) }
+    ensures { MatchOption result (code_at parts.now at ≡ None)
+        (λ b. code_at parts.now at ≡ Some b.now) }
 {
     for part in parts {
         if may_execute(part.rights()) && part.covers(at, 1) {

@@ -92,7 +92,8 @@ impl Part {
 
     /// The whole segment, where it may be read.
     pub fn readable(&self) -> Option<ReadableSegment<'_>>
-        ensures { MatchOption result (where_readable self.now ≡ None) (λ s. where_readable self.now ≡ Some (lent s)) }
+        ensures { MatchOption result (where_readable self.now ≡ None)
+            (λ s. where_readable self.now ≡ Some (lent s)) }
     {
         if !may_read(self.rights) {
             return None;

@@ -113,7 +113,8 @@ impl Stack {
     /// Puts bytes in the place of others, in a range that is in the stack.
     pub fn put(&mut self, at: u64, bytes: &[u8])
         requires { IsTrue (covers (segment stack_start self.old 6) at (length bytes.now)) }
-        ensures { self.new ≡ take (at - stack_start) self.old ++ (bytes.now ++ drop (at - stack_start + length bytes.now) self.old) }
+        ensures { self.new ≡ take (at - stack_start) self.old ++
+            (bytes.now ++ drop (at - stack_start + length bytes.now) self.old) }
     {
         let from = (at - STACK_START) as usize;
         self.bytes[from..from + bytes.len()].copy_from_slice(bytes);

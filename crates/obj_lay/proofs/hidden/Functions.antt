@@ -76,7 +76,7 @@ module _ (o : Object) (w : IsWellFormed o) (seed : ℕ) where
 
     -- offsets within the function have near addresses
     pub record Near (off : ℕ) (i : Instr) : Type 0 where
-      pub low : 1073741824 ≤ start o seed n + off
+      pub low : 0x40000000 ≤ start o seed n + off
       pub high : start o seed n + off + size_of i ≤ 1412000000
       pub inside : off + size_of i ≤ length f.bytes
 
@@ -161,7 +161,7 @@ module _ (o : Object) (w : IsWellFormed o) (seed : ℕ) where
         let from = start o seed n + (off + size_of (make by)) in
         let way = between to from in
         let close = near off (make by) h in
-        let low : 1073741824 ≤ start o seed n + off = close.low in
+        let low : 0x40000000 ≤ start o seed n + off = close.low in
         let high : start o seed n + off + size_of (make by) ≤ 1412000000 = close.high in
         let below = slot_low o seed k w.few z.0 in
         let zero_there = subst (λ d. IsIn 0 instrs off (make d)) none h in
@@ -215,7 +215,7 @@ module _ (o : Object) (w : IsWellFormed o) (seed : ℕ) where
 
   -- the places of functions: near, and at the address that the layout gives them
   pub record NearCode (n off : ℕ) : Type 0 where
-    pub low : 1073741824 ≤ start o seed n + off
+    pub low : 0x40000000 ≤ start o seed n + off
     pub high : start o seed n + off ≤ 1412000000
     pub given : address o seed (record { function = n; offset = off }) ≡ start o seed n + off
 

@@ -69,7 +69,7 @@ module _ (o : Object) (w : IsWellFormed o) (seed : ℕ) where
         IsAtTo (exec o w seed) (at_place o w seed (Place.Slot k at)) make (at_place o w seed (Place.Code n off))
     leads make at le n off ok sized fits fill =
         let x = near_code o w seed n off ok in
-        let low_to : 1073741824 ≤ start o seed n + off = x.low in
+        let low_to : 0x40000000 ≤ start o seed n + off = x.low in
         let high_to : start o seed n + off ≤ 1412000000 = x.high in
         let below = low in
         let bytes =
