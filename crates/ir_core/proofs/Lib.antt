@@ -5,6 +5,7 @@ pub mod Types
 pub mod Inits
 pub mod NameSets
 pub mod WrittenTypes
+pub mod InitRules
 pub mod ExtentLaws
 pub mod RowLaws
 pub mod WorkedWords
