@@ -64,12 +64,12 @@ told_sum x s = omega arith
 told_end : (at a s : ℕ) → 0 < a → told (rounded (told at) a + told s) ≡ told (rounded at a + s)
 told_end at a s p =
     elim (cases_lt at (2 ^ 64)) [
-      inl below ↦ (let e : told at ≡ at = omega arith in ap (λ n. told (rounded n a + told s)) e ∙ told_sum (rounded at a) s)
+      | inl below ↦ (let e : told at ≡ at = omega arith in ap (λ n. told (rounded n a + told s)) e ∙ told_sum (rounded at a) s)
       | inr above ↦ (let e : told at ≡ 2 ^ 64 - 1 = omega arith in
-        let l = rounded_up (2 ^ 64 - 1) a p in
-        let r = rounded_up at a p in
-        let same : told (rounded (2 ^ 64 - 1) a + told s) ≡ told (rounded at a + s) = omega arith in
-        ap (λ n. told (rounded n a + told s)) e ∙ same)
+          let l = rounded_up (2 ^ 64 - 1) a p in
+          let r = rounded_up at a p in
+          let same : told (rounded (2 ^ 64 - 1) a + told s) ≡ told (rounded at a + s) = omega arith in
+          ap (λ n. told (rounded n a + told s)) e ∙ same)
     ]
 
 -- a product of what is told
@@ -77,15 +77,15 @@ told_product : (n s : ℕ) → told (n * told s) ≡ told (n * s)
 told_product zero s = omega arith
 told_product (suc n) s =
     elim (cases_lt s (2 ^ 64)) [
-      inl below ↦ (let e : told s ≡ s = omega arith in ap (λ k. told (suc n * k)) e)
+      | inl below ↦ (let e : told s ≡ s = omega arith in ap (λ k. told (suc n * k)) e)
       | inr above ↦ (let e : told s ≡ 2 ^ 64 - 1 = omega arith in
-        let one : 1 ≤ suc n = omega arith in
-        let less : 2 ^ 64 - 1 ≤ s = omega arith in
-        let all : 2 ^ 64 - 1 ≤ 2 ^ 64 - 1 = omega arith in
-        let l = mul-le 1 (2 ^ 64 - 1) (suc n) (2 ^ 64 - 1) one all in
-        let r = mul-le 1 (2 ^ 64 - 1) (suc n) s one less in
-        let same : told (suc n * (2 ^ 64 - 1)) ≡ told (suc n * s) = omega arith in
-        ap (λ k. told (suc n * k)) e ∙ same)
+          let one : 1 ≤ suc n = omega arith in
+          let less : 2 ^ 64 - 1 ≤ s = omega arith in
+          let all : 2 ^ 64 - 1 ≤ 2 ^ 64 - 1 = omega arith in
+          let l = mul-le 1 (2 ^ 64 - 1) (suc n) (2 ^ 64 - 1) one all in
+          let r = mul-le 1 (2 ^ 64 - 1) (suc n) s one less in
+          let same : told (suc n * (2 ^ 64 - 1)) ≡ told (suc n * s) = omega arith in
+          ap (λ k. told (suc n * k)) e ∙ same)
     ]
 
 -- fields as a struct lays them out: packed ones as if aligned to one byte

@@ -4,7 +4,12 @@ pub mod Fits
 pub mod Types
 pub mod Inits
 pub mod NameSets
+pub mod LookupLaws
+pub mod LoopLaws
+pub mod LocalLaws
+pub mod Distinct
 pub mod WrittenTypes
+pub mod InitRules
 pub mod ExtentLaws
 pub mod RowLaws
 pub mod WorkedWords

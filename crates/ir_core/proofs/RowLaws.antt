@@ -1,6 +1,6 @@
 -- Rows of named types after some rounds tell what the names stand for.
-use Rattle.std.proofs.Common.{◌≡◌, ℕ, zero, suc, ◌+◌, ◌-◌, ◌≤◌, Bool, true, false, List, [], ◌∷◌, map, Option, Some, None, refl, ap, sym, ◌∙◌, subst, arith, if◌then◌else◌, add-suc}
-use Rattle.std.specs.Prelude.{option_map, slice_get, unwrap_or}
+use Rattle.std.proofs.Common.{◌≡◌, ℕ, zero, suc, ◌+◌, ◌-◌, ◌≤◌, Bool, true, false, List, [], ◌∷◌, map, Option, Some, None, refl, ap, sym, ◌∙◌, subst, arith, if◌then◌else◌}
+use Rattle.std.specs.Prelude.{option_map}
 use Rattle.ir_core.specs.declared.limit.TheConstants.{MAX_NESTING}
 use Rattle.ir_core.specs.declared.size.Align.TheVariants.{One}
 use Rattle.ir_core.specs.declared.size.Extent.{Extent}
@@ -8,8 +8,8 @@ use Rattle.ir_core.specs.declared.ty.Ty.{Ty, fold-Ty}
 use Rattle.ir_core.specs.declared.ty.NamedTy.{NamedTy}
 use Rattle.ir_core.specs.Names.{same_name, number_where, first_where}
 use Rattle.ir_core.specs.Shapes.{Shape, shape_at, shape_or_nothing, named_shape, shape_of, nothing}
-use Rattle.ir_core.specs.Counts.{told, depth_at, depth_or_none, named_depth, depth_of, size_count}
-use Rattle.ir_core.specs.Sizes.{empty_extent, extent_at, row_at, row_in, extent_in, first_rows, names_in, next_rows, rows_after}
+use Rattle.ir_core.specs.Counts.{depth_at, depth_or_none, named_depth, depth_of, size_count}
+use Rattle.ir_core.specs.Sizes.{empty_extent, row_at, row_in, extent_in, first_rows, names_in, next_rows, rows_after}
 use Rattle.ir_core.proofs.ExtentLaws.{Tells, tells_ty}
 
 -- the row that a type has, if there is one

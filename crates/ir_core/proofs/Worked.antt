@@ -29,7 +29,7 @@ use Rattle.ir_core.proofs.Inits.{init-value}
 use Rattle.ir_core.proofs.WorkedWords.{i1, i8, i32, i64, local, int, gives, block, function, module_of, entry, arg, left, shown}
 
 -- ret i32 7
-abbrev seven : Module
+abbrev pub seven : Module
 seven = module_of [] (function (codes "main") [] (block (codes "0") [] (Term.RetValue i32 (int 7)) ∷ []) ∷ [])
 
 -- before its one step
@@ -61,11 +61,11 @@ unfolding source_run source_start source_step out-Ty out
 square_at_4 = refl
 
 -- declare i32 @putchar(i32)
-abbrev putchar : Extern
+abbrev pub putchar : Extern
 putchar = record { name = codes "putchar"; ret = i32; params = i32 ∷ [] }
 
 -- two phis that exchange their values at each turn print ABABA
-abbrev exchange : Module
+abbrev pub exchange : Module
 exchange = module_of (putchar ∷ []) (function (codes "main") [] (
     block (codes "e") [] (Term.Br (codes "h"))
     ∷ block (codes "h") (

@@ -145,3 +145,20 @@ names-ptr = ap names_of (sym rolls-Ptr) ∙ fold-roll-Ty (List (List ℕ)) names
 -- nor in void
 pub names-void : names_of Void ≡ []
 names-void = ap names_of (sym rolls-Void) ∙ fold-roll-Ty (List (List ℕ)) names_at Ty-F.Void
+
+-- in an array those of its elements' type
+pub names-array : (n : ℕ) (of : Ty) → names_of (Array n of) ≡ names_of of
+names-array n of = ap names_of (sym (rolls-Array n of)) ∙ fold-roll-Ty (List (List ℕ)) names_at (Ty-F.Array n of)
+
+-- the names of several types, as a fold has them
+names_of_all : (ts : List Ty) → flat_map (λ (ns : List (List ℕ)). ns) (map names_of ts) ≡ flat_map names_of ts
+names_of_all [] = refl
+names_of_all (t ∷ ts) = ap (λ ns. names_of t ++ ns) (names_of_all ts)
+
+-- in a struct those of its fields
+pub names-struct : (fields : List Ty) → names_of (Struct fields) ≡ flat_map names_of fields
+names-struct fields = ap names_of (sym (rolls-Struct fields)) ∙ fold-roll-Ty (List (List ℕ)) names_at (Ty-F.Struct fields) ∙ names_of_all fields
+
+-- so in a packed one
+pub names-packed : (fields : List Ty) → names_of (Packed fields) ≡ flat_map names_of fields
+names-packed fields = ap names_of (sym (rolls-Packed fields)) ∙ fold-roll-Ty (List (List ℕ)) names_at (Ty-F.Packed fields) ∙ names_of_all fields

@@ -36,23 +36,38 @@ pub record LocalKind : Type 0 where
   pub name : List ℕ
   pub kind : Kind
 
--- the result of an instruction in front of others
-abbrev pub kind_before : Option (List ℕ) → Kind → List LocalKind → List LocalKind
-kind_before (Some name) kind others = record { name = name; kind = kind } ∷ others
-kind_before None kind others = others
+-- a result of that name, where there is one
+abbrev pub result_local : Option (List ℕ) → Kind → List LocalKind
+result_local (Some name) kind = record { name = name; kind = kind } ∷ []
+result_local None kind = []
+
+-- the result of an instruction
+abbrev pub inst_local : Inst → List LocalKind
+inst_local i = result_local i.result (kind_given i.op)
 
 -- the results of instructions
 abbrev pub kinds_in : List Inst → List LocalKind
-kinds_in [] = []
-kinds_in (i ∷ is) = kind_before i.result (kind_given i.op) (kinds_in is)
+kinds_in insts = flat_map inst_local insts
 
 -- a parameter
 abbrev pub param_kind : Param → LocalKind
 param_kind p = record { name = p.name; kind = kind_of p.ty }
 
+-- the results of blocks
+abbrev pub results_of : List Block → List LocalKind
+results_of blocks = flat_map (λ (b : Block). kinds_in b.insts) blocks
+
 -- the parameters and then the results of a function, in the order of its text
 abbrev pub locals_of : Function → List LocalKind
-locals_of f = map param_kind f.params ++ flat_map (λ (b : Block). kinds_in b.insts) f.blocks
+locals_of f = map param_kind f.params ++ results_of f.blocks
+
+-- the names of locals
+abbrev pub named_locals : List LocalKind → List (List ℕ)
+named_locals all = map (λ (l : LocalKind). l.name) all
+
+-- their kinds
+abbrev pub local_kinds : List LocalKind → List Kind
+local_kinds all = map (λ (l : LocalKind). l.kind) all
 
 -- the kind of the first local of a name
 abbrev pub kind_in : List LocalKind → Env

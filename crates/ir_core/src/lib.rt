@@ -21,7 +21,9 @@ pub mod memory;
 pub mod module;
 pub mod names;
 pub mod operand;
+pub mod scope;
 pub mod size;
+pub mod tables;
 pub mod ty;
 pub mod valid;
 

@@ -79,3 +79,13 @@ impl<'a> NameSet<'a> {
         Ok(None)
     }
 }
+
+/// The names of items, none of which stands twice.
+pub fn names_of<'a, T: Named>(alloc: Global, items: &'a [T]) -> Result<NameSet<'a>, NoMemory>
+    requires { repeated [] (map T.name_of items.now) ≡ [] }
+    ensures { IfOk result (λ s. s ≡ map T.name_of items.now) }
+{
+    let mut names = NameSet::new(alloc);
+    let _none = names.add_all(items)?;
+    Ok(names)
+}

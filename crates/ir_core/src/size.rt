@@ -14,7 +14,7 @@ ghost use Rattle.ir_core.specs.Definitions.{repeated, type_names};
 use crate::limit::MAX_NESTING;
 use crate::module::Module;
 use crate::names::NameSet;
-use crate::ty::{NamedTy, Name, Ty};
+use crate::ty::{Name, NamedTy, Ty};
 use rd_num::list::List;
 use rd_num::width::{NoMemory, Width};
 use std::alloc::Global;
@@ -46,7 +46,11 @@ impl Align {
     fn wider(self, other: Align) -> Align
         ensures { result ≡ wider self other }
     {
-        if self.bytes() < other.bytes() { other } else { self }
+        if self.bytes() < other.bytes() {
+            other
+        } else {
+            self
+        }
     }
 }
 
@@ -65,14 +69,22 @@ fn end_of(at: u64, align: Align, size: u64) -> u64
     let step = u128::from(align.bytes());
     let from = (u128::from(at) + (step - 1)) / step * step;
     let end = from + u128::from(size);
-    if end < u128::from(u64::MAX) { end as u64 } else { u64::MAX }
+    if end < u128::from(u64::MAX) {
+        end as u64
+    } else {
+        u64::MAX
+    }
 }
 
 /// One level deeper, as far as one past the limit of nesting.
 fn one_deeper(depth: u32) -> u32
     ensures { result ≡ deeper depth }
 {
-    if depth < MAX_NESTING { depth + 1 } else { MAX_NESTING + 1 }
+    if depth < MAX_NESTING {
+        depth + 1
+    } else {
+        MAX_NESTING + 1
+    }
 }
 
 impl Extent {
@@ -199,7 +211,6 @@ impl<'a> Model for Sizes<'a> {
     ghost use Rattle.ir_core.specs.declared.ty.NamedTy.{NamedTy as NamedType};
     ghost use Rattle.ir_core.specs.declared.limit.TheConstants.{MAX_NESTING};
     ghost use Rattle.ir_core.specs.Sizes.{names_in, rows_after};
-
     ghost use Rattle.ir_core.specs.contracts.ty.Ty as ty;
     ghost use Rattle.std.specs.Coded.{codes};
 
@@ -213,7 +224,12 @@ impl<'a> Model for Sizes<'a> {
 }
 
 /// One more round over the named types.
-fn next_round(alloc: Global, types: &[NamedTy], names: &NameSet, rows: &[Extent]) -> Result<List<Extent>, NoMemory>
+fn next_round(
+    alloc: Global,
+    types: &[NamedTy],
+    names: &NameSet,
+    rows: &[Extent],
+) -> Result<List<Extent>, NoMemory>
     requires { names.now ≡ names_in types.now }
     ensures { IfOk result (λ r. r ≡ next_rows types.now rows.now) }
 {

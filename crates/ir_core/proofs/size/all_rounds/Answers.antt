@@ -1,6 +1,6 @@
 use Rattle.std.proofs.Common.{◌≡◌, ◌≤◌, ◌∙◌, ap, sym, arith}
 use Rattle.ir_core.specs.declared.limit.TheConstants.{MAX_NESTING}
-use Rattle.ir_core.specs.Sizes.{next_rows, rows_after}
+use Rattle.ir_core.specs.Sizes.{next_rows}
 use Rattle.ir_core.proofs.RowLaws.{rows-zero, rows-more, settled}
 use Rattle.ir_core.proofs.size.all_rounds.Goals as goal
 

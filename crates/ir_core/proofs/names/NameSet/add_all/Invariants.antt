@@ -1,6 +1,5 @@
 -- what is left repeats what all do, and what was added stands behind what was there
 use Rattle.std.proofs.Common.{◌≡◌, ◌++◌, map, take, drop}
-use Rattle.std.specs.Prelude.{slice_get}
 use Rattle.ir_core.specs.Definitions.{repeated}
 use Rattle.ir_core.proofs.names.NameSet.add_all.Given as goal
 

@@ -1,4 +1,4 @@
-use Rattle.std.proofs.Common.{◌≡◌, ◌∙◌, ap}
+use Rattle.std.proofs.Common.{◌∙◌, ap}
 use Rattle.ir_core.specs.declared.size.Extent.{Extent}
 use Rattle.ir_core.specs.Counts.{size_count}
 use Rattle.ir_core.proofs.RowLaws.{size_over}
