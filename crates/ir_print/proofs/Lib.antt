@@ -1,2 +1,4 @@
 mod Commas
 mod Folds
+mod Literals
+mod Scanning
