@@ -2,3 +2,4 @@ mod Commas
 mod Folds
 mod Literals
 mod Scanning
+mod Spelled
