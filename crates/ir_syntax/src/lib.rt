@@ -7,6 +7,7 @@
 //! Source: LLVM Language Reference, in the integer profile of docs/languages.md.
 #![tactic(auto)]
 
+pub mod arguments;
 pub mod initialiser;
 pub mod item;
 pub mod metadata;
