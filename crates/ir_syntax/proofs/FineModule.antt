@@ -2,7 +2,7 @@
 use Rattle.std.proofs.Common.{◌≡◌, true, List, [], ◌∷◌, ◌++◌, refl}
 use Rattle.std.specs.Prelude.{codes}
 use Rattle.ir_grammar.specs.Tokens.{Sort, word, mark, local, label, global, debug_global, hash, debug_hash, meta, meta_number}
-use Rattle.ir_grammar.specs.Grammar.{give, either, ◌▸◌}
+use Rattle.ir_grammar.specs.Grammar.{give, ◌▸◌}
 use Rattle.ir_grammar.specs.Parts.{behind_comma}
 use Rattle.ir_grammar.specs.Reading.{fine}
 use Rattle.ir_grammar.proofs.Rows.{Item}
