@@ -13,6 +13,7 @@ pub mod item;
 pub mod metadata;
 pub mod names;
 pub mod parameter;
+pub mod traceless;
 pub mod types;
 pub mod values;
 pub mod words;
