@@ -1,5 +1,5 @@
 -- What classes begin with.
-use Rattle.std.proofs.Common.{◌≡◌, [], ◌∷◌, ◌++◌, refl, append-nil}
+use Rattle.std.proofs.Common.{◌≡◌, [], ◌∷◌, refl, append-nil}
 use Rattle.std.specs.Prelude.{codes}
 use Rattle.ir_grammar.specs.Tokens.{word}
 use Rattle.ir_grammar.specs.Reading.{first}

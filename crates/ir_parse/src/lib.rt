@@ -6,4 +6,6 @@
 //! Source: LLVM Language Reference, in the integer profile of docs/languages.md.
 #![tactic(auto)]
 
+pub mod declaration;
+pub mod item;
 pub mod terminator;
