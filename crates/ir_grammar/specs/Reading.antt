@@ -172,5 +172,4 @@ applied a (fault left) = fault left
 
 -- what was read before, in front of a row behind separators, and without what ends it
 abbrev pub put_row : {A B : Type 0} → List A → Read (List A × Option B) → Read (List A)
-put_row xs (done y ts) = done (xs ++ y.0) ts
-put_row xs (fault left) = fault left
+put_row xs r = r >>= λ y ts. done (xs ++ y.0) ts

@@ -1,2 +1,5 @@
+pub mod Calls
+pub mod Carried
 pub mod Firsts
+pub mod Loops
 pub mod Tails

@@ -6,6 +6,8 @@
 //! Source: LLVM Language Reference, in the integer profile of docs/languages.md.
 #![tactic(auto)]
 
+pub mod call;
 pub mod declaration;
+pub mod instruction;
 pub mod item;
 pub mod terminator;
