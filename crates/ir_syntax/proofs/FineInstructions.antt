@@ -10,7 +10,7 @@ use Rattle.ir_syntax.specs.Words.{words_from, parameter_word, a_comma, bin_word,
 use Rattle.ir_syntax.specs.Types.{itype}
 use Rattle.ir_syntax.specs.Metadata.{group, metadata, attach, attaches, align_tail}
 use Rattle.ir_syntax.specs.Parameters.{pattr}
-use Rattle.ir_syntax.specs.Instructions.{binary, compare, cast, select, freeze, alloca_tail, counted, alloca, load, index, index_rows, indices, gep, entry, entry_rows, entries, phi, call_head, callee, call_tail, call, op, store, void_callee, void_call, named_inst, void_inst, debug_inst, inst}
+use Rattle.ir_syntax.specs.Instructions.{binary, compare, cast, select, freeze, alloca_tail, counted, alloca, load, index, index_rows, indices, gep, entry, entry_rows, entries, phi, call_word, call_head, callee, function_attribute, call_attribute, call_tail, call, op, store, void_callee, void_call, named_inst, void_inst, debug_inst, inst}
 use Rattle.ir_syntax.proofs.FineTypes.{closed-ty, first-ty, closed-rtype, first-rtype}
 use Rattle.ir_syntax.proofs.FineValues.{closed-value, first-value, closed-args}
 
@@ -116,7 +116,7 @@ abbrev pub call_ends : List Sort
 call_ends = mark 44 ∷ mark 40 ∷ hash ∷ words_from [] (codes "unnamed_addr local_unnamed_addr nounwind noreturn uwtable noinline optnone alwaysinline mustprogress willreturn norecurse nofree nosync nocallback cold hot memory readnone readonly writeonly")
 
 pub known-call : Known call call_words call_ends
-unfolding call call_head convention pattr parameter_word callee call_tail function_word attaches attach metadata group
+unfolding call call_head call_word convention pattr parameter_word callee call_tail call_attribute function_attribute function_word attaches attach metadata group
 known-call =
     let rf = closed-rtype.good in let rs = closed-rtype.some in let re = closed-rtype.ends in
     let af = closed-args.good in let as_ = closed-args.some in let ae = closed-args.ends in
@@ -158,7 +158,7 @@ known-void_callee =
     record { good = simp (af, as_, ae); some = refl; first_is = refl; next_is = simp (ae, as_) }
 
 pub known-void_call : Known void_call call_words call_ends
-unfolding void_call call_head convention pattr parameter_word call_tail function_word attaches attach metadata group
+unfolding void_call call_head call_word convention pattr parameter_word call_tail call_attribute function_attribute function_word attaches attach metadata group
 known-void_call =
     let rf = closed-rtype.good in let rs = closed-rtype.some in let re = closed-rtype.ends in
     let k = known-void_callee in let kf = k.good in let ks = k.some in let kb = k.first_is in let ke = k.next_is in
@@ -186,6 +186,10 @@ inst_firsts = local ∷ void_firsts ++ debug_hash ∷ []
 pub known-debug_inst : Known debug_inst (debug_hash ∷ []) []
 unfolding debug_inst group
 known-debug_inst = record { good = refl; some = refl; first_is = refl; next_is = refl }
+
+pub item-call_attribute : Item call_attribute
+unfolding call_attribute function_attribute function_word
+item-call_attribute = record { good = refl; some = refl }
 
 pub known-inst : Known inst inst_firsts (op_ends ++ comma ++ comma ++ call_ends)
 unfolding inst

@@ -86,18 +86,29 @@ entries = give (λ e es. e ∷ es.0) ▸ entry ▸ entry_rows
 unfoldable pub phi : Grammar Op
 phi = give op_of.Phi ▹ the_word (codes "phi") ▸ ty ▸ entries
 
+-- [ "tail" | "notail" ] "call"
+unfoldable pub call_word : Grammar (Unit {0})
+call_word = either (one_word (codes "tail notail") ▹ the_word (codes "call")) (the_word (codes "call"))
+
 -- [ "tail" | "notail" ] "call" { CC } { pattr } rtype
 unfoldable pub call_head : Grammar Ty
-call_head =
-    give (λ t. t) ▹ either (one_word (codes "tail notail") ▹ the_word (codes "call")) (the_word (codes "call")) ▹ skip convention ▹ skip pattr ▸ rtype
+call_head = give (λ t. t) ▹ call_word ▹ skip convention ▹ skip pattr ▸ rtype
 
 -- Global | Local, where the Global doesn't begin with `llvm.dbg.`
 unfoldable pub callee : Grammar Operand
 callee = either (give operand.Global ▸ plain_global) (give operand.Local ▸ a_local)
 
+-- FWORD [ pgroup ]
+unfoldable pub function_attribute : Grammar (Unit {0})
+function_attribute = function_word ▹ maybe pgroup
+
+-- Hash | FWORD [ pgroup ], where the Hash doesn't begin with `dbg_`
+unfoldable pub call_attribute : Grammar (Unit {0})
+call_attribute = either plain_hash function_attribute
+
 -- { Hash | FWORD [ pgroup ] }, where the Hash doesn't begin with `dbg_`
 unfoldable pub call_tail : Grammar (Unit {0})
-call_tail = skip (either plain_hash (function_word ▹ maybe pgroup))
+call_tail = skip call_attribute
 
 -- call = [ "tail" | "notail" ] "call" { CC } { pattr } rtype ( Global | Local ) "(" [ arg { "," arg } ] ")" { Hash | FWORD [ pgroup ] }
 unfoldable pub call : Grammar Op
