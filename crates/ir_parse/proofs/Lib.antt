@@ -3,3 +3,4 @@ pub mod Carried
 pub mod Firsts
 pub mod Loops
 pub mod Tails
+pub mod Present
