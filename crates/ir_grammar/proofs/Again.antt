@@ -2,9 +2,10 @@
 use Rattle.std.proofs.Common.{◌≡◌, ℕ, zero, suc, ◌≤◌, true, false, List, [], ◌∷◌, ◌++◌, length, length-append, refl, sym, ◌∙◌, ap, inl, inr, arith, append_assoc}
 use Rattle.std.specs.Prelude.{◌&&◌, not}
 use Rattle.ir_lex.specs.declared.token.TokenKind.{TokenKind}
-use Rattle.ir_grammar.specs.Tokens.{mark, starts}
+use Rattle.ir_grammar.specs.Tokens.{mark, is_spellable, starts}
+use Rattle.ir_grammar.specs.Brackets.{mark_shape}
 use Rattle.ir_grammar.specs.Grammar.{Grammar, give, token, both, either, many, nest, loop, Row, Derives}
-use Rattle.ir_grammar.specs.Reading.{null, first, next, where_null, apart, fine, done, read_row, read}
+use Rattle.ir_grammar.specs.Reading.{null, first, next, where_null, apart, is_closing, fine, done, read_row, read}
 use Rattle.ir_grammar.proofs.Sets.{and_left, and_right, not_true, starts_neither, same_sort-refl}
 use Rattle.ir_grammar.proofs.Heads.{nulls, heads}
 use Rattle.ir_grammar.proofs.Stops.{stops_before, begins}
@@ -75,7 +76,9 @@ again (many g) ok v front rest d stop =
     let stops = starts_neither (next g) (first g) rest stop in
     again_row g some split (λ w us vs. again g good w us vs) (length (front ++ rest)) v front rest (omega arith) d stops.0 stops.1
 again (nest o c) ok v front rest (t, us, cut, s, k) stop =
-    rw cut (rw s (rw (same_sort-refl (mark o)) (scan_again c us rest (closing_is c ok) k)))
+    let last = and_right (is_spellable (mark o)) (is_spellable (mark c) && is_closing (mark_shape c)) ok in
+    let closing = and_right (is_spellable (mark c)) (is_closing (mark_shape c)) last in
+    rw cut (rw s (rw (same_sort-refl (mark o)) (scan_again c us rest (closing_is c closing) k)))
 again (loop s g h) ok v front rest d stop =
     let k = looped s g h ok in
     let stops = starts_neither (first s) (next g ++ next h) rest stop in

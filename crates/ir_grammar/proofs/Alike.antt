@@ -1,7 +1,8 @@
 -- What is told of tokens by what is read of them.
-use Rattle.std.proofs.Common.{◌≡◌, ℕ, List, [], ◌∷◌, ◌++◌, length, refl, sym, ◌∙◌, ap, map}
+use Rattle.std.proofs.Common.{◌≡◌, ℕ, List, [], ◌∷◌, ◌++◌, length, true, refl, sym, ◌∙◌, ap, map}
+use Rattle.std.specs.List.{list_all}
 use Rattle.ir_lex.specs.declared.token.TokenKind.{TokenKind}
-use Rattle.ir_grammar.specs.Tokens.{Sort, has, starts, sort_of, example}
+use Rattle.ir_grammar.specs.Tokens.{Sort, has, starts, sort_of, example, is_spellable}
 use Rattle.ir_grammar.specs.Reading.{Read, done, fault}
 
 -- both lists end, or begin with one token
@@ -43,6 +44,7 @@ pub record Stopped {A : Type 0} (D : A → List TokenKind → Type 0) (r : List 
   pub cut : ts ≡ front ++ rest
   pub left_is : left ≡ length rest
   pub more : List Sort
+  pub spelled : list_all is_spellable more ≡ true
   pub value : A
   pub derives : D value (front ++ map example more)
   pub local : (other : List TokenKind) → SameHead rest other → r (front ++ other) ≡ fault (length other)

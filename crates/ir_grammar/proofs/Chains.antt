@@ -1,8 +1,10 @@
 -- What is told of parts is told of what they make up.
-use Rattle.std.proofs.Common.{◌≡◌, List, ◌++◌, refl, sym, ◌∙◌, ap, subst, append_assoc, map}
+use Rattle.std.proofs.Common.{◌≡◌, true, List, ◌++◌, refl, sym, ◌∙◌, ap, subst, append_assoc, map}
+use Rattle.std.specs.List.{list_all}
 use Rattle.ir_lex.specs.declared.token.TokenKind.{TokenKind}
-use Rattle.ir_grammar.specs.Tokens.{Sort, example}
+use Rattle.ir_grammar.specs.Tokens.{Sort, example, is_spellable}
 use Rattle.ir_grammar.specs.Reading.{Read, done, fault, ◌>>=◌}
+use Rattle.ir_grammar.proofs.Sets.{all-append}
 use Rattle.ir_grammar.proofs.Heads.{map-append}
 use Rattle.ir_grammar.proofs.Alike.{SameHead, same_behind, Took, Told}
 
@@ -23,6 +25,7 @@ widen D E r q ts (fault left) wide as_r t = record {
   cut = t.cut;
   left_is = t.left_is;
   more = t.more;
+  spelled = t.spelled;
   value = t.value;
   derives = wide t.value (t.front ++ map example t.more) t.derives;
   local = λ other same. as_r t.front t.rest other t.cut same ∙ t.local other same;
@@ -53,6 +56,7 @@ module _ {A B C : Type 0} (D : A → List TokenKind → Type 0) (E : A → B →
     cut = t.cut ∙ ap (λ x. t.front ++ x) k.cut ∙ sym (append_assoc t.front k.front k.rest);
     left_is = k.left_is;
     more = k.more;
+    spelled = k.spelled;
     value = f a k.value;
     derives = join a k.value ((t.front ++ k.front) ++ map example k.more) t.front (k.front ++ map example k.more) (append_assoc t.front k.front (map example k.more)) t.derives k.derives;
     local = λ other same.
@@ -62,16 +66,17 @@ module _ {A B C : Type 0} (D : A → List TokenKind → Type 0) (E : A → B →
   }
 
   -- two parts, where there is a text of the second
-  pub chain_told : (ts : List TokenKind) (x : Read A) (end : List Sort) (b : B)
+  pub chain_told : (ts : List TokenKind) (x : Read A) (end : List Sort) (b : B) → list_all is_spellable end ≡ true
       → ((a : A) (b : B) (ts left right : List TokenKind) → ts ≡ left ++ right → D a left → E a b right → F (f a b) ts)
       → ((a : A) → E a b (map example end)) → Told D r ts x → ((us : List TokenKind) (a : A) → x ≡ done a us → Told (E a) (q a) us (q a us)) → Told F chain ts (x >>= λ a us. q a us >>= λ b vs. done (f a b) vs)
-  chain_told ts (done a us) end b join e t k = chain_next ts a us (q a us) join t (k us a refl)
-  chain_told ts (fault left) end b join e t k = record {
+  chain_told ts (done a us) end b sp join e t k = chain_next ts a us (q a us) join t (k us a refl)
+  chain_told ts (fault left) end b sp join e t k = record {
     front = t.front;
     rest = t.rest;
     cut = t.cut;
     left_is = t.left_is;
     more = t.more ++ end;
+    spelled = all-append is_spellable t.more end t.spelled sp;
     value = f t.value b;
     derives = join t.value b (t.front ++ map example (t.more ++ end)) (t.front ++ map example t.more) (map example end)
         (ap (λ x. t.front ++ x) (map-append example t.more end) ∙ sym (append_assoc t.front (map example t.more) (map example end))) t.derives (e t.value);
@@ -93,6 +98,7 @@ map_told D F r f ts (fault left) wide t = record {
   cut = t.cut;
   left_is = t.left_is;
   more = t.more;
+  spelled = t.spelled;
   value = f t.value;
   derives = wide t.value (t.front ++ map example t.more) t.derives;
   local = λ other same. ap (λ x. x >>= λ a vs. done (f a) vs) (t.local other same);

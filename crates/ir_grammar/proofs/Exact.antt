@@ -32,7 +32,7 @@ module _ {A : Type 0} (g : Grammar A) (ok : fine g ≡ true) where
         rest = t.rest;
         cut = t.cut;
         left_is = t.left_is;
-        viable = record { more = t.more; value = t.value; derives = t.derives };
+        viable = record { more = t.more; spelled = t.spelled; value = t.value; derives = t.derives };
         no_text = λ value d. (let both = sym e ∙ read_all value ts d in cc);
         dead = λ u behind other value next d.
             (let local : read g (t.front ++ u ∷ other) ≡ fault (length (u ∷ other)) = t.local (u ∷ other) (rw next refl) in
@@ -49,7 +49,7 @@ module _ {A : Type 0} (g : Grammar A) (ok : fine g ≡ true) where
         rest = t ∷ rest;
         cut = k.cut;
         left_is = refl;
-        viable = record { more = []; value = v; derives = subst (Derives g v) (sym (append-nil k.front)) k.derives };
+        viable = record { more = []; spelled = refl; value = v; derives = subst (Derives g v) (sym (append-nil k.front)) k.derives };
         no_text = λ value d. (let both = sym e ∙ read_all value ts d in cc);
         dead = λ u behind other value next d.
             (let same : t ≡ u = cc in

@@ -1,12 +1,14 @@
 -- What derivations begin with, and one that each grammar has.
 use Rattle.std.proofs.Common.{◌≡◌, Bool, true, false, List, [], ◌∷◌, ◌++◌, refl, sym, ◌∙◌, ap, subst, inl, inr, map, Option, Some, None}
+use Rattle.std.specs.Prelude.{◌&&◌, not}
+use Rattle.std.specs.List.{list_all}
 use Rattle.ir_lex.specs.declared.token.TokenKind.{TokenKind}
 use Rattle.ir_lex.specs.declared.token.TokenKind.TheVariants as kind
-use Rattle.ir_grammar.specs.Brackets.{none}
-use Rattle.ir_grammar.specs.Tokens.{mark, Sort, same_sort, has, sort_of, example}
+use Rattle.ir_grammar.specs.Brackets.{mark_shape, none}
+use Rattle.ir_grammar.specs.Tokens.{mark, Sort, same_sort, has, sort_of, example, is_spellable}
 use Rattle.ir_grammar.specs.Grammar.{Grammar, give, token, both, either, many, nest, loop, Row, Behind, Perhaps, Derives}
-use Rattle.ir_grammar.specs.Reading.{null, first, where_null, ending, ending_value}
-use Rattle.ir_grammar.proofs.Sets.{same_sort-refl, sort_of-example, or_true, or_right, in_left, in_right}
+use Rattle.ir_grammar.specs.Reading.{null, first, next, where_null, apart, is_closing, fine, ending, ending_value}
+use Rattle.ir_grammar.proofs.Sets.{same_sort-refl, sort_of-example, and_left, and_right, or_true, or_right, all-append, in_left, in_right}
 
 pub map-append : {A B : Type 0} (f : A → B) (xs ys : List A) → map f (xs ++ ys) ≡ map f xs ++ map f ys
 map-append f [] ys = refl
@@ -120,3 +122,19 @@ ends (either g h) = inl (ends g)
 ends (many g) = refl
 ends (nest o c) = (kind.Mark o, kind.Mark c ∷ [], refl, refl, ([], refl, none))
 ends (loop s g h) = ([], [], refl, refl, refl)
+
+-- that text has a spelling
+pub spelled-ending : {A : Type 0} (g : Grammar A) → fine g ≡ true → list_all is_spellable (ending g) ≡ true
+spelled-ending (give a) ok = refl
+spelled-ending (token s ss f) ok = rw ok refl
+spelled-ending (both f g h) ok =
+    let more = and_right (fine g) (fine h && apart (next g) (first h)) ok in
+    all-append is_spellable (ending g) (ending h) (spelled-ending g (and_left (fine g) (fine h && apart (next g) (first h)) ok))
+    (spelled-ending h (and_left (fine h) (apart (next g) (first h)) more))
+spelled-ending (either g h) ok = spelled-ending g (and_left (fine g) (fine h && (not (null g) && apart (first g) (first h))) ok)
+spelled-ending (many g) ok = refl
+spelled-ending (nest o c) ok =
+    let a = and_left (is_spellable (mark o)) (is_spellable (mark c) && is_closing (mark_shape c)) ok in
+    let b = and_left (is_spellable (mark c)) (is_closing (mark_shape c)) (and_right (is_spellable (mark o)) (is_spellable (mark c) && is_closing (mark_shape c)) ok) in
+    rw a (rw b refl)
+spelled-ending (loop s g h) ok = refl

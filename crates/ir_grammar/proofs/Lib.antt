@@ -13,3 +13,4 @@ pub mod Rows
 pub mod LoopRows
 pub mod Worked
 pub mod Groups
+pub mod Texts

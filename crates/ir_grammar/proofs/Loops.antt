@@ -7,7 +7,7 @@ use Rattle.ir_grammar.specs.Tokens.{Sort, starts}
 use Rattle.ir_grammar.specs.Grammar.{Grammar, loop, Row, Behind, Perhaps, Derives}
 use Rattle.ir_grammar.specs.Reading.{null, first, next, apart, fine, Read, done, fault, ◌>>=◌, read, read_choice, read_round, read_rounds, unless_last, with_round, ending, ending_value}
 use Rattle.ir_grammar.proofs.Sets.{and_left, and_right, not_true}
-use Rattle.ir_grammar.proofs.Heads.{nulls, ends}
+use Rattle.ir_grammar.proofs.Heads.{nulls, ends, spelled-ending}
 use Rattle.ir_grammar.proofs.Stops.{stops_before, begins, where_not}
 use Rattle.ir_grammar.proofs.Alike.{starts_same, starts_cut, Took, Told}
 use Rattle.ir_grammar.proofs.Chains.{widen, chain, chain_told, map_told}
@@ -151,7 +151,7 @@ module _ {A B : Type 0} (D : A ⊎ B → List TokenKind → Type 0) (r : List To
       subst (Told Rounds rounds ts) (sym (rounds_step shrinks ts e))
       (widen Rounds Rounds stepped rounds ts (stepped ts) (λ v us d. d)
       (λ front rest other cut same. rounds_step shrinks (front ++ other) (starts_cut sorts ts front rest other cut same ∙ e))
-      (chain_told D After Rounds r (λ x us. unless_last x rounds us) with_round ts (r ts) [] ([], None) join_round ends_after item (λ us x q. after_told x us (go us x q))))
+      (chain_told D After Rounds r (λ x us. unless_last x rounds us) with_round ts (r ts) [] ([], None) refl join_round ends_after item (λ us x q. after_told x us (go us x q))))
 
   rounds_told : Shrinks → ((ts : List TokenKind) → Told D r ts (r ts)) → (n : ℕ) (ts : List TokenKind) → length ts ≤ n → Told Rounds rounds ts (rounds ts)
   rounds_told shrinks item zero [] le = no_round_told [] refl
@@ -210,7 +210,7 @@ module _ {A B : Type 0} (s : Grammar (Unit {0})) (g : Grammar A) (h : Grammar B)
 
     one_round_told : (ts : List TokenKind) → Told OneRound one_round ts (one_round ts)
     one_round_told ts =
-        chain_told (Derives s) (λ _. Choice (Derives g) (Derives h)) OneRound (read s) (λ _. one_choice) (λ _ x. x) ts (read s ts) (ending g) (inl (ending_value g))
+        chain_told (Derives s) (λ _. Choice (Derives g) (Derives h)) OneRound (read s) (λ _. one_choice) (λ _ x. x) ts (read s ts) (ending g) (inl (ending_value g)) (spelled-ending g k.good_g)
         join_choice (λ _. ends g) (told_s ts) (λ us _ q. choice_told us)
 
     pub rounds_shrink : Shrinks OneRound one_round (first s)

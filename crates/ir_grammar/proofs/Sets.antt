@@ -1,6 +1,7 @@
 -- Sorts, and lists of them.
 use Rattle.std.proofs.Common.{◌≡◌, ℕ, Bool, true, false, List, [], ◌∷◌, ◌++◌, refl, sym, ◌∙◌, ap}
 use Rattle.std.specs.Prelude.{◌&&◌, ◌||◌, not, ◌==◌}
+use Rattle.std.specs.List.{list_all}
 use Rattle.std.proofs.lemmas.Bool.{eqb-true, eq-eqb}
 use Rattle.ir_lex.specs.declared.token.TokenKind.{TokenKind}
 use Rattle.ir_grammar.specs.Tokens.{Sort, word, mark, label, cstr, str, count, number, local, global, debug_global, meta, meta_number, hash, debug_hash, same_word, same_sort, has, starts, sort_of, example}
@@ -95,6 +96,12 @@ or_false false b e = (refl, e)
 pub or_none : (a b : Bool) → a ≡ false → b ≡ false → a || b ≡ false
 or_none true b e f = absurd (cc)
 or_none false b e f = f
+
+pub all-append : {A : Type 0} (test : A → Bool) (xs ys : List A) → list_all test xs ≡ true → list_all test ys ≡ true → list_all test (xs ++ ys) ≡ true
+all-append test [] ys e f = f
+all-append test (x ∷ xs) ys e f =
+    let more = all-append test xs ys (and_right (test x) (list_all test xs) e) f in
+    rw (and_left (test x) (list_all test xs) e) more
 
 or_assoc : (a b c : Bool) → (a || b) || c ≡ a || (b || c)
 or_assoc true b c = refl

@@ -3,11 +3,11 @@ use Rattle.std.proofs.Common.{◌≡◌, ℕ, zero, suc, ◌<◌, ◌≤◌, ◌
 use Rattle.std.specs.Prelude.{◌&&◌, not}
 use Rattle.std.proofs.lemmas.Bool.{cases_Bool}
 use Rattle.ir_lex.specs.declared.token.TokenKind.{TokenKind}
-use Rattle.ir_grammar.specs.Tokens.{Sort, has, starts, sort_of, example}
+use Rattle.ir_grammar.specs.Tokens.{Sort, has, starts, sort_of, example, is_spellable}
 use Rattle.ir_grammar.specs.Grammar.{Grammar, give, token, both, either, many, nest, loop, Row, Derives}
 use Rattle.ir_grammar.specs.Reading.{null, first, next, apart, fine, Read, done, fault, ◌>>=◌, read_one, read_row, read, ending, ending_value}
 use Rattle.ir_grammar.proofs.Sets.{and_left, and_right, not_true}
-use Rattle.ir_grammar.proofs.Heads.{nulls, ends, has-example}
+use Rattle.ir_grammar.proofs.Heads.{nulls, ends, spelled-ending, has-example}
 use Rattle.ir_grammar.proofs.Alike.{SameHead, starts_same, starts_cut, Took, Told}
 use Rattle.ir_grammar.proofs.Chains.{widen, chain, chain_told}
 use Rattle.ir_grammar.proofs.Nests.{nest_told}
@@ -73,7 +73,7 @@ module _ {A : Type 0} (D : A → List TokenKind → Type 0) (r : List TokenKind 
       subst (Told (Row D) row ts) (sym (row-step shrinks ts e))
       (widen (Row D) (Row D) stepped row ts (stepped ts) (λ v us d. d)
       (λ front rest other cut same. row-step shrinks (front ++ other) (starts_cut sorts ts front rest other cut same ∙ e))
-      (chain_told D (λ _. Row D) (Row D) r (λ _. row) (λ v vs. v ∷ vs) ts (r ts) [] [] join_row (λ _. refl) item (λ us a q. go us a q)))
+      (chain_told D (λ _. Row D) (Row D) r (λ _. row) (λ v vs. v ∷ vs) ts (r ts) [] [] refl join_row (λ _. refl) item (λ us a q. go us a q)))
 
   row_told : Shrinks → ((ts : List TokenKind) → Told D r ts (r ts)) → (n : ℕ) (ts : List TokenKind) → length ts ≤ n → Told (Row D) row ts (row ts)
   row_told shrinks item zero [] le = none_told [] refl
@@ -85,13 +85,14 @@ module _ {A : Type 0} (D : A → List TokenKind → Type 0) (r : List TokenKind 
       by_next (inl e) go = some_told shrinks ts e (item ts) (λ us v q. go us (let less = shrinks ts v us q in omega arith))
 
 -- one token of these sorts
-told_one : {A : Type 0} (s : Sort) (ss : List Sort) (f : TokenKind → A) (ts : List TokenKind) → Told (Derives (token s ss f)) (read_one (s ∷ ss) f) ts (read_one (s ∷ ss) f ts)
-told_one s ss f [] = record {
+told_one : {A : Type 0} (s : Sort) (ss : List Sort) (f : TokenKind → A) (ts : List TokenKind) → is_spellable s ≡ true → Told (Derives (token s ss f)) (read_one (s ∷ ss) f) ts (read_one (s ∷ ss) f ts)
+told_one s ss f [] ok = record {
   front = [];
   rest = [];
   cut = refl;
   left_is = refl;
   more = s ∷ [];
+  spelled = rw ok refl;
   value = f (example s);
   derives = (example s, has-example s ss, refl, refl);
   local = λ other same. at_end other same;
@@ -100,7 +101,7 @@ told_one s ss f [] = record {
     at_end : (other : List TokenKind) → SameHead [] other → read_one (s ∷ ss) f other ≡ fault (length other)
     at_end [] same = refl
     at_end (u ∷ us) same = absurd same
-told_one {A} s ss f (t ∷ ts) = by_sort (has (s ∷ ss) (sort_of t)) refl
+told_one {A} s ss f (t ∷ ts) ok = by_sort (has (s ∷ ss) (sort_of t)) refl
   where
     stray : has (s ∷ ss) (sort_of t) ≡ false → (other : List TokenKind) → SameHead (t ∷ ts) other → read_one (s ∷ ss) f other ≡ fault (length other)
     stray e [] same = absurd same
@@ -116,6 +117,7 @@ told_one {A} s ss f (t ∷ ts) = by_sort (has (s ∷ ss) (sort_of t)) refl
       cut = refl;
       left_is = refl;
       more = s ∷ [];
+      spelled = rw ok refl;
       value = f (example s);
       derives = (example s, has-example s ss, refl, refl);
       local = λ other same. stray e other same;
@@ -148,12 +150,12 @@ either_told {A} g h ts (inr e) tg th =
 
 pub told : {A : Type 0} (g : Grammar A) → fine g ≡ true → (ts : List TokenKind) → Told (Derives g) (read g) ts (read g ts)
 told (give a) ok ts = record { front = []; cut = refl; derives = (refl, refl); local = λ other same. refl }
-told (token s ss f) ok ts = told_one s ss f ts
+told (token s ss f) ok ts = told_one s ss f ts ok
 told (both f g h) ok ts =
     let good_g = and_left (fine g) (fine h && apart (next g) (first h)) ok in
     let more = and_right (fine g) (fine h && apart (next g) (first h)) ok in
     let good_h = and_left (fine h) (apart (next g) (first h)) more in
-    chain_told (Derives g) (λ _. Derives h) (Derives (both f g h)) (read g) (λ _. read h) f ts (read g ts) (ending h) (ending_value h)
+    chain_told (Derives g) (λ _. Derives h) (Derives (both f g h)) (read g) (λ _. read h) f ts (read g ts) (ending h) (ending_value h) (spelled-ending h good_h)
     (λ a b us left right cut d e. (a, b, left, right, cut, d, e, refl)) (λ _. ends h) (told g good_g ts) (λ us a q. told h good_h us)
 told (either g h) ok ts =
     let good_g = and_left (fine g) (fine h && (not (null g) && apart (first g) (first h))) ok in
@@ -165,7 +167,7 @@ told (many g) ok ts =
     let more = and_right (fine g) (not (null g) && apart (next g) (first g)) ok in
     let some = not_true (null g) (and_left (not (null g)) (apart (next g) (first g)) more) in
     row_told (Derives g) (read g) (first g) (shrinks_of g some (λ us. told g good us)) (λ us. told g good us) (length ts) ts (omega arith)
-told (nest o c) ok ts = nest_told o c ts
+told (nest o c) ok ts = nest_told o c ts (spelled-ending (nest o c) ok)
 told (loop s g h) ok ts =
     let k = looped s g h ok in
     loop_told s g h k (λ us. told s k.good_s us) (λ us. told g k.good_g us) (λ us. told h k.good_h us) ts

@@ -1,7 +1,8 @@
 -- Grammars: which tokens a value derives to.
 use Rattle.std.specs.Prelude.{◌≡◌, ℕ, true, ◌⊎◌, List, [], ◌∷◌, ◌++◌, map, length, Option, Some, None}
+use Rattle.std.specs.List.{list_all}
 use Rattle.ir_lex.specs.declared.token.TokenKind.{TokenKind}
-use Rattle.ir_grammar.specs.Tokens.{Sort, mark, sort_of, example, has}
+use Rattle.ir_grammar.specs.Tokens.{Sort, mark, sort_of, example, is_spellable, has}
 use Rattle.ir_grammar.specs.Brackets.{Closed}
 
 -- A grammar whose texts have values: nothing, a token of one of these sorts, one part behind another, one
@@ -44,9 +45,10 @@ Derives (loop {A} {B} s g h) v ts =
     × Row (Behind (λ us. Derives s tt us) (λ (a : A) (us : List TokenKind). Derives g a us)) v.0 front
     × Perhaps (Behind (λ us. Derives s tt us) (λ (b : B) (us : List TokenKind). Derives h b us)) v.1 rest
 
--- some text begins with the tokens; what is added are examples, which have spellings
+-- some text begins with the tokens; what is added are examples that have spellings
 pub record Viable {A : Type 0} (g : Grammar A) (ts : List TokenKind) : Type 0 where
   pub more : List Sort
+  pub spelled : list_all is_spellable more ≡ true
   pub value : A
   pub derives : Derives g value (ts ++ map example more)
 

@@ -3,3 +3,4 @@ pub mod Brackets
 pub mod Grammar
 pub mod Parts
 pub mod Reading
+pub mod Texts

@@ -4,7 +4,7 @@ use Rattle.std.proofs.Common.{inl, inr}
 use Rattle.ir_lex.specs.declared.token.TokenKind.{TokenKind}
 use Rattle.ir_grammar.specs.declared.cursor.Stop.{Stop}
 use Rattle.ir_grammar.specs.declared.cursor.Stop.TheVariants as stop
-use Rattle.ir_grammar.specs.Tokens.{Sort, mark, same_sort, sort_of, example, has, starts}
+use Rattle.ir_grammar.specs.Tokens.{Sort, mark, same_sort, sort_of, example, is_spellable, has, starts}
 use Rattle.ir_grammar.specs.declared.bracket.Shape.{Shape}
 use Rattle.ir_grammar.specs.declared.bracket.Shape.TheVariants.{Opens, Closes, Plain}
 use Rattle.ir_grammar.specs.Brackets.{mark_shape, shape_of}
@@ -58,14 +58,14 @@ abbrev pub is_looped : {S A B : Type 0} → Grammar S → Grammar A → Grammar 
 is_looped s g h =
     not (null s) && (not (null g) && (not (null h) && (apart (next s) (first g) && (apart (next s) (first h) && (apart (first g) (first h) && apart (next g) (first s))))))
 
--- one token ahead tells how to read on
+-- one token ahead tells how to read on, and examples that end a text have spellings
 abbrev pub fine : {A : Type 0} → Grammar A → Bool
 fine (give a) = true
-fine (token s ss f) = true
+fine (token s ss f) = is_spellable s
 fine (both f g h) = fine g && (fine h && apart (next g) (first h))
 fine (either g h) = fine g && (fine h && (not (null g) && apart (first g) (first h)))
 fine (many g) = fine g && (not (null g) && apart (next g) (first g))
-fine (nest o c) = is_closing (mark_shape c)
+fine (nest o c) = is_spellable (mark o) && (is_spellable (mark c) && is_closing (mark_shape c))
 fine (loop s g h) = fine s && (fine g && (fine h && is_looped s g h))
 
 -- what is read: a value and the tokens behind it, or the number of tokens left at the first stray one
@@ -172,5 +172,4 @@ applied a (fault left) = fault left
 
 -- what was read before, in front of a row behind separators, and without what ends it
 abbrev pub put_row : {A B : Type 0} → List A → Read (List A × Option B) → Read (List A)
-put_row xs (done y ts) = done (xs ++ y.0) ts
-put_row xs (fault left) = fault left
+put_row xs r = r >>= λ y ts. done (xs ++ y.0) ts

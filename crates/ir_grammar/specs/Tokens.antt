@@ -1,7 +1,7 @@
 -- What the grammar asks of single tokens.
 use Rattle.std.specs.Prelude.{ℕ, ◌||◌, Bool, true, false, List, [], ◌∷◌, ◌==◌, codes, ℤ, pos, negsuc, nat_lt, map, ◌&&◌}
-use Rattle.std.specs.Char.{is_ascii_digit}
-use Rattle.std.specs.List.{list_all}
+use Rattle.std.specs.Char.{is_ascii_digit, is_ascii_lowercase}
+use Rattle.std.specs.List.{list_all, list_any}
 use Rattle.std.specs.Cmp.Lexicographic.{pointwise}
 use Rattle.ir_lex.specs.declared.token.Token.{Token}
 use Rattle.ir_lex.specs.declared.token.TokenKind.{TokenKind}
@@ -96,6 +96,21 @@ same_sort _ _ = false
 
 abbrev pub kinds : List Token → List TokenKind
 kinds ts = map (λ t. t.kind) ts
+
+-- a small letter, a digit or `_`
+abbrev pub is_word_byte : ℕ → Bool
+is_word_byte b = is_ascii_lowercase b || (is_ascii_digit b || b == 95)
+
+-- such bytes, of which the first is a small letter
+abbrev pub is_plain_word : List ℕ → Bool
+is_plain_word [] = false
+is_plain_word (b ∷ bs) = is_ascii_lowercase b && list_all is_word_byte bs
+
+-- whether bytes spell the example of a sort: not every word and every mark has a spelling
+abbrev pub is_spellable : Sort → Bool
+is_spellable (word w) = is_plain_word w
+is_spellable (mark m) = list_any (λ k. k == m) (codes "=,()[]{}<>*|+:")
+is_spellable _ = true
 
 -- whether a sort is in a list
 abbrev pub has : List Sort → Sort → Bool

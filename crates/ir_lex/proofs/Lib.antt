@@ -5,3 +5,4 @@ pub mod Quotes
 pub mod Rows
 pub mod Strings
 pub mod Told
+pub mod Few

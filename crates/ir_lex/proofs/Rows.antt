@@ -166,7 +166,7 @@ name_filled sigil name bytes rest (inl x) = let l = ap length x.0 in omega arith
 name_filled sigil name bytes rest (inr x) = let l = ap length x.1 in omega arith
 
 -- no token is empty
-token_filled : (kind : TokenKind) (bytes rest : List ℕ) → Spells kind bytes rest → 0 < length bytes
+pub token_filled : (kind : TokenKind) (bytes rest : List ℕ) → Spells kind bytes rest → 0 < length bytes
 token_filled (kinds.Label name) bytes rest h = let l = ap length h.1 in let p = length_push h.0 58 in omega arith
 token_filled (kinds.CStr s) bytes rest h = let l = ap length h.1 in omega arith
 token_filled (kinds.Int n) bytes rest h = h.0.filled

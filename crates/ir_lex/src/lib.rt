@@ -5,7 +5,7 @@
 //! `specs/Tokens.antt`; that a text has one list of tokens at most, and faults at one place, in `laws`.
 #![tactic(auto)]
 
-ghost use Rattle.std.specs.Prelude.{IfOk, IfErr};
+ghost use Rattle.std.specs.Prelude.{◌≤◌, length, IfOk, IfErr};
 ghost use Rattle.ir_lex.specs.Tokens.{Scans, Faults};
 
 mod class;
@@ -31,10 +31,11 @@ pub enum LexFault {
 
 /// The tokens of a text, in order.
 ///
-/// `At` comes exactly where the text is no row of separators, comments and tokens; its place is the
+/// There are no more tokens than bytes. `At` comes exactly where the text is no row of separators, comments and tokens; its place is the
 /// first byte of the first piece that is none of them. Takes time and memory linear in the text.
 pub fn lex(alloc: Global, text: &[u8]) -> Result<List<Token>, LexFault>
     ensures tokens { IfOk result (λ tokens. Scans text.now tokens) }
+    ensures few { IfOk result (λ tokens. length tokens ≤ length text.now) }
     ensures fault { IfErr result (λ fault. Faults text.now fault) }
 {
     let mut tokens = List::new(alloc);

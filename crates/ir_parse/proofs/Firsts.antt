@@ -1,9 +1,10 @@
 -- What classes begin with.
-use Rattle.std.proofs.Common.{◌≡◌, [], ◌∷◌, ◌++◌, refl, append-nil}
+use Rattle.std.proofs.Common.{◌≡◌, [], ◌∷◌, refl, append-nil}
 use Rattle.std.specs.Prelude.{codes}
 use Rattle.ir_grammar.specs.Tokens.{word}
 use Rattle.ir_grammar.specs.Reading.{first}
 use Rattle.ir_syntax.specs.Types.{ty}
+use Rattle.ir_syntax.specs.Instructions.{index}
 use Rattle.ir_syntax.specs.Terminators.{target, case, ret, br, switch}
 use Rattle.ir_syntax.proofs.FineTypes.{closed-ty}
 
@@ -26,3 +27,7 @@ first_br = refl
 pub first_switch : first switch ≡ word (codes "switch") ∷ []
 unfolding switch
 first_switch = refl
+
+pub first_index : first index ≡ first ty
+unfolding index
+first_index = simp (closed-ty.some, append-nil)

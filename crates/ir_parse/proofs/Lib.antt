@@ -1,1 +1,6 @@
+pub mod Calls
+pub mod Carried
 pub mod Firsts
+pub mod Loops
+pub mod Tails
+pub mod Present

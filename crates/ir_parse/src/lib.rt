@@ -6,4 +6,11 @@
 //! Source: LLVM Language Reference, in the integer profile of docs/languages.md.
 #![tactic(auto)]
 
+pub mod block;
+pub mod call;
+pub mod declaration;
+pub mod function;
+pub mod inst;
+pub mod instruction;
+pub mod item;
 pub mod terminator;

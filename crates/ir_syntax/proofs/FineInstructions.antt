@@ -10,7 +10,7 @@ use Rattle.ir_syntax.specs.Words.{words_from, parameter_word, a_comma, bin_word,
 use Rattle.ir_syntax.specs.Types.{itype}
 use Rattle.ir_syntax.specs.Metadata.{group, metadata, attach, attaches, align_tail}
 use Rattle.ir_syntax.specs.Parameters.{pattr}
-use Rattle.ir_syntax.specs.Instructions.{binary, compare, cast, select, freeze, alloca_tail, alloca, load, index, gep, entry, phi, call_head, callee, call_tail, call, op, store, void_callee, void_call, named_inst, void_inst, debug_inst, inst}
+use Rattle.ir_syntax.specs.Instructions.{binary, compare, cast, select, freeze, alloca_tail, counted, alloca, load, index, index_rows, indices, gep, entry, entry_rows, entries, phi, call_word, call_head, callee, function_attribute, call_attribute, call_tail, call, op, store, void_callee, void_call, named_inst, void_inst, debug_inst, inst}
 use Rattle.ir_syntax.proofs.FineTypes.{closed-ty, first-ty, closed-rtype, first-rtype}
 use Rattle.ir_syntax.proofs.FineValues.{closed-value, first-value, closed-args}
 
@@ -31,48 +31,48 @@ known-either g h b1 b2 e1 e2 x y a =
 abbrev pub comma : List Sort
 comma = mark 44 ∷ []
 
-known-binary : Known binary (words_from [] (codes "add sub mul udiv sdiv urem srem shl lshr ashr and or xor")) comma
+pub known-binary : Known binary (words_from [] (codes "add sub mul udiv sdiv urem srem shl lshr ashr and or xor")) comma
 unfolding binary bin_word flag attaches attach metadata group
 known-binary =
     let tf = closed-ty.good in let ts = closed-ty.some in let te = closed-ty.ends in
     let vf = closed-value.good in let vs = closed-value.some in let ve = closed-value.ends in
     record { good = simp (tf, ts, te, first-ty, vf, vs, ve, first-value); some = refl; first_is = refl; next_is = simp (ve, vs) }
 
-known-compare : Known compare (word (codes "icmp") ∷ []) comma
+pub known-compare : Known compare (word (codes "icmp") ∷ []) comma
 unfolding compare pred_word flag attaches attach metadata group
 known-compare =
     let tf = closed-ty.good in let ts = closed-ty.some in let te = closed-ty.ends in
     let vf = closed-value.good in let vs = closed-value.some in let ve = closed-value.ends in
     record { good = simp (tf, ts, te, first-ty, vf, vs, ve, first-value); some = refl; first_is = refl; next_is = simp (ve, vs) }
 
-known-cast : Known cast (words_from [] (codes "trunc zext sext")) comma
+pub known-cast : Known cast (words_from [] (codes "trunc zext sext")) comma
 unfolding cast cast_word flag attaches attach metadata group
 known-cast =
     let tf = closed-ty.good in let ts = closed-ty.some in let te = closed-ty.ends in
     let vf = closed-value.good in let vs = closed-value.some in let ve = closed-value.ends in
     record { good = simp (tf, ts, te, first-ty, vf, vs, ve, first-value); some = refl; first_is = refl; next_is = simp (te, ts) }
 
-known-select : Known select (word (codes "select") ∷ []) comma
+pub known-select : Known select (word (codes "select") ∷ []) comma
 unfolding select attaches attach metadata group
 known-select =
     let tf = closed-ty.good in let ts = closed-ty.some in let te = closed-ty.ends in
     let vf = closed-value.good in let vs = closed-value.some in let ve = closed-value.ends in
     record { good = simp (tf, ts, te, first-ty, vf, vs, ve, first-value); some = refl; first_is = refl; next_is = simp (ve, vs) }
 
-known-freeze : Known freeze (word (codes "freeze") ∷ []) comma
+pub known-freeze : Known freeze (word (codes "freeze") ∷ []) comma
 unfolding freeze attaches attach metadata group
 known-freeze =
     let tf = closed-ty.good in let ts = closed-ty.some in let te = closed-ty.ends in
     let vf = closed-value.good in let vs = closed-value.some in let ve = closed-value.ends in
     record { good = simp (tf, ts, te, first-ty, vf, vs, ve, first-value); some = refl; first_is = refl; next_is = simp (ve, vs) }
 
-known-alloca : Known alloca (word (codes "alloca") ∷ []) (comma ++ comma ++ comma ++ comma)
-unfolding alloca alloca_tail itype align_tail attaches attach metadata group
+pub known-alloca : Known alloca (word (codes "alloca") ∷ []) (comma ++ comma ++ comma ++ comma)
+unfolding alloca alloca_tail counted itype align_tail attaches attach metadata group
 known-alloca =
     let tf = closed-ty.good in let ts = closed-ty.some in let te = closed-ty.ends in
     record { good = simp (tf, ts, te, first-ty); some = refl; first_is = refl; next_is = simp (te, ts) }
 
-known-load : Known load (word (codes "load") ∷ []) (comma ++ comma)
+pub known-load : Known load (word (codes "load") ∷ []) (comma ++ comma)
 unfolding load align_tail attaches attach metadata group
 known-load =
     let tf = closed-ty.good in let ts = closed-ty.some in let te = closed-ty.ends in
@@ -87,8 +87,8 @@ loop-index =
     let vf = closed-value.good in let vs = closed-value.some in let ve = closed-value.ends in
     record { good = simp (tf, ts, te, first-ty, vf, vs, ve, first-value) }
 
-known-gep : Known gep (word (codes "getelementptr") ∷ []) (comma ++ comma)
-unfolding gep flag index attaches attach metadata group
+pub known-gep : Known gep (word (codes "getelementptr") ∷ []) (comma ++ comma)
+unfolding gep indices index_rows flag index attaches attach metadata group
 known-gep =
     let tf = closed-ty.good in let ts = closed-ty.some in let te = closed-ty.ends in
     let vf = closed-value.good in let vs = closed-value.some in let ve = closed-value.ends in
@@ -100,8 +100,8 @@ unfolding entry attaches attach metadata group
 loop-entry =
     let vf = closed-value.good in let vs = closed-value.some in let ve = closed-value.ends in record { good = simp (vf, vs, ve, first-value) }
 
-known-phi : Known phi (word (codes "phi") ∷ []) (comma ++ comma)
-unfolding phi entry attaches attach metadata group
+pub known-phi : Known phi (word (codes "phi") ∷ []) (comma ++ comma)
+unfolding phi entries entry_rows entry attaches attach metadata group
 known-phi =
     let tf = closed-ty.good in let ts = closed-ty.some in let te = closed-ty.ends in
     let vf = closed-value.good in let vs = closed-value.some in let ve = closed-value.ends in
@@ -115,8 +115,8 @@ call_words = words_from [] (codes "tail notail call")
 abbrev pub call_ends : List Sort
 call_ends = mark 44 ∷ mark 40 ∷ hash ∷ words_from [] (codes "unnamed_addr local_unnamed_addr nounwind noreturn uwtable noinline optnone alwaysinline mustprogress willreturn norecurse nofree nosync nocallback cold hot memory readnone readonly writeonly")
 
-known-call : Known call call_words call_ends
-unfolding call call_head convention pattr parameter_word callee call_tail function_word attaches attach metadata group
+pub known-call : Known call call_words call_ends
+unfolding call call_head call_word convention pattr parameter_word callee call_tail call_attribute function_attribute function_word attaches attach metadata group
 known-call =
     let rf = closed-rtype.good in let rs = closed-rtype.some in let re = closed-rtype.ends in
     let af = closed-args.good in let as_ = closed-args.some in let ae = closed-args.ends in
@@ -131,7 +131,7 @@ abbrev pub op_ends : List Sort
 op_ends =
     comma ++ comma ++ comma ++ comma ++ comma ++ comma ++ comma ++ comma ++ comma ++ comma ++ comma ++ comma ++ comma ++ comma ++ comma ++ call_ends
 
-known-op : Known op op_firsts op_ends
+pub known-op : Known op op_firsts op_ends
 unfolding op
 known-op =
     known-either binary _ _ _ _ _ known-binary
@@ -144,27 +144,27 @@ known-op =
     (known-either gep _ _ _ _ _ known-gep
     (known-either phi call _ _ _ _ known-phi known-call refl) refl) refl) refl) refl) refl) refl) refl) refl
 
-known-store : Known store (word (codes "store") ∷ []) (comma ++ comma)
+pub known-store : Known store (word (codes "store") ∷ []) (comma ++ comma)
 unfolding store align_tail attaches attach metadata group
 known-store =
     let tf = closed-ty.good in let ts = closed-ty.some in let te = closed-ty.ends in
     let vf = closed-value.good in let vs = closed-value.some in let ve = closed-value.ends in
     record { good = simp (tf, ts, te, first-ty, vf, vs, ve, first-value); some = refl; first_is = refl; next_is = simp (ve, vs) }
 
-known-void_callee : Known void_callee (debug_global ∷ global ∷ local ∷ []) []
+pub known-void_callee : Known void_callee (debug_global ∷ global ∷ local ∷ []) []
 unfolding void_callee callee
 known-void_callee =
     let af = closed-args.good in let as_ = closed-args.some in let ae = closed-args.ends in
     record { good = simp (af, as_, ae); some = refl; first_is = refl; next_is = simp (ae, as_) }
 
-known-void_call : Known void_call call_words call_ends
-unfolding void_call call_head convention pattr parameter_word call_tail function_word attaches attach metadata group
+pub known-void_call : Known void_call call_words call_ends
+unfolding void_call call_head call_word convention pattr parameter_word call_tail call_attribute function_attribute function_word attaches attach metadata group
 known-void_call =
     let rf = closed-rtype.good in let rs = closed-rtype.some in let re = closed-rtype.ends in
     let k = known-void_callee in let kf = k.good in let ks = k.some in let kb = k.first_is in let ke = k.next_is in
     record { good = simp (rf, rs, re, first-rtype, first-ty, kf, ks, kb, ke); some = refl; first_is = refl; next_is = simp (ke, ks) }
 
-known-named_inst : Known named_inst (local ∷ []) op_ends
+pub known-named_inst : Known named_inst (local ∷ []) op_ends
 unfolding named_inst
 known-named_inst = let f = known-op.good in let s = known-op.some in let e = known-op.next_is in record { good = simp f; some = refl; first_is = refl; next_is = simp (e, s) }
 
@@ -172,7 +172,7 @@ known-named_inst = let f = known-op.good in let s = known-op.some in let e = kno
 abbrev pub void_firsts : List Sort
 void_firsts = words_from [] (codes "store tail notail call")
 
-known-void_inst : Known void_inst void_firsts (comma ++ comma ++ call_ends)
+pub known-void_inst : Known void_inst void_firsts (comma ++ comma ++ call_ends)
 unfolding void_inst
 known-void_inst =
     let sf = known-store.good in let ss = known-store.some in let sb = known-store.first_is in let se = known-store.next_is in
@@ -183,9 +183,13 @@ known-void_inst =
 abbrev pub inst_firsts : List Sort
 inst_firsts = local ∷ void_firsts ++ debug_hash ∷ []
 
-known-debug_inst : Known debug_inst (debug_hash ∷ []) []
+pub known-debug_inst : Known debug_inst (debug_hash ∷ []) []
 unfolding debug_inst group
 known-debug_inst = record { good = refl; some = refl; first_is = refl; next_is = refl }
+
+pub item-call_attribute : Item call_attribute
+unfolding call_attribute function_attribute function_word
+item-call_attribute = record { good = refl; some = refl }
 
 pub known-inst : Known inst inst_firsts (op_ends ++ comma ++ comma ++ call_ends)
 unfolding inst

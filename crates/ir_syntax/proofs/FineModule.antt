@@ -2,7 +2,7 @@
 use Rattle.std.proofs.Common.{◌≡◌, true, List, [], ◌∷◌, ◌++◌, refl}
 use Rattle.std.specs.Prelude.{codes}
 use Rattle.ir_grammar.specs.Tokens.{Sort, word, mark, local, label, global, debug_global, hash, debug_hash, meta, meta_number}
-use Rattle.ir_grammar.specs.Grammar.{give, either, ◌▸◌}
+use Rattle.ir_grammar.specs.Grammar.{give, ◌▸◌}
 use Rattle.ir_grammar.specs.Parts.{behind_comma}
 use Rattle.ir_grammar.specs.Reading.{fine}
 use Rattle.ir_grammar.proofs.Rows.{Item}
@@ -11,7 +11,7 @@ use Rattle.ir_syntax.specs.Words.{words_from, link, parameter_word, function_wor
 use Rattle.ir_syntax.specs.Metadata.{group, metadata, attach, attaches}
 use Rattle.ir_syntax.specs.Parameters.{pattr}
 use Rattle.ir_syntax.specs.Terminators.{target, ret, br, case, switch, unreachable, ending, term}
-use Rattle.ir_syntax.specs.Functions.{block, labelled, body, declared_tail, defined_tail, define, declared, declare}
+use Rattle.ir_syntax.specs.Functions.{insts, block, labelled, body, declared_tail, defined_tail, define, declared, declare}
 use Rattle.ir_syntax.specs.Items.{source_item, target_item, type_item, global_tail, global_item, attributes_item, metadata_item, item}
 use Rattle.ir_syntax.specs.ModuleText.{module_text}
 use Rattle.ir_syntax.proofs.FineTypes.{closed-ty, first-ty, closed-fields_type, closed-rtype, first-rtype}
@@ -68,13 +68,13 @@ known-term =
 
 -- blocks
 pub known-block : Known block (inst_firsts ++ term_firsts) comma
-unfolding block
+unfolding block insts
 known-block =
     let f = known-inst.good in let s = known-inst.some in let b = known-inst.first_is in let e = known-inst.next_is in
     let tf = known-term.good in let ts = known-term.some in let tb = known-term.first_is in let te = known-term.next_is in
     record { good = simp (f, s, b, e, tf, ts, tb, te); some = simp ts; first_is = simp (b, tb); next_is = simp (te, ts) }
 
-known-labelled : Known labelled (label ∷ []) comma
+pub known-labelled : Known labelled (label ∷ []) comma
 unfolding labelled
 known-labelled =
     let f = known-block.good in let s = known-block.some in let b = known-block.first_is in let e = known-block.next_is in
@@ -83,7 +83,7 @@ known-labelled =
 pub item-labelled : Item labelled
 item-labelled = record { good = known-labelled.good; some = known-labelled.some }
 
-known-body : Known body (label ∷ inst_firsts ++ term_firsts) (comma ++ label ∷ comma)
+pub known-body : Known body (label ∷ inst_firsts ++ term_firsts) (comma ++ label ∷ comma)
 unfolding body
 known-body =
     let f = known-block.good in let s = known-block.some in let b = known-block.first_is in let e = known-block.next_is in
@@ -107,7 +107,7 @@ known-define =
     let f = known-body.good in let s = known-body.some in let b = known-body.first_is in let e = known-body.next_is in
     record { good = simp (rf, rs, re, first-rtype, first-ty, pf, ps, pe, f, s, b, e); some = refl; first_is = refl; next_is = refl }
 
-known-declared : Known declared (debug_global ∷ global ∷ []) []
+pub known-declared : Known declared (debug_global ∷ global ∷ []) []
 unfolding declared
 known-declared =
     let f = closed-declared_params.good in let s = closed-declared_params.some in let e = closed-declared_params.ends in
@@ -126,15 +126,15 @@ known-declare =
     record { good = simp (rf, rs, re, first-rtype, first-ty, f, s, b, e); some = refl; first_is = refl; next_is = simp (e, s) }
 
 -- items
-known-source_item : Known source_item (word (codes "source_filename") ∷ []) []
+pub known-source_item : Known source_item (word (codes "source_filename") ∷ []) []
 unfolding source_item
 known-source_item = record { good = refl; some = refl; first_is = refl; next_is = refl }
 
-known-target_item : Known target_item (word (codes "target") ∷ []) []
+pub known-target_item : Known target_item (word (codes "target") ∷ []) []
 unfolding target_item
 known-target_item = record { good = refl; some = refl; first_is = refl; next_is = refl }
 
-known-type_item : Known type_item (local ∷ []) []
+pub known-type_item : Known type_item (local ∷ []) []
 unfolding type_item
 known-type_item =
     let f = closed-fields_type.good in let s = closed-fields_type.some in let e = closed-fields_type.ends in
@@ -144,23 +144,23 @@ pub item-global_tail : Item (behind_comma global_tail)
 unfolding global_tail attach metadata group
 item-global_tail = record { good = refl; some = refl }
 
-known-global_item : Known global_item (global ∷ debug_global ∷ []) comma
+pub known-global_item : Known global_item (global ∷ debug_global ∷ []) comma
 unfolding global_item link global_tail attach metadata group
 known-global_item =
     let tf = closed-ty.good in let ts = closed-ty.some in let te = closed-ty.ends in
     let f = closed-init.good in let s = closed-init.some in let e = closed-init.ends in
     record { good = simp (tf, ts, te, first-ty, f, s, e); some = refl; first_is = refl; next_is = simp (e, s) }
 
-known-function_item : Known (give item_of.Function ▸ define) (word (codes "define") ∷ []) []
+pub known-function_item : Known (give item_of.Function ▸ define) (word (codes "define") ∷ []) []
 known-function_item =
     let f = known-define.good in let s = known-define.some in let b = known-define.first_is in let e = known-define.next_is in
     record { good = simp f; some = simp s; first_is = simp b; next_is = simp (e, s) }
 
-known-attributes_item : Known attributes_item (word (codes "attributes") ∷ []) []
+pub known-attributes_item : Known attributes_item (word (codes "attributes") ∷ []) []
 unfolding attributes_item group
 known-attributes_item = record { good = refl; some = refl; first_is = refl; next_is = refl }
 
-known-metadata_item : Known metadata_item (meta ∷ meta_number ∷ []) []
+pub known-metadata_item : Known metadata_item (meta ∷ meta_number ∷ []) []
 unfolding metadata_item metadata group
 known-metadata_item = record { good = refl; some = refl; first_is = refl; next_is = refl }
 
@@ -169,7 +169,7 @@ abbrev pub item_firsts : List Sort
 item_firsts =
     words_from [] (codes "source_filename target") ++ local ∷ global ∷ debug_global ∷ words_from [] (codes "declare define attributes") ++ meta ∷ meta_number ∷ []
 
-known-item : Known item item_firsts (comma ++ declare_ends)
+pub known-item : Known item item_firsts (comma ++ declare_ends)
 unfolding item
 known-item =
     known-either source_item _ _ _ _ _ known-source_item

@@ -1,11 +1,11 @@
 -- Initialisers, a level at a time.
-use Rattle.std.proofs.Common.{◌≡◌, ℕ, zero, suc, ◌+◌, Bool, true, false, List, [], ◌∷◌, ◌++◌, refl, ◌∙◌, ap, arith, if◌then◌else◌}
+use Rattle.std.proofs.Common.{◌≡◌, ℕ, zero, suc, ◌+◌, Bool, true, false, List, [], ◌∷◌, refl, ◌∙◌, ap, arith, if◌then◌else◌}
 use Rattle.std.specs.Prelude.{codes, ◌||◌}
 use Rattle.ir_lex.specs.declared.token.TokenKind.{TokenKind}
 use Rattle.ir_grammar.specs.Tokens.{word, cstr, starts}
 use Rattle.ir_grammar.specs.Reading.{first, read}
 use Rattle.ir_grammar.proofs.Sets.{starts-append}
-use Rattle.ir_syntax.specs.Values.{const_value, plain_value, place, fixed_value}
+use Rattle.ir_syntax.specs.Values.{plain_value, place, fixed_value}
 use Rattle.ir_syntax.specs.Initialisers.{simple_init, deep_init, init_at}
 
 -- one level

@@ -7,3 +7,4 @@ pub mod InitLevels
 pub mod Skips
 pub mod Attributes
 pub mod Firsts
+pub mod NamedRows

@@ -1,6 +1,7 @@
 -- Blocks, functions and declarations.
 use Rattle.std.specs.Prelude.{ℕ, List, ◌∷◌, codes, decimal, flat_map, option_to_list}
 use Rattle.ir_core.specs.declared.ty.Ty.{Ty}
+use Rattle.ir_core.specs.declared.instruction.Inst.{Inst}
 use Rattle.ir_core.specs.declared.module.Block.{Block}
 use Rattle.ir_core.specs.declared.module.Function.{Function}
 use Rattle.ir_grammar.specs.Grammar.{Grammar, give, either, many, optional, ◌▸◌, ◌▹◌}
@@ -14,9 +15,13 @@ use Rattle.ir_syntax.specs.Parameters.{pattr, params, declared_params, name_or}
 use Rattle.ir_syntax.specs.Instructions.{inst}
 use Rattle.ir_syntax.specs.Terminators.{term}
 
+-- { inst }, of which those that leave no trace are dropped
+unfoldable pub insts : Grammar (List Inst)
+insts = give (λ is. flat_map option_to_list is) ▸ many inst
+
 -- block = { inst } term { "," attach }, by the name of the block
 unfoldable pub block : Grammar (List ℕ → Block)
-block = give (λ is t l. record { label = l; insts = flat_map option_to_list is; end = t }) ▸ many inst ▸ term
+block = give (λ is t l. record { label = l; insts = is; end = t }) ▸ insts ▸ term
 
 -- Label block
 unfoldable pub labelled : Grammar Block

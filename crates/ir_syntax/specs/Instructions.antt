@@ -1,5 +1,5 @@
 -- Instructions, each with the alignment and the attachments that may stand behind it.
-use Rattle.std.specs.Prelude.{ℕ, ◌∷◌, Option, Some, None, codes}
+use Rattle.std.specs.Prelude.{ℕ, List, ◌∷◌, Option, Some, None, codes}
 use Rattle.ir_core.specs.declared.ty.Ty.{Ty}
 use Rattle.ir_core.specs.declared.operand.Operand.{Operand}
 use Rattle.ir_core.specs.declared.operand.Operand.TheVariants as operand
@@ -37,12 +37,13 @@ select =
 unfoldable pub freeze : Grammar Op
 freeze = give op_of.Freeze ▹ the_word (codes "freeze") ▸ ty ▸ value ▹ attaches
 
+-- itype Int [ "," "align" Int ] { "," attach } with the number, or "align" Int { "," attach }, or attach { "," attach }
+unfoldable pub counted : Grammar ℕ
+counted = either (give (λ n. n) ▹ itype ▸ a_count ▹ align_tail) (give 1 ▹ either aligned attach ▹ attaches)
+
 -- [ "," itype Int ] [ "," "align" Int ] { "," attach }, with the number, which is 1 where none is written
 unfoldable pub alloca_tail : Grammar ℕ
-alloca_tail =
-    either
-    (give (λ n. n) ▹ a_comma ▸ either (give (λ n. n) ▹ itype ▸ a_count ▹ align_tail) (give 1 ▹ either aligned attach ▹ attaches))
-    (give 1)
+alloca_tail = either (give (λ n. n) ▹ a_comma ▸ counted) (give 1)
 
 -- "alloca" type [ "," itype Int ] [ "," "align" Int ]
 unfoldable pub alloca : Grammar Op
@@ -57,32 +58,57 @@ load =
 unfoldable pub index : Grammar Arg
 index = give (λ t v. record { ty = t; value = v }) ▸ ty ▸ value
 
+-- { "," type value } { "," attach }
+unfoldable pub index_rows : Grammar (List Arg × Option (Unit {0}))
+index_rows = loop a_comma index (attach ▹ attaches)
+
+-- the same, with the values of the indices alone
+unfoldable pub indices : Grammar (List Arg)
+indices = give (λ is. is.0) ▸ index_rows
+
 -- "getelementptr" { FLAG } type "," "ptr" value { "," type value }
 unfoldable pub gep : Grammar Op
-gep =
-    give (λ t v is. op_of.Gep t v is.0) ▹ the_word (codes "getelementptr") ▹ skip flag ▸ ty ▹ a_comma ▹ the_word (codes "ptr") ▸ value
-    ▸ loop a_comma index (attach ▹ attaches)
+gep = give op_of.Gep ▹ the_word (codes "getelementptr") ▹ skip flag ▸ ty ▹ a_comma ▹ the_word (codes "ptr") ▸ value ▸ indices
 
 -- entry = "[" value "," Local "]"
 unfoldable pub entry : Grammar Entry
 entry = give (λ v l. record { value = v; from = l }) ▹ the_mark 91 ▸ value ▹ a_comma ▸ a_local ▹ the_mark 93
 
+-- { "," entry } { "," attach }
+unfoldable pub entry_rows : Grammar (List Entry × Option (Unit {0}))
+entry_rows = loop a_comma entry (attach ▹ attaches)
+
+-- entry { "," entry } { "," attach }
+unfoldable pub entries : Grammar (List Entry)
+entries = give (λ e es. e ∷ es.0) ▸ entry ▸ entry_rows
+
 -- "phi" type entry { "," entry }
 unfoldable pub phi : Grammar Op
-phi = give (λ t e es. op_of.Phi t (e ∷ es.0)) ▹ the_word (codes "phi") ▸ ty ▸ entry ▸ loop a_comma entry (attach ▹ attaches)
+phi = give op_of.Phi ▹ the_word (codes "phi") ▸ ty ▸ entries
+
+-- [ "tail" | "notail" ] "call"
+unfoldable pub call_word : Grammar (Unit {0})
+call_word = either (one_word (codes "tail notail") ▹ the_word (codes "call")) (the_word (codes "call"))
 
 -- [ "tail" | "notail" ] "call" { CC } { pattr } rtype
 unfoldable pub call_head : Grammar Ty
-call_head =
-    give (λ t. t) ▹ either (one_word (codes "tail notail") ▹ the_word (codes "call")) (the_word (codes "call")) ▹ skip convention ▹ skip pattr ▸ rtype
+call_head = give (λ t. t) ▹ call_word ▹ skip convention ▹ skip pattr ▸ rtype
 
 -- Global | Local, where the Global doesn't begin with `llvm.dbg.`
 unfoldable pub callee : Grammar Operand
 callee = either (give operand.Global ▸ plain_global) (give operand.Local ▸ a_local)
 
+-- FWORD [ pgroup ]
+unfoldable pub function_attribute : Grammar (Unit {0})
+function_attribute = function_word ▹ maybe pgroup
+
+-- Hash | FWORD [ pgroup ], where the Hash doesn't begin with `dbg_`
+unfoldable pub call_attribute : Grammar (Unit {0})
+call_attribute = either plain_hash function_attribute
+
 -- { Hash | FWORD [ pgroup ] }, where the Hash doesn't begin with `dbg_`
 unfoldable pub call_tail : Grammar (Unit {0})
-call_tail = skip (either plain_hash (function_word ▹ maybe pgroup))
+call_tail = skip call_attribute
 
 -- call = [ "tail" | "notail" ] "call" { CC } { pattr } rtype ( Global | Local ) "(" [ arg { "," arg } ] ")" { Hash | FWORD [ pgroup ] }
 unfoldable pub call : Grammar Op

@@ -3,12 +3,12 @@ use Rattle.std.specs.Prelude.{ℕ, suc, if◌then◌else◌, List, [], ◌∷◌
 use Rattle.ir_core.specs.declared.ty.Ty.{Ty}
 use Rattle.ir_core.specs.declared.module.Param.{Param}
 use Rattle.ir_core.specs.declared.instruction.Arg.{Arg}
-use Rattle.ir_grammar.specs.Tokens.{is_digits}
+use Rattle.ir_grammar.specs.Tokens.{local, is_digits}
 use Rattle.ir_grammar.specs.Grammar.{Grammar, give, either, optional, ◌▸◌, ◌▹◌}
 use Rattle.ir_grammar.specs.Parts.{the_mark, a_local, skip, listed}
 use Rattle.ir_syntax.specs.declared.parameter.Written.{Written}
-use Rattle.ir_syntax.specs.declared.parameter.Params.{Params}
-use Rattle.ir_syntax.specs.Words.{maybe, aligned, parameter_word}
+use Rattle.ir_syntax.specs.declared.parameter.NamedParams.{NamedParams}
+use Rattle.ir_syntax.specs.Words.{one_of, maybe, aligned, parameter_word}
 use Rattle.ir_syntax.specs.Types.{ty}
 use Rattle.ir_syntax.specs.Values.{value}
 use Rattle.ir_syntax.specs.Metadata.{pgroup}
@@ -43,16 +43,16 @@ named_from n [] = []
 named_from n (p ∷ ps) = record { ty = p.ty; name = name_or p.name (decimal n) } ∷ named_from (if is_numbered p.name then suc n else n) ps
 
 -- parameters as a function has them, and how many of them have no written name or a name of digits
-abbrev pub naming : List Written → Params
+abbrev pub naming : List Written → NamedParams
 naming ps = record { named = named_from 0 ps; numbered = numbered_from 0 ps }
 
 -- params = "(" [ param { "," param } ] ")"
-unfoldable pub params : Grammar Params
+unfoldable pub params : Grammar NamedParams
 params = give naming ▹ the_mark 40 ▸ listed 41 param
 
 -- a parameter of a declaration, of which only the type is kept
 unfoldable pub declared_param : Grammar Ty
-declared_param = give (λ t. t) ▸ ty ▹ skip pattr ▹ optional a_local
+declared_param = give (λ t. t) ▸ ty ▹ skip pattr ▹ maybe (one_of (local ∷ []))
 
 -- the parameters of a declaration
 unfoldable pub declared_params : Grammar (List Ty)

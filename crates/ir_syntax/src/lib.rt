@@ -7,11 +7,13 @@
 //! Source: LLVM Language Reference, in the integer profile of docs/languages.md.
 #![tactic(auto)]
 
+pub mod arguments;
 pub mod initialiser;
 pub mod item;
 pub mod metadata;
 pub mod names;
 pub mod parameter;
+pub mod traceless;
 pub mod types;
 pub mod values;
 pub mod words;

@@ -6,7 +6,7 @@
 ghost use Rattle.std.specs.Prelude.{◌≡◌, [], ◌∷◌};
 ghost use Rattle.std.specs.Char.{is_ascii_digit};
 ghost use Rattle.std.specs.List.{list_all};
-ghost use Rattle.ir_grammar.specs.Tokens.{meta_number, is_digits, starts, kinds};
+ghost use Rattle.ir_grammar.specs.Tokens.{meta as meta_sort, meta_number, is_digits, starts, kinds};
 ghost use Rattle.ir_grammar.specs.Grammar.{either};
 ghost use Rattle.ir_grammar.specs.Reading.{done, read, Gives};
 ghost use Rattle.ir_syntax.specs.Words.{maybe, aligned as an_aligned};
@@ -74,6 +74,16 @@ fn at_meta_number(tokens: &[Token]) -> bool
             TokenKind::Meta(text) => is_number(text.as_slice()),
             _ => false,
         },
+        _ => false,
+    }
+}
+
+/// Whether a `!` with what belongs to it stands first.
+pub fn at_meta(tokens: &[Token]) -> bool
+    ensures { result ≡ starts (meta_sort ∷ meta_number ∷ []) (kinds tokens.now) }
+{
+    match tokens {
+        [next, ..] => matches!(next.kind, TokenKind::Meta(_)),
         _ => false,
     }
 }

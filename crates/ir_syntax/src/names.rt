@@ -5,7 +5,7 @@ ghost use Rattle.ir_grammar.specs.Tokens.{local as a_local_sort, global as a_glo
 ghost use Rattle.ir_grammar.specs.Grammar.{optional};
 ghost use Rattle.ir_grammar.specs.Parts.{a_local, a_global, a_label};
 ghost use Rattle.ir_grammar.specs.Reading.{done, read, Gives};
-ghost use Rattle.ir_syntax.specs.Words.{an_int, a_cstr, plain_global as a_plain_global};
+ghost use Rattle.ir_syntax.specs.Words.{one_of, maybe, an_int, a_cstr, plain_global as a_plain_global};
 
 use ir_grammar::cursor::Stop;
 use ir_lex::token::{Name, Token, TokenKind};
@@ -81,6 +81,19 @@ pub fn maybe_local<'a>(
         return Ok((Some(name), rest));
     }
     Ok((None, tokens))
+}
+
+/// The tokens behind a local, where one is next.
+pub fn behind_local<'a>(tokens: &'a [Token]) -> &'a [Token]
+    ensures { read (maybe (one_of (a_local_sort ∷ []))) (kinds tokens.now) ≡ done tt (kinds result.now) }
+{
+    match tokens {
+        [next, rest @ ..] => match &next.kind {
+            TokenKind::Local(_) => rest,
+            _ => tokens,
+        },
+        _ => tokens,
+    }
 }
 
 /// A label's name, and the tokens behind it.

@@ -9,10 +9,10 @@ ghost use Rattle.ir_grammar.specs.Grammar.{many};
 ghost use Rattle.ir_grammar.specs.Parts.{skip, behind_comma};
 ghost use Rattle.ir_grammar.specs.Reading.{done, first, read, Gives, put_before};
 ghost use Rattle.ir_syntax.specs.Parameters.{pattr as a_pattr, param as a_param, params as all_params, declared_param as a_declared_param, declared_params as all_declared_params, is_numbered as is_numbered_name, name_or};
-ghost use Rattle.ir_syntax.specs.Naming.{named_behind};
+ghost use Rattle.ir_syntax.specs.Naming.{named_behind, with_one};
 
 use crate::metadata::{aligned, is_number, maybe_pgroup};
-use crate::names::maybe_local;
+use crate::names::{behind_local, maybe_local};
 use crate::types::whole;
 use crate::words::{at_parameter_word, parameter_word};
 use ir_core::module::Param;
@@ -32,7 +32,7 @@ pub struct Written {
 
 /// The parameters of a function, and how many of them have no written name or a name of digits.
 #[derive(Drop)]
-pub struct Params {
+pub struct NamedParams {
     pub named: List<Param>,
     pub numbered: usize,
 }
@@ -109,4 +109,124 @@ fn name_or_number(alloc: Global, name: Option<Name>, number: usize) -> Result<Na
         Some(own) => Ok(own),
         None => digits(alloc, number),
     }
+}
+
+/// One parameter more, with a name.
+fn with_param(alloc: Global, params: NamedParams, written: Written) -> Result<NamedParams, Stop>
+    requires { params.numbered ≤ length params.named }
+    ensures { MatchResult result (λ more. more ≡ with_one params written) (λ stop. stop ≡ Stop.NoMemory) }
+{
+    let mut params = params;
+    let number = params.numbered;
+    if is_numbered(&written.name) {
+        params.numbered = number + 1;
+    }
+    let name = name_or_number(alloc, written.name, number)?;
+    let param = Param {
+        ty: written.ty,
+        name,
+    };
+    match params.named.add(param) {
+        Ok(()) => Ok(params),
+        Err(_) => Err(Stop::NoMemory),
+    }
+}
+
+/// The parameters behind commas, named behind those that were read.
+#[tactic(auto, using(crate::proofs::NamedRows::named_end))]
+fn more_params<'a>(
+    alloc: Global,
+    tokens: &'a [Token],
+    params: NamedParams,
+) -> Result<(NamedParams, &'a [Token]), Stop>
+    requires { params.numbered ≤ length params.named }
+    ensures { Gives (λ x. done x.0 (kinds x.1.now)) result (named_behind params.named params.numbered (read (many (behind_comma a_param)) (kinds tokens.now))) }
+{
+    let mut all = params;
+    let mut rest = tokens;
+    'commas: while at_mark(rest, b',') {
+        let behind = mark(rest, b',')?;
+        let (written, behind) = param(alloc, behind)?;
+        all = with_param(alloc, all, written)?;
+        rest = behind;
+    }
+    Ok((all, rest))
+}
+
+/// The parameters between parentheses, with names, and the tokens behind them.
+#[tactic(auto, unfolding(crate::specs::Parameters::params))]
+pub fn params<'a>(alloc: Global, tokens: &'a [Token]) -> Result<(NamedParams, &'a [Token]), Stop>
+    ensures { Gives (λ x. done x.0 (kinds x.1.now)) result (read all_params (kinds tokens.now)) }
+{
+    let rest = mark(tokens, b'(')?;
+    let none = NamedParams {
+        named: List::new(alloc),
+        numbered: 0,
+    };
+    if at_mark(rest, b')') {
+        let rest = mark(rest, b')')?;
+        return Ok((none, rest));
+    }
+    let (written, rest) = param(alloc, rest)?;
+    let one = with_param(alloc, none, written)?;
+    let (all, rest) = more_params(alloc, rest, one)?;
+    let rest = mark(rest, b')')?;
+    Ok((all, rest))
+}
+
+/// The type of a declaration's parameter, and the tokens behind it.
+#[tactic(auto, unfolding(crate::specs::Parameters::declared_param))]
+fn declared_param<'a>(alloc: Global, tokens: &'a [Token]) -> Result<(Ty, &'a [Token]), Stop>
+    ensures { Gives (λ x. done x.0 (kinds x.1.now)) result (read a_declared_param (kinds tokens.now)) }
+{
+    let (ty, rest) = whole(alloc, tokens)?;
+    let rest = pattrs(alloc, rest)?;
+    let rest = behind_local(rest);
+    Ok((ty, rest))
+}
+
+/// The types behind commas, in front of them those that were read.
+fn more_declared_params<'a>(
+    alloc: Global,
+    tokens: &'a [Token],
+    types: List<Ty>,
+) -> Result<(List<Ty>, &'a [Token]), Stop>
+    ensures { Gives (λ x. done x.0 (kinds x.1.now)) result (put_before types (read (many (behind_comma a_declared_param)) (kinds tokens.now))) }
+{
+    let mut all = types;
+    let mut rest = tokens;
+    'commas: while at_mark(rest, b',') {
+        let behind = mark(rest, b',')?;
+        let (next, behind) = declared_param(alloc, behind)?;
+        match all.add(next) {
+            Ok(()) => {}
+            Err(_) => return Err(Stop::NoMemory),
+        }
+        rest = behind;
+    }
+    Ok((all, rest))
+}
+
+/// The types of a declaration's parameters, and the tokens behind them.
+#[tactic(auto, unfolding(crate::specs::Parameters::declared_params))]
+pub fn declared_params<'a>(
+    alloc: Global,
+    tokens: &'a [Token],
+) -> Result<(List<Ty>, &'a [Token]), Stop>
+    ensures { Gives (λ x. done x.0 (kinds x.1.now)) result (read all_declared_params (kinds tokens.now)) }
+{
+    let rest = mark(tokens, b'(')?;
+    let mut types = List::new(alloc);
+    if at_mark(rest, b')') {
+        let rest = mark(rest, b')')?;
+        return Ok((types, rest));
+    }
+    let (ty, rest) = declared_param(alloc, rest)?;
+    match types.add(ty) {
+        Ok(()) => {}
+        Err(_) => return Err(Stop::NoMemory),
+    }
+    let (types, rest) = more_declared_params(alloc, rest, types)?;
+    let rest = mark(rest, b')')?;
+    Ok((types, rest))
 }

@@ -20,8 +20,19 @@ use rd_num::list::List;
 use rd_num::width::Width;
 use std::alloc::Global;
 
+/// Words of types of whole bytes.
+const BYTE_TYPES: [&[u8]; 4] = [b"i8", b"i16", b"i32", b"i64"];
+
 /// Words of types that have no parts.
 const SIMPLE_TYPES: [&[u8]; 6] = [b"i1", b"i8", b"i16", b"i32", b"i64", b"ptr"];
+
+/// Whether a type of whole bytes stands first.
+#[tactic(auto, unfolding(crate::specs::Types::itype))]
+pub fn at_itype(tokens: &[Token]) -> bool
+    ensures { result ≡ starts (first an_itype) (kinds tokens.now) }
+{
+    at_one_of(tokens, &BYTE_TYPES)
+}
 
 /// A type of whole bytes, and the tokens behind it.
 #[tactic(auto, unfolding(crate::specs::Types::itype))]

@@ -5,6 +5,7 @@ use Rattle.ir_lex.specs.declared.first.Found.{Found}
 use Rattle.ir_lex.specs.declared.first.Found.TheVariants.{Gap, Token, Stray}
 use Rattle.ir_lex.specs.declared.token.Token as the_token
 use Rattle.ir_lex.proofs.Rows.{ReadTo, ReadOn, read_on, stops_here, stop_scans_not}
+use Rattle.ir_lex.proofs.Few.{few_tokens}
 use Rattle.ir_lex.proofs.lex.Goals as goal
 
 -- what is found behind a place, as the code takes the rest of the text
@@ -61,3 +62,9 @@ loop-place-preserved c =
     let found = rw c.in-Ok-Token.field-0-is at c.in-Ok-Token.ensures in
     let next = on c.args.text.now c.loop-place.place c.loop-place.tokens (Token c.in-Ok-Token.kind c.in-Ok-Token.len) old.within old.read found (λ e. cc) in
     record { within = next.within; read = subst (ReadTo c.args.text.now (c.loop-place.place + c.in-Ok-Token.len)) (sym c.in-Ok.ensures.put) next.read }
+
+pub returns-clause-few : goal.returns-clause-few
+returns-clause-few c =
+    let few = few_tokens c.args.text.now c.loop-place.place c.loop-place.tokens c.loop-place.invariant.read in
+    let within = c.loop-place.invariant.within in
+    omega arith

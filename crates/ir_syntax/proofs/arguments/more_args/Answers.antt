@@ -1,0 +1,19 @@
+use Rattle.std.proofs.Common.{◌∙◌}
+use Rattle.ir_grammar.specs.Tokens.{kinds}
+use Rattle.ir_grammar.specs.Parts.{behind_comma}
+use Rattle.ir_grammar.proofs.Rows.{shorter, more, comma_read}
+use Rattle.ir_syntax.specs.Parameters.{arg}
+use Rattle.ir_syntax.proofs.FineValues.{item-arg}
+use Rattle.ir_syntax.proofs.arguments.more_args.Goals as goal
+
+pub commas-smaller : goal.commas-smaller
+commas-smaller c =
+    shorter (behind_comma arg) item-arg c.commas.rest.now c.in_ok-next.behind.now c.in_ok-next.next
+    (comma_read arg c.in_ok-next.next (kinds c.commas.rest.now) (kinds c.in_ok-behind.behind.now) (kinds c.in_ok-next.behind.now) c.in_ok-behind.ensures c.in_ok-next.ensures)
+
+pub commas-preserved : goal.commas-preserved
+commas-preserved c =
+    more (behind_comma arg) item-arg c.commas.rest.now c.in_ok-next.behind.now c.in_ok-next.next
+    (comma_read arg c.in_ok-next.next (kinds c.commas.rest.now) (kinds c.in_ok-behind.behind.now) (kinds c.in_ok-next.behind.now) c.in_ok-behind.ensures c.in_ok-next.ensures)
+    c.commas.all c.add.new.self c.in-Ok.ensures.put
+    ∙ c.commas.invariant
