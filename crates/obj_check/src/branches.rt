@@ -8,7 +8,7 @@
 ghost use Rattle.std.specs.Prelude.{◌≡◌, ◌++◌, ◌+◌, ◌≤◌, ◌||◌, if◌then◌else◌, None, IfOk, length};
 ghost use Rattle.x86_core.specs.Arithmetic.{moved};
 ghost use Rattle.obj_core.specs.Disassembly.{found};
-ghost use Rattle.obj_core.specs.WellFormed.{displacement, is_good_link, bad_links, is_linked, goes_well, bad_branches};
+ghost use Rattle.obj_core.specs.WellFormed.{displacement, is_good_link, bad_links, is_linked, goes_well, bad_branches, most_code};
 ghost use Rattle.obj_check.specs.Instrs.{disassembly_of};
 ghost use Rattle.obj_check.specs.Disassembled.{IsNoted};
 ghost use Rattle.obj_check.specs.Least.{lesser_of, least_with};
@@ -30,7 +30,7 @@ pub fn first_bad_branch(
     notes: &Notes,
 ) -> Result<Option<u32>, NoMemory>
     requires noted { IsNoted function.now.bytes notes.now }
-    requires few { length function.now.bytes ≤ 67108864 }
+    requires few { length function.now.bytes ≤ most_code }
     ensures { IfOk result (λ r. r ≡ least_with None
         (bad_links None (found (disassembly_of function.now.bytes)) slots function.now.links ++
         bad_branches function.now.links (found (disassembly_of function.now.bytes))
@@ -140,7 +140,7 @@ fn first_bad_goal(
     before: Option<u32>,
 ) -> Option<u32>
     requires noted { IsNoted function.now.bytes notes.now }
-    requires few { length function.now.bytes ≤ 67108864 }
+    requires few { length function.now.bytes ≤ most_code }
     requires linked { MarksBelow (length function.now.bytes + 1) linked.now
         (is_linked function.now.links) }
     ensures { result ≡ least_with before (bad_branches function.now.links

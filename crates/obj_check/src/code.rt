@@ -5,7 +5,7 @@
 //! `slots`, and which rule comes first is decided in the root of the crate.
 
 ghost use Rattle.std.specs.Prelude.{◌≡◌, ◌≤◌, None, IfOk, length};
-ghost use Rattle.obj_core.specs.WellFormed.{AreFew, in_functions};
+ghost use Rattle.obj_core.specs.WellFormed.{AreFew, in_functions, most_code};
 ghost use Rattle.obj_check.specs.Instrs.{disassembly_of};
 ghost use Rattle.obj_check.specs.Disassembled.{IsNoted, AreNoted, disassemblies_of};
 ghost use Rattle.obj_check.specs.Least.{least_with, as_violation};
@@ -83,7 +83,7 @@ fn first_in_function(
     notes: &Notes,
 ) -> Result<Option<u32>, NoMemory>
     requires noted { IsNoted function.now.bytes notes.now }
-    requires few { length function.now.bytes ≤ 67108864 }
+    requires few { length function.now.bytes ≤ most_code }
     ensures { IfOk result (λ r. r ≡ least_with None
         (failing rule o.now n function.now (disassembly_of function.now.bytes))) }
 {

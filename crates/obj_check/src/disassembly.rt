@@ -5,7 +5,7 @@
 //! function has none, and is stuck at 0. Time is linear in the bytes.
 
 ghost use Rattle.std.specs.Prelude.{◌≡◌, ◌≤◌, IfOk, length};
-ghost use Rattle.obj_core.specs.WellFormed.{AreFew};
+ghost use Rattle.obj_core.specs.WellFormed.{AreFew, most_code};
 ghost use Rattle.obj_check.specs.Disassembled.{Answers, AnswersAll};
 
 use crate::instr_at::instr_at;
@@ -32,7 +32,7 @@ pub enum AllNoted {
 
 /// The instructions that bytes are.
 fn note_function(alloc: Global, bytes: &[u8]) -> Result<Noted, NoMemory>
-    requires { length bytes.now ≤ 67108864 }
+    requires { length bytes.now ≤ most_code }
     ensures { IfOk result (λ r. Answers bytes.now r) }
 {
     if bytes.is_empty() {

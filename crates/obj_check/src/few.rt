@@ -6,15 +6,9 @@
 
 ghost use Rattle.std.specs.Prelude.{◌≡◌, ◌+◌, ◌≤◌, ◌<◌, ◌^◌, ◌↔◌, IsTrue, length, sum, map};
 ghost use Rattle.obj_core.specs.declared.object.Func.{Func as Function};
-ghost use Rattle.obj_core.specs.WellFormed.{AreFew};
+ghost use Rattle.obj_core.specs.WellFormed.{AreFew, most_code, most_data};
 
-use obj_core::object::{Func, Object};
-
-const MOST_FUNCTIONS: usize = 4112;
-
-const MOST_SLOTS: usize = 1_048_576;
-
-const MOST_BYTES: usize = 67_108_864;
+use obj_core::object::{Func, MOST_CODE, MOST_DATA, MOST_FUNCTIONS, MOST_SLOTS, Object};
 
 /// Whether an object has functions and slots, and none of its sizes is past its bound.
 pub fn is_few(o: &Object) -> bool
@@ -31,17 +25,17 @@ pub fn is_few(o: &Object) -> bool
 }
 
 fn is_little_data(o: &Object) -> bool
-    ensures { IsTrue result ↔ (length o.now.ro + length o.now.rw ≤ 67108864) }
+    ensures { IsTrue result ↔ (length o.now.ro + length o.now.rw ≤ most_data) }
 {
     let ro = o.ro.len();
-    ro <= MOST_BYTES && o.rw.len() <= MOST_BYTES - ro
+    ro <= MOST_DATA && o.rw.len() <= MOST_DATA - ro
 }
 
 fn is_little_code(functions: &[Func]) -> bool
     ensures { IsTrue result ↔ (sum (map (λ (f : Function). length f.bytes) functions.now) ≤
-        67108864) }
+        most_code) }
 {
-    let mut left = MOST_BYTES;
+    let mut left = MOST_CODE;
     for function in functions {
         let size = function.bytes.len();
         if size > left {

@@ -5,6 +5,7 @@
 
 ghost use Rattle.std.specs.Prelude.{◌≤◌, length};
 ghost use Rattle.obj_check.specs.Instrs.{IsInstrAt};
+ghost use Rattle.obj_core.specs.WellFormed.{most_code};
 
 use x86_core::instr::{Decoded, Instr};
 use x86_decode::decode_one;
@@ -20,7 +21,7 @@ pub struct InstrAt {
 /// The instruction that starts at an offset, or `None` where none does.
 pub fn instr_at(bytes: &[u8], at: usize) -> Option<InstrAt>
     requires within { at ≤ length bytes.now }
-    requires few { length bytes.now ≤ 67108864 }
+    requires few { length bytes.now ≤ most_code }
     ensures { IsInstrAt bytes.now at result }
 {
     match decode_one(&bytes[at..]) {

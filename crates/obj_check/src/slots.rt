@@ -6,7 +6,7 @@
 
 ghost use Rattle.std.specs.Prelude.{◌≡◌, ◌≤◌, ℕ, length, nat_lt};
 ghost use Rattle.obj_core.specs.declared.object.Slot.{Slot as Trampoline};
-ghost use Rattle.obj_core.specs.WellFormed.{is_start, is_good_slot, is_entry, agrees_with, in_slots};
+ghost use Rattle.obj_core.specs.WellFormed.{is_start, is_good_slot, is_entry, agrees_with, in_slots, most_slots};
 ghost use Rattle.obj_check.specs.Disassembled.{AreNoted, disassemblies_of};
 ghost use Rattle.obj_check.specs.Least.{as_violation};
 ghost use Rattle.obj_check.specs.Judging.{slot_violation};
@@ -19,7 +19,7 @@ use obj_core::object::{CodeAt, Func, Slot};
 /// The first of rules 6 and 7 that fails, at its first slot.
 pub fn first_bad_slot(functions: &[Func], noted: &[Notes], slots: &[Slot]) -> Option<Broken>
     requires noted { AreNoted functions.now noted.now }
-    requires few { length slots.now ≤ 1048576 }
+    requires few { length slots.now ≤ most_slots }
     ensures { as_violation result ≡ slot_violation slots.now (disassemblies_of functions.now) }
 {
     match first_bad_goal(functions, noted, slots) {
@@ -31,7 +31,7 @@ pub fn first_bad_slot(functions: &[Func], noted: &[Notes], slots: &[Slot]) -> Op
 /// The first slot whose target is no function or whose way back is no start of an instruction.
 fn first_bad_goal(functions: &[Func], noted: &[Notes], slots: &[Slot]) -> Option<Broken>
     requires noted { AreNoted functions.now noted.now }
-    requires few { length slots.now ≤ 1048576 }
+    requires few { length slots.now ≤ most_slots }
     ensures { as_violation result ≡ in_slots 6
         (λ (k : ℕ) (s : Trampoline). is_good_slot (disassemblies_of functions.now) s) 0 slots.now }
 {
@@ -45,7 +45,7 @@ fn first_bad_goal(functions: &[Func], noted: &[Notes], slots: &[Slot]) -> Option
 
 /// The first slot that is an entry and not the first one, or the first one where it is none.
 fn first_bad_entry(slots: &[Slot]) -> Option<Broken>
-    requires { length slots.now ≤ 1048576 }
+    requires { length slots.now ≤ most_slots }
     ensures { as_violation result ≡ in_slots 7 agrees_with 0 slots.now }
 {
     for (k, slot) in slots.iter().enumerate() {

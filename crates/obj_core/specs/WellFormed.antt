@@ -5,6 +5,7 @@ use Rattle.x86_core.specs.declared.instr.Instr.{Instr}
 use Rattle.x86_core.specs.declared.instr.Instr.TheVariants.{Jcc, Jmp, Call, Ret, CallR11, JmpR11, Syscall, Ud2, Int3}
 use Rattle.x86_core.specs.Arithmetic.{moved}
 use Rattle.x86_core.specs.Encoding.{encoding, IsInstr}
+use Rattle.obj_core.specs.declared.object.TheConstants.{MOST_FUNCTIONS, MOST_SLOTS, MOST_CODE, MOST_DATA}
 use Rattle.obj_core.specs.declared.object.Object.{Object}
 use Rattle.obj_core.specs.declared.object.Func.{Func}
 use Rattle.obj_core.specs.declared.object.FuncKind.{FuncKind}
@@ -15,14 +16,27 @@ use Rattle.obj_core.specs.Object.{Each, IsObject}
 use Rattle.obj_core.specs.Disassembly.{AreDisassemblies, Found, found, starts_at, spelled, size_of}
 use Rattle.obj_core.specs.Saved.{prologue, begins_with, are_first_colors}
 
+-- the limits of rule 1
+abbrev pub most_functions : ℕ
+most_functions = MOST_FUNCTIONS
+
+abbrev pub most_slots : ℕ
+most_slots = MOST_SLOTS
+
+abbrev pub most_code : ℕ
+most_code = MOST_CODE
+
+abbrev pub most_data : ℕ
+most_data = MOST_DATA
+
 -- rule 1, sizes: functions, slots, bytes of code, bytes of data
 pub record AreFew (o : Object) : Type 0 where
   pub some_function : 1 ≤ length o.functions
-  pub functions : length o.functions ≤ 4112
+  pub functions : length o.functions ≤ most_functions
   pub some_slot : 1 ≤ length o.slots
-  pub slots : length o.slots ≤ 1048576
-  pub code : sum (map (λ (f : Func). length f.bytes) o.functions) ≤ 67108864
-  pub data_bytes : length o.ro + length o.rw ≤ 67108864
+  pub slots : length o.slots ≤ most_slots
+  pub code : sum (map (λ (f : Func). length f.bytes) o.functions) ≤ most_code
+  pub data_bytes : length o.ro + length o.rw ≤ most_data
 
 -- rule 3, transfers: what only a slot may do
 abbrev pub is_slots_own : Instr → Bool

@@ -13,6 +13,7 @@ ghost use Rattle.obj_core.specs.Slots.{slot_base};
 ghost use Rattle.obj_core.specs.Placement.{filler, displacement_bytes, address};
 ghost use Rattle.obj_core.specs.Runs.{end_of_runs, address_at, address_in_run, put_at, runs_from, slot_run};
 ghost use Rattle.obj_core.specs.Plans.{IsPlan, planned};
+ghost use Rattle.obj_core.specs.WellFormed.{most_code};
 
 use crate::address::{SLOT_BASE, SlotAddr};
 use crate::bytes::{breakpoints, number_at, put_byte, way};
@@ -109,7 +110,7 @@ fn runs_of(
     places: &[u32],
     starts: &[u32],
 ) -> Result<Runs, NoMemory>
-    requires { sum_by (λ (f : Func). length f.bytes) functions.now ≤ 67108864 }
+    requires { sum_by (λ (f : Func). length f.bytes) functions.now ≤ most_code }
     ensures { IfOk result (λ all. all ≡ runs_from
         (λ n. slice_index starts.now (slice_index places.now n)) 0 0 functions.now) }
 {

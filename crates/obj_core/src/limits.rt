@@ -7,22 +7,22 @@ ghost use Rattle.std.specs.Prelude.{ℕ, ◌≡◌, ◌≤◌, length};
 ghost use Rattle.std.specs.List.{sum_by};
 ghost use Rattle.obj_core.specs.declared.object.Func.{Func};
 ghost use Rattle.obj_core.specs.Placement.{Piece, piece, pieces_in, order};
-ghost use Rattle.obj_core.specs.WellFormed.{IsWellFormed};
+ghost use Rattle.obj_core.specs.WellFormed.{IsWellFormed, most_code, most_functions, most_slots};
 
 use crate::object::Object;
 
 /// Makes it known to a proof how large a well-formed object is at most.
 pub fn sizes_known(o: &Object)
     requires { ∥ IsWellFormed o.now ∥₁ }
-    ensures functions { length o.now.functions ≤ 4112 }
-    ensures slots { length o.now.slots ≤ 1048576 }
-    ensures small { (k : ℕ) → length (piece o.now.functions k).bytes ≤ 67108864 }
-    ensures code { sum_by (λ (f : Func). length f.bytes) o.now.functions ≤ 67108864 }
+    ensures functions { length o.now.functions ≤ most_functions }
+    ensures slots { length o.now.slots ≤ most_slots }
+    ensures small { (k : ℕ) → length (piece o.now.functions k).bytes ≤ most_code }
+    ensures code { sum_by (λ (f : Func). length f.bytes) o.now.functions ≤ most_code }
 {}
 
 /// Makes it known to a proof that the functions in their order are as large. Takes no memory.
 pub fn row_known(o: &Object, layout_seed: u64)
     requires { ∥ IsWellFormed o.now ∥₁ }
     ensures { sum_by (λ (p : Piece). length p.bytes)
-        (pieces_in o.now.functions (order o.now layout_seed)) ≤ 67108864 }
+        (pieces_in o.now.functions (order o.now layout_seed)) ≤ most_code }
 {}

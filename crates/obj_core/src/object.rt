@@ -7,6 +7,18 @@
 
 use rd_num::list::List;
 
+/// The most functions of a well-formed object.
+pub const MOST_FUNCTIONS: usize = 4112;
+
+/// The most slots.
+pub const MOST_SLOTS: usize = 1_048_576;
+
+/// The most bytes of code, of all functions together.
+pub const MOST_CODE: usize = 67_108_864;
+
+/// The most bytes of data, of both kinds together.
+pub const MOST_DATA: usize = 67_108_864;
+
 /// A program whose code is not laid out yet.
 #[derive(Drop)]
 pub struct Object {

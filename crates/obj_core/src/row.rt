@@ -10,6 +10,7 @@ ghost use Rattle.rd_draw.specs.Draw.{keystream_word};
 ghost use Rattle.obj_core.specs.declared.object.Func.{Func};
 ghost use Rattle.obj_core.specs.Placement.{Piece, piece, order as order_of, pieces_in, code_base, gap_purpose, starts_from};
 ghost use Rattle.obj_core.specs.Plans.{end_from};
+ghost use Rattle.obj_core.specs.WellFormed.{most_code, most_functions};
 
 use crate::bytes::round_up;
 use crate::object::{Func, Object};
@@ -37,7 +38,7 @@ pub struct Row {
 /// The order of functions.
 #[tactic(auto, unfolding(crate::specs::Placement::order), using(crate::proofs::Pieces::pieces_as_many))]
 pub fn function_order(alloc: Global, o: &Object, layout_seed: u64) -> Result<List<u32>, NoMemory>
-    requires { length o.now.functions ≤ 4112 }
+    requires { length o.now.functions ≤ most_functions }
     ensures value { IfOk result (λ all. all ≡ order_of o.now layout_seed) }
     ensures long { IfOk result (λ all. length all ≡ length o.now.functions) }
 {
@@ -53,10 +54,10 @@ pub fn function_order(alloc: Global, o: &Object, layout_seed: u64) -> Result<Lis
 
 /// The functions of these numbers, one behind the other.
 pub fn row_of(alloc: Global, functions: &[Func], order: &[u32], seed: u64) -> Result<Row, NoMemory>
-    requires few { length order.now ≤ 4112 }
-    requires small { (k : ℕ) → length (piece functions.now k).bytes ≤ 67108864 }
+    requires few { length order.now ≤ most_functions }
+    requires small { (k : ℕ) → length (piece functions.now k).bytes ≤ most_code }
     requires little { sum_by (λ (p : Piece). length p.bytes)
-        (pieces_in functions.now order.now) ≤ 67108864 }
+        (pieces_in functions.now order.now) ≤ most_code }
     ensures base { IfOk result (λ r. r.base ≡ code_base seed) }
     ensures starts { IfOk result (λ r. r.starts ≡
         starts_from (keystream_word seed gap_purpose 0) 1 (code_base seed)
@@ -84,7 +85,7 @@ pub fn row_of(alloc: Global, functions: &[Func], order: &[u32], seed: u64) -> Re
 /// How many bytes a function has, or 0 where there is none. Takes no memory.
 #[tactic(auto, using(crate::proofs::Pieces::piece_some, crate::proofs::Pieces::piece_none))]
 fn piece_len(functions: &[Func], number: u32) -> u32
-    requires { length (piece functions.now number).bytes ≤ 67108864 }
+    requires { length (piece functions.now number).bytes ≤ most_code }
     ensures { result ≡ length (piece functions.now number).bytes }
 {
     match functions.get(number as usize) {

@@ -10,7 +10,7 @@ ghost use Rattle.x86_core.specs.Data.{segment};
 ghost use Rattle.obj_core.specs.declared.object.Func.{Func};
 ghost use Rattle.obj_core.specs.declared.object.Link.{Link};
 ghost use Rattle.obj_core.specs.Slots.{positions as positions_of};
-ghost use Rattle.obj_core.specs.WellFormed.{IsWellFormed};
+ghost use Rattle.obj_core.specs.WellFormed.{IsWellFormed, most_code};
 ghost use Rattle.obj_core.specs.Placement.{code_base, overlaid};
 ghost use Rattle.obj_core.specs.Runs.{end_of_runs, address_at};
 ghost use Rattle.obj_core.specs.Plans.{IsPlan};
@@ -38,7 +38,7 @@ pub fn code_of(
     positions: &[u32],
     layout_seed: u64,
 ) -> Result<Code, NoMemory>
-    requires little { sum_by (λ (f : Func). length f.bytes) o.now.object.functions ≤ 67108864 }
+    requires little { sum_by (λ (f : Func). length f.bytes) o.now.object.functions ≤ most_code }
     requires positions { positions.now ≡ positions_of o.now.object }
     requires below { (k : ℕ) → slice_index positions.now k < 2 ^ 20 }
     ensures plan { IfOk result (λ c. IsPlan c.plan o.now.object layout_seed) }
@@ -62,7 +62,7 @@ pub fn code_of(
 
 /// Puts a function whose bytes stand from a place on, and the displacements of its links. Takes no memory.
 fn put_function(builder: &mut CodeBuilder, front: u32, function: &Func, positions: &[u32])
-    requires small { front + length function.now.bytes ≤ 67108864 }
+    requires small { front + length function.now.bytes ≤ most_code }
     requires room { front + length function.now.bytes ≤ end_of_runs builder.old.runs }
     requires together { (p : ℕ) → p < length function.now.bytes →
         address_at builder.old.runs (front + p) ≡ address_at builder.old.runs front + p }

@@ -9,7 +9,7 @@ ghost use Rattle.std.specs.List.{sum_by};
 ghost use Rattle.x86_core.specs.Data.{ro_start, rw_start, segment as segment_of};
 ghost use Rattle.obj_core.specs.declared.object.Func.{Func};
 ghost use Rattle.obj_core.specs.Slots.{positions as positions_of};
-ghost use Rattle.obj_core.specs.WellFormed.{IsWellFormed};
+ghost use Rattle.obj_core.specs.WellFormed.{IsWellFormed, most_code, most_slots};
 ghost use Rattle.elf_file.specs.Sound.{IsSound};
 ghost use Rattle.obj_core.specs.Layout.{present, layout};
 ghost use Rattle.obj_lay.specs.Hidden.{HasDataOf, RepliesAsObject, ShowTheSame, ShowsObject};
@@ -58,8 +58,8 @@ pub fn lay(alloc: Global, o: &Checked, layout_seed: u64) -> Result<Image, NoMemo
 /// Makes it known to a proof how large a well-formed object is at most.
 fn sizes_known(o: &Object)
     requires { ∥ IsWellFormed o.now ∥₁ }
-    ensures slots { length o.now.slots ≤ 1048576 }
-    ensures code { sum_by (λ (f : Func). length f.bytes) o.now.functions ≤ 67108864 }
+    ensures slots { length o.now.slots ≤ most_slots }
+    ensures code { sum_by (λ (f : Func). length f.bytes) o.now.functions ≤ most_code }
 {}
 
 /// The segments of an image, in the order of their addresses, without the empty ones.
@@ -106,7 +106,7 @@ fn put_segment(all: &mut List<Segment>, segment: Segment) -> Result<(), NoMemory
 /// Where slots stand, by their numbers.
 #[tactic(auto, unfolding(obj_core::specs::Slots::positions))]
 fn slot_positions(alloc: Global, o: &Object) -> Result<List<u32>, NoMemory>
-    requires { length o.now.slots ≤ 1048576 }
+    requires { length o.now.slots ≤ most_slots }
     ensures value { IfOk result (λ all. all ≡ positions_of o.now) }
     ensures below { IfOk result (λ all. (k : ℕ) → slice_index all k < 2 ^ 20) }
 {

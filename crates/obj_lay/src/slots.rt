@@ -11,6 +11,7 @@ ghost use Rattle.obj_core.specs.Placement.{inverse, filler, start_of, displaceme
 ghost use Rattle.obj_core.specs.Runs.{slot_run};
 ghost use Rattle.obj_core.specs.Plans.{planned};
 ghost use Rattle.obj_core.specs.Layout.{jump, trampoline, trampolines};
+ghost use Rattle.obj_core.specs.WellFormed.{most_slots};
 
 use obj_core::checked::Checked;
 use obj_core::code::{CodeBuilder, CodePlan};
@@ -26,7 +27,7 @@ pub fn slot_segment(
     plan: &CodePlan,
     positions: &[u32],
 ) -> Result<Segment, NoMemory>
-    requires few { length o.now.object.slots ≤ 1048576 }
+    requires few { length o.now.object.slots ≤ most_slots }
     requires positions { positions.now ≡ positions_of o.now.object }
     ensures { IfOk result (λ s. s ≡ segment slot_base
         (trampolines (planned plan.now) positions.now o.now.object.slots (inverse positions.now))
