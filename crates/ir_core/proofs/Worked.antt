@@ -29,7 +29,7 @@ use Rattle.ir_core.proofs.Inits.{init-value}
 use Rattle.ir_core.proofs.WorkedWords.{i1, i8, i32, i64, local, int, gives, block, function, module_of, entry, arg, left, shown}
 
 -- ret i32 7
-abbrev seven : Module
+abbrev pub seven : Module
 seven = module_of [] (function (codes "main") [] (block (codes "0") [] (Term.RetValue i32 (int 7)) ∷ []) ∷ [])
 
 -- before its one step
@@ -65,7 +65,7 @@ abbrev putchar : Extern
 putchar = record { name = codes "putchar"; ret = i32; params = i32 ∷ [] }
 
 -- two phis that exchange their values at each turn print ABABA
-abbrev exchange : Module
+abbrev pub exchange : Module
 exchange = module_of (putchar ∷ []) (function (codes "main") [] (
     block (codes "e") [] (Term.Br (codes "h"))
     ∷ block (codes "h") (

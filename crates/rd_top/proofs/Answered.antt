@@ -71,12 +71,12 @@ module _ (image : Image) (o : Object) (shows : ShowsObject image o) where
 
 -- what is shown of a layout is hidden in all of these ways
 pub hides : (image : Image) (o : Object) (seed : ℕ) → image ≡ layout o seed → ShowsObject image o → RepliesAsObject image o → HasDataOf image o → ((other : ℕ) → ShowTheSame image (layout o other) o) → Hides o seed
-hides image o seed e shows replies data lockstep =
+hides image o seed e shows replies has_data lockstep =
     let s = subst (λ i. ShowsObject i o) e shows in
     record {
       shows = s;
       replies = subst (λ i. RepliesAsObject i o) e replies;
       reports = answers_alike (layout o seed) o s;
-      data_of = subst (λ i. HasDataOf i o) e data;
+      data_of = subst (λ i. HasDataOf i o) e has_data;
       lockstep = λ other. subst (λ i. ShowTheSame i (layout o other) o) e (lockstep other);
     }
