@@ -16,7 +16,7 @@ use Rattle.ir_narrow.specs.declared.narrow.Operation.TheVariants.{Add, Sub, Mul}
 use Rattle.ir_narrow.specs.declared.narrow.Instruction.{Instruction}
 use Rattle.ir_narrow.specs.declared.narrow.Narrow.{Narrow}
 use Rattle.ir_narrow.specs.Values.{integer_of, place_of}
-use Rattle.ir_narrow.specs.NarrowText.{Row, Program, names_of, IsNarrowText}
+use Rattle.ir_narrow.specs.NarrowText.{Row, Program, names_of, IsNarrow, IsNarrowText}
 use Rattle.ir_narrow.specs.Reading.{value_of, behind_percent}
 
 -- the instruction of a row, where these names have results
@@ -40,6 +40,12 @@ pub record IsResolved (p : Program) (n : Narrow) : Type 0 where
 pub record SpellsNarrow (text : List ℕ) (n : Narrow) : Type 0 where
   pub program : Program
   pub spelled : IsNarrowText text program
+  pub resolved : IsResolved program n
+
+-- these are the instructions of a narrow program
+pub record IsOfProgram (n : Narrow) : Type 0 where
+  pub program : Program
+  pub narrow : IsNarrow program
   pub resolved : IsResolved program n
 
 -- the type of every value in a narrow module

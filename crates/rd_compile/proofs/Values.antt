@@ -7,7 +7,8 @@ use Rattle.std.proofs.lemmas.Iterator.Adapters.{position_from-zero}
 use Rattle.rd_num.specs.declared.width.Width.TheVariants.{W32}
 use Rattle.ir_core.specs.declared.memory.Value.TheVariants.{Num}
 use Rattle.ir_core.specs.declared.module.Module.{Module}
-use Rattle.ir_core.specs.Kinds.{Number, literal}
+use Rattle.ir_core.specs.declared.kind.Kind.TheVariants.{Number}
+use Rattle.ir_core.specs.Kinds.{literal}
 use Rattle.ir_core.specs.State.{Local}
 use Rattle.ir_core.specs.Operands.{local_value, value_of as module_value}
 use Rattle.ir_narrow.specs.declared.narrow.Value.{Value}

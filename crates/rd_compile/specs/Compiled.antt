@@ -5,8 +5,9 @@ use Rattle.behavior.specs.Moment.{AreBytes}
 use Rattle.behavior.specs.Preserves.{Preserves, ReachesWithin}
 use Rattle.ir_core.specs.declared.module.Module.{Module}
 use Rattle.ir_core.specs.Run.{source_run}
-use Rattle.ir_narrow.specs.NarrowText.{Program, IsNarrowText}
-use Rattle.ir_narrow.specs.Resolved.{module_of}
+use Rattle.ir_narrow.specs.declared.narrow.Narrow.{Narrow}
+use Rattle.ir_narrow.specs.NarrowText.{Program, IsNarrow}
+use Rattle.ir_narrow.specs.Resolved.{IsResolved, module_of}
 use Rattle.obj_core.specs.declared.object.Object.{Object}
 use Rattle.obj_core.specs.declared.object.Func.{Func}
 use Rattle.obj_core.specs.declared.object.FuncKind.{FuncKind}
@@ -27,11 +28,12 @@ pub record IsCompiledFrom (m : Module) (slot_seed reg_seed : ℕ) (o : Object) :
   pub plain : Each IsPlain o.functions
   pub preserves : Preserves (source_run m) (symbolic_behavior o)
 
--- an object that is compiled from the module of a narrow text; the module is never left, it comes to an end on every input, and the
--- object never strays
-pub record CompiledText (text : List ℕ) (slot_seed reg_seed : ℕ) (o : Object) : Type 0 where
+-- an object that is compiled from a narrow module; the module is never left, it comes to an end on every input, and the object
+-- never strays
+pub record IsCompiledNarrow (n : Narrow) (slot_seed reg_seed : ℕ) (o : Object) : Type 0 where
   pub program : Program
-  pub spelled : IsNarrowText text program
+  pub narrow : IsNarrow program
+  pub resolved : IsResolved program n
   pub compiled : IsCompiledFrom (module_of program) slot_seed reg_seed o
   pub meant : (input : List ℕ) → AreBytes input → (k : ℕ) → is_left (source_run (module_of program) input k).ending ≡ false
   pub ends : (input : List ℕ) → AreBytes input → (k : ℕ) × (status : ℕ) × (source_run (module_of program) input k ≡ record { printed = []; taken = 0; ending = Ended status })

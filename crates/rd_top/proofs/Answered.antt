@@ -1,21 +1,21 @@
 -- Two layouts answer the same, as long as the object hasn't strayed.
-use Rattle.std.proofs.Common.{◌≡◌, ◌≢◌, ℕ, zero, suc, ◌≤◌, Bool, true, false, ◌&&◌, nat_le, List, [], ◌∷◌, ◌++◌, length, replicate, refl, sym, ap, ◌∙◌, arith}
+use Rattle.std.proofs.Common.{◌≡◌, ◌≢◌, ℕ, zero, suc, ◌≤◌, Bool, true, false, ◌&&◌, nat_le, List, [], ◌∷◌, ◌++◌, length, replicate, refl, sym, ap, subst, ◌∙◌, arith}
 use Rattle.std.proofs.lemmas.Bool.Decides.{nat_tests}
 use Rattle.behavior.specs.Ending.{Strayed}
 use Rattle.behavior.specs.System.{iter}
+use Rattle.x86_core.specs.declared.image.Image.{Image}
 use Rattle.x86_core.specs.Step.{State}
 use Rattle.x86_core.specs.Run.{Step, run_over}
 use Rattle.x86_core.specs.Machine.{machine_start, machine_step}
 use Rattle.x86_core.specs.Observation.{Observation, observe, reply_to}
 use Rattle.obj_core.specs.declared.object.Object.{Object}
 use Rattle.obj_core.specs.SymbolicMachine.{symbolic_step, symbolic_start}
-use Rattle.obj_core.specs.WellFormed.{IsWellFormed}
 use Rattle.obj_core.specs.Layout.{layout}
-use Rattle.obj_lay.proofs.hidden.Images.{hidden_layout}
+use Rattle.obj_lay.specs.Hidden.{HasDataOf, RepliesAsObject, ShowTheSame, ShowsObject, image_shown, object_shown}
 use Rattle.watch_script.specs.declared.event.Event.{Event}
 use Rattle.watch_script.specs.Events.{are_in_order, last_after}
 use Rattle.watch_script.specs.Report.{reply_of, replies_of, reply_lines, end_line, capped, report_of}
-use Rattle.rd_top.specs.Watching.{report_on, seen_of, StaysStraight}
+use Rattle.rd_top.specs.Hiding.{Hides, ReportsAsObject}
 
 and_both : (a b : Bool) → (a && b) ≡ true → (a ≡ true) × (b ≡ true)
 and_both true b h = (refl, h)
@@ -58,12 +58,25 @@ steps : {P : Type 0} (step : State P → State P) (n : ℕ) (s : State P) → ru
 steps step zero s = refl
 steps step (suc n) s = steps step n (step s)
 
-seen_same : (o : Object) → IsWellFormed o → (seed : ℕ) (input : List ℕ) (n : ℕ) → (iter (symbolic_step o) n (symbolic_start o input)).ending ≢ Strayed → observe (iter machine_step n (machine_start (layout o seed) input)) ≡ seen_of o input n
-seen_same o well seed input n straight =
-    ap observe (sym (steps machine_step n (machine_start (layout o seed) input))) ∙
-    (hidden_layout o well seed input (replicate n Step) (λ e. straight (ap (λ s. s.ending) (sym (steps (symbolic_step o) n (symbolic_start o input))) ∙ e)) ∙
-    ap observe (steps (symbolic_step o) n (symbolic_start o input)))
+module _ (image : Image) (o : Object) (shows : ShowsObject image o) where
+  seen_same : (input : List ℕ) (n : ℕ) → (iter (symbolic_step o) n (symbolic_start o input)).ending ≢ Strayed → image_shown image input n ≡ object_shown o input n
+  seen_same input n straight =
+      ap observe (sym (steps machine_step n (machine_start image input))) ∙
+      (shows input (replicate n Step) (λ e. straight (ap (λ s. s.ending) (sym (steps (symbolic_step o) n (symbolic_start o input))) ∙ e)) ∙
+      ap observe (steps (symbolic_step o) n (symbolic_start o input)))
 
-pub answers_alike : (o : Object) → IsWellFormed o → (seed : ℕ) (input : List ℕ) (events : List Event) → are_in_order 0 events ≡ true → StaysStraight o input (last_after 0 events) → report_on (layout o seed) events input ≡ report_of (seen_of o input) events
-answers_alike o well seed input events order straight =
-    reports_same (λ n. observe (iter machine_step n (machine_start (layout o seed) input))) (seen_of o input) events order (λ n h. seen_same o well seed input n (straight n h))
+  pub answers_alike : ReportsAsObject image o
+  answers_alike input events order straight =
+      reports_same (image_shown image input) (object_shown o input) events order (λ n h. seen_same input n (straight n h))
+
+-- what is shown of a layout is hidden in all of these ways
+pub hides : (image : Image) (o : Object) (seed : ℕ) → image ≡ layout o seed → ShowsObject image o → RepliesAsObject image o → HasDataOf image o → ((other : ℕ) → ShowTheSame image (layout o other) o) → Hides o seed
+hides image o seed e shows replies has_data lockstep =
+    let s = subst (λ i. ShowsObject i o) e shows in
+    record {
+      shows = s;
+      replies = subst (λ i. RepliesAsObject i o) e replies;
+      reports = answers_alike (layout o seed) o s;
+      data_of = subst (λ i. HasDataOf i o) e has_data;
+      lockstep = λ other. subst (λ i. ShowTheSame i (layout o other) o) e (lockstep other);
+    }

@@ -1,7 +1,6 @@
-pub mod Contents
-pub mod Runs
+pub mod Answered
 pub mod Lengths
 mod Made
-pub mod Shows
-pub mod Watches
-pub mod Answered
+pub mod Runs
+pub mod Told
+pub mod Watched

@@ -1,7 +1,11 @@
 //! How the program ends: the one place where status numbers and lines stand.
+//!
+//! An `Answer` says what came of a command; `status` and `line` tell it to the outside. Answers are
+//! grouped by status, and what a line names is in the answer. What they are stands in
+//! `specs/Answers.antt`; for people, in docs/command-line.md, "Statuses".
 
-ghost use Rattle.std.specs.Prelude.{◌≡◌, ◌∷◌, ◌++◌, [], IfOk, OnOk, decimal};
-ghost use Rattle.rd_top.specs.Answers.{status_number, line_of, outcome_text, shape_text, spot_word, spot_number};
+ghost use Rattle.std.specs.Prelude.{◌≡◌, ◌≢◌, ◌∷◌, ◌++◌, [], IfOk, OnOk, OnErr, decimal};
+ghost use Rattle.rd_top.specs.Answers.{status_number, refusal_number, outcome_number, line_of, outcome_text, refusal_text, shape_text, spot_word, spot_number};
 
 use itoa::Buffer;
 use obj_check::fault::ShapeSpot;
@@ -9,31 +13,20 @@ use rd_num::copied::copy_list;
 use rd_num::list::List;
 use rd_num::width::NoMemory;
 use std::alloc::Global;
-use x86_core::image::MachOutcome;
 
-/// The answer of a command: docs/command-line.md, "Statuses".
-#[derive(Clone, Copy)]
+/// What came of a command.
+#[derive(Drop)]
 pub enum Answer {
     /// What the command writes was written.
     Done,
+    /// A run took its steps.
+    Ran(Outcome),
     /// The words have no reading.
     Words,
     /// A file could not be read.
     File,
-    /// The module is for a later version.
-    Later,
-    /// The file is no object: where its bytes leave the format.
-    Form(u64),
-    /// The object isn't well formed: the first rule that it breaks, and where.
-    Shape {
-        rule: u8,
-        spot: ShapeSpot,
-        offset: u32,
-    },
-    /// The file is no image: the first rule that it breaks.
-    Image(u8),
-    /// The script is refused: its first bad line, counted from 1.
-    Script(u32),
+    /// A file is none of its kind.
+    Refused(Refusal),
     /// A file is longer than its limit.
     Long,
     /// The output failed.
@@ -41,34 +34,103 @@ pub enum Answer {
     /// The input failed.
     Input,
     Memory,
-    /// A machine took its steps.
-    Ran(MachOutcome),
+}
+
+/// How a run stands after its steps.
+#[derive(Clone, Copy)]
+pub enum Outcome {
+    Ended(u8),
+    Trapped(Trap),
+    Going,
+    Stopped(Stop),
+}
+
+/// What a program may come to by itself.
+#[derive(Clone, Copy)]
+pub enum Trap {
+    Divide,
+    Invalid,
+    Breakpoint,
+}
+
+/// What no compiled program comes to.
+#[derive(Clone, Copy)]
+pub enum Stop {
+    PageFault,
+    NoForm,
+    NoFlag,
+    BadCall,
+}
+
+/// What is wrong with a file.
+#[derive(Drop)]
+pub enum Refusal {
+    Module(ModuleFault),
+    Object(ObjectFault),
+    /// The first rule of images that fails.
+    Image(u8),
+    /// The first bad line of a script, counted from 1.
+    Script(u32),
+}
+
+/// What is wrong with a module.
+#[derive(Drop)]
+pub enum ModuleFault {
+    /// It is for a later version.
+    Later,
+}
+
+/// What is wrong with an object.
+#[derive(Drop)]
+pub enum ObjectFault {
+    /// Where the bytes leave the format.
+    Form(u64),
+    /// The first rule that isn't kept, and where.
+    Shape {
+        rule: u8,
+        spot: ShapeSpot,
+        offset: u32,
+    },
+}
+
+/// The status of a refusal.
+fn refusal_status(refusal: &Refusal) -> u8
+    ensures { result ≡ refusal_number refusal.now }
+{
+    match refusal {
+        Refusal::Module(_) => 4,
+        Refusal::Object(_) => 5,
+        Refusal::Image(_) => 6,
+        Refusal::Script(_) => 7,
+    }
+}
+
+/// The status of an outcome.
+fn outcome_status(outcome: Outcome) -> u8
+    ensures { result ≡ outcome_number outcome }
+{
+    match outcome {
+        Outcome::Ended(_) => 0,
+        Outcome::Trapped(_) => 20,
+        Outcome::Going => 21,
+        Outcome::Stopped(_) => 22,
+    }
 }
 
 /// The status of an answer.
-pub fn status(answer: Answer) -> u8
-    ensures { result ≡ status_number answer }
+pub fn status(answer: &Answer) -> u8
+    ensures { result ≡ status_number answer.now }
 {
     match answer {
-        Answer::Done | Answer::Ran(MachOutcome::Ended(_)) => 0,
+        Answer::Done => 0,
+        Answer::Ran(outcome) => outcome_status(*outcome),
         Answer::Words => 2,
         Answer::File => 3,
-        Answer::Later => 4,
-        Answer::Form(_) | Answer::Shape { .. } => 5,
-        Answer::Image(_) => 6,
-        Answer::Script(_) => 7,
+        Answer::Refused(refusal) => refusal_status(refusal),
         Answer::Long => 8,
         Answer::Out => 9,
         Answer::Input => 10,
         Answer::Memory => 11,
-        Answer::Ran(MachOutcome::Divide | MachOutcome::Invalid | MachOutcome::Breakpoint) => 20,
-        Answer::Ran(MachOutcome::Going) => 21,
-        Answer::Ran(
-            MachOutcome::PageFault
-            | MachOutcome::NoForm
-            | MachOutcome::NoFlag
-            | MachOutcome::BadCall,
-        ) => 22,
     }
 }
 
@@ -127,39 +189,51 @@ fn shape_line(alloc: Global, rule: u8, spot: ShapeSpot, offset: u32) -> Result<L
 }
 
 /// The line of an outcome.
-fn outcome_line(alloc: Global, outcome: MachOutcome) -> Result<List<u8>, NoMemory>
+fn outcome_line(alloc: Global, outcome: Outcome) -> Result<List<u8>, NoMemory>
     ensures { IfOk result (λ l. l ≡ outcome_text outcome) }
 {
     match outcome {
-        MachOutcome::Ended(status) => numbered(alloc, b"ended ", u64::from(status)),
-        MachOutcome::Going => copy_list(alloc, b"going\n"),
-        MachOutcome::Divide => copy_list(alloc, b"trapped divide\n"),
-        MachOutcome::Invalid => copy_list(alloc, b"trapped invalid\n"),
-        MachOutcome::Breakpoint => copy_list(alloc, b"trapped breakpoint\n"),
-        MachOutcome::PageFault => copy_list(alloc, b"stopped pagefault\n"),
-        MachOutcome::NoForm => copy_list(alloc, b"stopped noform\n"),
-        MachOutcome::NoFlag => copy_list(alloc, b"stopped noflag\n"),
-        MachOutcome::BadCall => copy_list(alloc, b"stopped badcall\n"),
+        Outcome::Ended(status) => numbered(alloc, b"ended ", u64::from(status)),
+        Outcome::Trapped(Trap::Divide) => copy_list(alloc, b"trapped divide\n"),
+        Outcome::Trapped(Trap::Invalid) => copy_list(alloc, b"trapped invalid\n"),
+        Outcome::Trapped(Trap::Breakpoint) => copy_list(alloc, b"trapped breakpoint\n"),
+        Outcome::Going => copy_list(alloc, b"going\n"),
+        Outcome::Stopped(Stop::PageFault) => copy_list(alloc, b"stopped pagefault\n"),
+        Outcome::Stopped(Stop::NoForm) => copy_list(alloc, b"stopped noform\n"),
+        Outcome::Stopped(Stop::NoFlag) => copy_list(alloc, b"stopped noflag\n"),
+        Outcome::Stopped(Stop::BadCall) => copy_list(alloc, b"stopped badcall\n"),
     }
 }
 
-/// The line of an answer; empty where there is nothing to say.
-pub fn line(alloc: Global, answer: Answer) -> Result<List<u8>, NoMemory>
-    ensures { IfOk result (λ l. l ≡ line_of answer) }
+/// The line of a refusal.
+fn refusal_line(alloc: Global, refusal: &Refusal) -> Result<List<u8>, NoMemory>
+    ensures { IfOk result (λ l. l ≡ refusal_text refusal.now) }
+{
+    match refusal {
+        Refusal::Module(ModuleFault::Later) => copy_list(alloc, b"later\n"),
+        Refusal::Object(ObjectFault::Form(place)) => numbered(alloc, b"form ", *place),
+        Refusal::Object(ObjectFault::Shape { rule, spot, offset }) => {
+            shape_line(alloc, *rule, *spot, *offset)
+        }
+        Refusal::Image(rule) => numbered(alloc, b"image ", u64::from(*rule)),
+        Refusal::Script(line) => numbered(alloc, b"script ", u64::from(*line)),
+    }
+}
+
+/// The line of an answer; empty where there is nothing to say, and that takes no memory.
+pub fn line(alloc: Global, answer: &Answer) -> Result<List<u8>, NoMemory>
+    ensures line { IfOk result (λ l. l ≡ line_of answer.now) }
+    ensures some { OnErr result (line_of answer.now ≢ []) }
 {
     match answer {
         Answer::Done => Ok(List::new(alloc)),
+        Answer::Ran(outcome) => outcome_line(alloc, *outcome),
         Answer::Words => copy_list(alloc, b"words\n"),
         Answer::File => copy_list(alloc, b"file\n"),
-        Answer::Later => copy_list(alloc, b"later\n"),
-        Answer::Form(place) => numbered(alloc, b"form ", place),
-        Answer::Shape { rule, spot, offset } => shape_line(alloc, rule, spot, offset),
-        Answer::Image(rule) => numbered(alloc, b"image ", u64::from(rule)),
-        Answer::Script(line) => numbered(alloc, b"script ", u64::from(line)),
+        Answer::Refused(refusal) => refusal_line(alloc, refusal),
         Answer::Long => copy_list(alloc, b"long\n"),
         Answer::Out => copy_list(alloc, b"out\n"),
         Answer::Input => copy_list(alloc, b"input\n"),
         Answer::Memory => copy_list(alloc, b"memory\n"),
-        Answer::Ran(outcome) => outcome_line(alloc, outcome),
     }
 }

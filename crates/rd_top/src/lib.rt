@@ -7,38 +7,38 @@
 //!     read_main show FILE --steps N
 //!     read_main watch FILE --script FILE
 //!
-//! write the object of the module in FILE, write the image of that object, write the image of the object
-//! in FILE, run the image in FILE, write what an observer sees of it then, and write the report on an
-//! observer's reads. `words` reads the command line, `compile`, `lay`, `run`, `show` and `watch` do the
-//! work, and `answer` has the statuses with their lines.
-//! What a reading of words is stands in `specs/Words.antt`, what a command does to the outside in
-//! `specs/Commands.antt`, `specs/Laying.antt`, `specs/Running.antt`, `specs/Showing.antt` and
-//! `specs/Watching.antt`.
+//! `words` reads the command line and `commands` does the work: over `file`, which reads a file of a
+//! kind, `put`, which puts a result at once, and `stream`, which puts a run's output as it comes.
+//! `answer` has the statuses with their lines. What a reading of words is stands in
+//! `specs/Words.antt`, what a command does to the outside in `specs/Commands.antt`, and what the
+//! whole program does in `specs/Program.antt`.
 #![tactic(auto)]
 
-ghost use Rattle.std.specs.Prelude.{◌≡◌, map, string_bytes};
-ghost use Rattle.rd_top.specs.Commands.{KeepsFiles, Means};
-ghost use Rattle.rd_top.specs.Ends.{Ends, Tells};
+ghost use Rattle.std.specs.Prelude.{map, string_bytes};
+ghost use Rattle.rd_top.specs.Commands.{Means};
+ghost use Rattle.rd_top.specs.Program.{IsAnswered};
+ghost use Rattle.rd_top.specs.Telling.{Tells};
 ghost use Rattle.rd_top.specs.Words.{reading_of};
+ghost use Rattle.rd_top.specs.World.{KeepsCounts, world};
 
 use answer::{Answer, line, status};
-use compile::{Made, compile_file};
-use lay::lay_file;
+use commands::{build_file, compile_file, lay_file, run_file, show_file, watch_file};
 use rd_io::{Files, PutFail, Sink, Source};
-use run::run_file;
-use show::show_file;
 use std::alloc::Global;
-use watch::watch_file;
 use words::{Command, read_words};
 
 pub mod answer;
-pub mod compile;
-pub mod lay;
-pub mod run;
-pub mod show;
+pub mod commands;
+pub mod file;
+pub mod kinds;
+pub mod law;
+pub mod machine;
+pub mod making;
+pub mod put;
+pub mod report;
+pub mod stream;
 #[cfg(test)]
 mod tests;
-pub mod watch;
 pub mod words;
 
 /// Does what the words ask for; puts nothing on the sink for messages.
@@ -49,8 +49,11 @@ fn work<F: Files, I: Source, O: Sink>(
     input: &mut I,
     out: &mut O,
 ) -> Answer
-    ensures means { Means (F.held files.old) (reading_of (map string_bytes words.now)) (record { lost = F.lost files.old; faults = F.faults files.old }) (record { lost = F.lost files.new; faults = F.faults files.new }) (record { left = I.left input.old; ended = I.ended input.old; faults = I.faults input.old }) (record { left = I.left input.new; ended = I.ended input.new; faults = I.faults input.new }) (record { written = O.written out.old; total = O.total out.old; faults = O.faults out.old }) (record { written = O.written out.new; total = O.total out.new; faults = O.faults out.new }) result }
-    ensures files { KeepsFiles (record { lost = F.lost files.old; faults = F.faults files.old }) (record { lost = F.lost files.new; faults = F.faults files.new }) result }
+    ensures means { Means (reading_of (map string_bytes words.now))
+        (world (F.told files.old) (I.told input.old) (O.told out.old))
+        (world (F.told files.new) (I.told input.new) (O.told out.new)) result }
+    ensures keeps { KeepsCounts (world (F.told files.old) (I.told input.old) (O.told out.old))
+        (world (F.told files.new) (I.told input.new) (O.told out.new)) result }
 {
     match read_words(words) {
         None => Answer::Words,
@@ -60,7 +63,7 @@ fn work<F: Files, I: Source, O: Sink>(
                 slot_seed,
                 reg_seed,
             },
-        ) => compile_file(alloc, file, slot_seed, reg_seed, Made::Object, files, out),
+        ) => compile_file(alloc, file, slot_seed, reg_seed, files, out),
         Some(
             Command::Build {
                 file,
@@ -68,15 +71,7 @@ fn work<F: Files, I: Source, O: Sink>(
                 reg_seed,
                 layout_seed,
             },
-        ) => compile_file(
-            alloc,
-            file,
-            slot_seed,
-            reg_seed,
-            Made::Image { layout_seed },
-            files,
-            out,
-        ),
+        ) => build_file(alloc, file, slot_seed, reg_seed, layout_seed, files, out),
         Some(Command::Lay { file, layout_seed }) => lay_file(alloc, file, layout_seed, files, out),
         Some(Command::Run { file, steps }) => run_file(alloc, file, steps, files, input, out),
         Some(Command::Show { file, steps }) => show_file(alloc, file, steps, files, input, out),
@@ -86,14 +81,19 @@ fn work<F: Files, I: Source, O: Sink>(
     }
 }
 
-/// Puts the line of an answer on the sink for messages. Where that wants memory, so does the program.
-fn finish<E: Sink>(alloc: Global, answer: Answer, err: &mut E) -> u8
-    ensures { Tells result (record { written = E.written err.old; total = E.total err.old; faults = E.faults err.old }) (record { written = E.written err.new; total = E.total err.new; faults = E.faults err.new }) answer }
+/// Puts the line of an answer on the sink for messages, where it has one.
+///
+/// A sink that fails changes no status. Where memory is wanting for the line, the status is 11.
+fn finish<E: Sink>(alloc: Global, answer: &Answer, err: &mut E) -> u8
+    ensures { Tells result answer.now (E.told err.old) (E.told err.new) }
 {
     let line = match line(alloc, answer) {
         Ok(line) => line,
         Err(_) => return 11,
     };
+    if line.is_empty() {
+        return status(answer);
+    }
     match err.put(line.as_slice()) {
         Ok(()) => status(answer),
         Err(PutFail::Failed) => status(answer),
@@ -113,8 +113,11 @@ pub fn top<F: Files, I: Source, O: Sink, E: Sink>(
     out: &mut O,
     err: &mut E,
 ) -> u8
-    ensures { Ends (F.held files.old) (reading_of (map string_bytes words.now)) (record { lost = F.lost files.old; faults = F.faults files.old }) (record { lost = F.lost files.new; faults = F.faults files.new }) (record { left = I.left input.old; ended = I.ended input.old; faults = I.faults input.old }) (record { left = I.left input.new; ended = I.ended input.new; faults = I.faults input.new }) (record { written = O.written out.old; total = O.total out.old; faults = O.faults out.old }) (record { written = O.written out.new; total = O.total out.new; faults = O.faults out.new }) (record { written = E.written err.old; total = E.total err.old; faults = E.faults err.old }) (record { written = E.written err.new; total = E.total err.new; faults = E.faults err.new }) result }
+    ensures { IsAnswered (reading_of (map string_bytes words.now))
+        (world (F.told files.old) (I.told input.old) (O.told out.old))
+        (world (F.told files.new) (I.told input.new) (O.told out.new))
+        (E.told err.old) (E.told err.new) result }
 {
     let answer = work(alloc, words, files, input, out);
-    finish(alloc, answer, err)
+    finish(alloc, &answer, err)
 }

@@ -1,0 +1,58 @@
+//! What `compile`, `build` and `lay` make: each stage takes what the one before it gives.
+//!
+//!     module -> compile -> object -> write
+//!     module -> compile -> object -> lay -> image -> write
+//!
+//! Texts and files are no matter here: modules and checked objects come in, and bytes go out. What
+//! the bytes are stands in `specs/Making.antt`.
+
+ghost use Rattle.std.specs.Prelude.{IfOk};
+ghost use Rattle.ir_narrow.specs.Resolved.{IsOfProgram};
+ghost use Rattle.rd_top.specs.Making.{IsImageFor, IsLaid, IsObjectFor};
+
+use ir_narrow::narrow::Narrow;
+use obj_core::checked::Checked;
+use obj_lay::lay;
+use rd_compile::compile;
+use rd_num::list::List;
+use rd_num::width::NoMemory;
+use std::alloc::Global;
+
+/// The bytes of a module's object.
+pub fn object_bytes(
+    alloc: Global,
+    module: &Narrow,
+    slot_seed: u64,
+    reg_seed: u64,
+) -> Result<List<u8>, NoMemory>
+    requires { IsOfProgram «module».now }
+    ensures { IfOk result (IsObjectFor «module».now slot_seed reg_seed) }
+{
+    let object = compile(alloc, module, slot_seed, reg_seed)?;
+    obj_file::write::write(alloc, object.object())
+}
+
+/// The bytes of the image of a module's object.
+#[tactic(auto, using(crate::proofs::Made::image_made))]
+pub fn image_bytes(
+    alloc: Global,
+    module: &Narrow,
+    slot_seed: u64,
+    reg_seed: u64,
+    layout_seed: u64,
+) -> Result<List<u8>, NoMemory>
+    requires { IsOfProgram «module».now }
+    ensures { IfOk result (IsImageFor «module».now slot_seed reg_seed layout_seed) }
+{
+    let object = compile(alloc, module, slot_seed, reg_seed)?;
+    laid_bytes(alloc, &object, layout_seed)
+}
+
+/// The bytes of the image of an object.
+pub fn laid_bytes(alloc: Global, object: &Checked, layout_seed: u64) -> Result<List<u8>, NoMemory>
+    ensures { IfOk result (IsLaid object.now.object layout_seed) }
+{
+    let image = lay(alloc, object, layout_seed)?;
+    let bytes = elf_file::write::write(alloc, &image)?;
+    Ok(bytes)
+}
