@@ -1,6 +1,5 @@
-pub mod Opened
-pub mod Kept
-pub mod Rows
 pub mod Words
-pub mod Exact
+mod Kept
+mod Rows
+mod Exact
 mod Worked

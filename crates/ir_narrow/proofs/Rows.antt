@@ -1,11 +1,15 @@
--- One row more of a text that is read.
-use Rattle.std.proofs.Common.{◌≡◌, ℕ, suc, ◌+◌, ◌-◌, ◌<◌, true, false, List, [], ◌∷◌, ◌++◌, Option, Some, None, Err, refl, sym, ◌∙◌, ap, arith, append_assoc, length, length-append}
-use Rattle.std.specs.Prelude.{if◌then◌else◌}
+-- One instruction more of a block that is read.
+use Rattle.std.proofs.Common.{◌≡◌, ℕ, zero, suc, ◌+◌, ◌<◌, Bool, true, false, List, [], ◌∷◌, ◌++◌, Option, Some, None, Err, refl, sym, ◌∙◌, ap, arith, append_assoc, length, length-append, drop, subst, slice_index_or, ◌≤◌}
+use Rattle.std.proofs.lemmas.List.{at_drop_all}
+use Rattle.ir_core.specs.declared.operand.Operand.{Operand}
+use Rattle.ir_core.specs.declared.instruction.Inst.{Inst}
 use Rattle.ir_narrow.specs.declared.narrow.Instruction.{Instruction}
 use Rattle.ir_narrow.specs.declared.narrow.Narrow.{Narrow}
 use Rattle.ir_narrow.specs.declared.narrow.NarrowFault.{NarrowFault}
 use Rattle.ir_narrow.specs.declared.narrow.NarrowFault.TheVariants.{NotNarrow, NoMemory}
-use Rattle.ir_narrow.specs.Reading.{Spelled, put, put_all, reads, row_of, row_then, resolved, with_result, returned, end_of, begins_ret, Keeps, Kept}
+use Rattle.ir_narrow.specs.NarrowModule.{Row}
+use Rattle.ir_narrow.specs.Resolved.{value_of}
+use Rattle.ir_narrow.specs.Reading.{put, put_all, reads, row_of, row_then, resolved, with_result, Keeps, Kept}
 
 one_behind : (is : List Instruction) (j : Instruction) (o : Option Narrow) → put_all is (put (Some j) o) ≡ put_all (is ++ j ∷ []) o
 one_behind is j None = refl
@@ -18,57 +22,51 @@ none_before (Some n) = refl
 pub one_longer : (names more : List (List ℕ)) (n : ℕ) (name : List ℕ) → more ≡ names ++ name ∷ [] → length names ≡ n → length more ≡ n + 1
 one_longer names more n name e h = ap length e ∙ length-append names (name ∷ []) ∙ ap (λ k. k + 1) h
 
--- before the first row
-pub first : (names ps : List (List ℕ)) (is : List Instruction) → names ≡ [] → is ≡ [] → put_all is (reads 4000 names ps) ≡ reads 4000 [] ps
-first names ps is e f = ap (λ l. put_all l (reads 4000 names ps)) f ∙ none_before (reads 4000 names ps) ∙ ap (λ ns. reads 4000 ns ps) e
+-- in front of the first instruction
+pub first : (names : List (List ℕ)) (insts : List Inst) (v : Operand) (is : List Instruction) → names ≡ [] → is ≡ [] → put_all is (reads names insts v) ≡ reads [] insts v
+first names insts v is e f = ap (λ l. put_all l (reads names insts v)) f ∙ none_before (reads names insts v) ∙ ap (λ ns. reads ns insts v) e
 
--- past the last row
-pub last : (names ps : List (List ℕ)) → reads 0 names ps ≡ with_result (returned names (end_of ps))
+-- behind the last
+pub last : (names : List (List ℕ)) (v : Operand) (is : List Instruction) → put_all is (reads names [] v) ≡ put_all is (with_result (value_of names v))
 unfolding reads
-last names ps = refl
+last names v is = refl
 
-refused_as : (names more : List (List ℕ)) (all longer : List Instruction) (s : Spelled) (e : NarrowFault) → Keeps names more all longer s (Err e) → e ≡ NotNarrow → resolved names s ≡ None
-refused_as names more all longer s NotNarrow h same = h
-refused_as names more all longer s NoMemory h same = absurd (cc)
+-- behind the last, told by its number
+pub none_left : (names : List (List ℕ)) (insts : List Inst) (at : ℕ) (v : Operand) → length insts ≤ at → with_result (value_of names v) ≡ reads names (drop at insts) v
+unfolding reads
+none_left names insts at v h = sym (at_drop_all (λ l. reads names l v) insts at h)
 
-module _ (is : List Instruction) (names ps : List (List ℕ)) where
-  -- what is read where i rows of at most 4000 were read before
-  abbrev pub left : ℕ → Option Narrow
-  left i = put_all is (reads (4000 - i) names ps)
+-- what is left of a list with an item at a number
+one_left : {A : Type 0} (xs : List A) (i : ℕ) (x : A) → i < length xs → x ≡ slice_index_or xs i x → drop i xs ≡ x ∷ drop (i + 1) xs
+one_left [] i x h e = absurd (omega arith)
+one_left (y ∷ ys) zero x h e = ap (λ z. z ∷ ys) (sym e)
+one_left (y ∷ ys) (suc i) x h e =
+    let n : suc (i + 1) ≡ suc i + 1 = omega arith in subst (λ k. drop i ys ≡ x ∷ drop k (y ∷ ys)) n (one_left ys i x (omega arith) e)
 
-  by_row : (i : ℕ) → i < 4000 → begins_ret ps ≡ false → left i ≡ put_all is (row_then names (row_of ps) (reads (4000 - (i + 1))))
+refused_as : (names more : List (List ℕ)) (all longer : List Instruction) (r : Row) (e : NarrowFault) → Keeps names more all longer r (Err e) → e ≡ NotNarrow → resolved names r ≡ None
+refused_as names more all longer r NotNarrow h same = h
+refused_as names more all longer r NoMemory h same = absurd (cc)
+
+module _ (is : List Instruction) (names : List (List ℕ)) (insts : List Inst) (at : ℕ) (i : Inst) (v : Operand) (within : at < length insts) (here : i ≡ slice_index_or insts at i) where
+  -- what is read of the instructions that are left
+  abbrev left : Option Narrow
+  left = put_all is (reads names (drop at insts) v)
+
+  by_row : left ≡ put_all is (row_then names (row_of i) (λ ns. reads ns (drop (at + 1) insts) v))
   unfolding reads
-  by_row i lt f =
-      let e : 4000 - i ≡ suc (4000 - (i + 1)) = omega arith in
-      ap (λ k. put_all is (reads k names ps)) e ∙
-      ap (λ b. put_all is (if b then with_result (returned names (end_of ps)) else row_then names (row_of ps) (reads (4000 - (i + 1))))) f
+  by_row = ap (λ l. put_all is (reads names l v)) (one_left insts at i within here)
 
-  pub at_end : (i : ℕ) → i < 4000 → begins_ret ps ≡ true → left i ≡ put_all is (with_result (returned names (end_of ps)))
-  unfolding reads
-  at_end i lt t =
-      let e : 4000 - i ≡ suc (4000 - (i + 1)) = omega arith in
-      ap (λ k. put_all is (reads k names ps)) e ∙
-      ap (λ b. put_all is (if b then with_result (returned names (end_of ps)) else row_then names (row_of ps) (reads (4000 - (i + 1))))) t
+  pub no_row : row_of i ≡ None → left ≡ None
+  no_row n = by_row ∙ ap (λ o. put_all is (row_then names o (λ ns. reads ns (drop (at + 1) insts) v))) n
 
-  pub no_row : (i : ℕ) → i < 4000 → begins_ret ps ≡ false → row_of ps ≡ None → left i ≡ None
-  no_row i lt f n = by_row i lt f ∙ ap (λ o. put_all is (row_then names o (reads (4000 - (i + 1))))) n
+  pub refused : (r : Row) (more : List (List ℕ)) (longer : List Instruction) (e : NarrowFault) → row_of i ≡ Some r → Keeps names more is longer r (Err e) → e ≡ NotNarrow → left ≡ None
+  refused r more longer e k h same =
+      by_row ∙ ap (λ o. put_all is (row_then names o (λ ns. reads ns (drop (at + 1) insts) v))) k ∙
+      ap (λ o. put_all is (put o (reads (names ++ r.name ∷ []) (drop (at + 1) insts) v))) (refused_as names more is longer r e h same)
 
-  pub unresolved : (i : ℕ) (s : Spelled) → i < 4000 → begins_ret ps ≡ false → row_of ps ≡ Some s → resolved names s ≡ None → left i ≡ None
-  unresolved i s lt f r n =
-      by_row i lt f ∙ ap (λ o. put_all is (row_then names o (reads (4000 - (i + 1))))) r ∙
-      ap (λ o. put_all is (put o (reads (4000 - (i + 1)) (names ++ s.name ∷ []) s.rest))) n
-
-  pub one_row : (i : ℕ) (s : Spelled) (j : Instruction) → i < 4000 → begins_ret ps ≡ false → row_of ps ≡ Some s → resolved names s ≡ Some j → left i ≡ put_all (is ++ j ∷ []) (reads (4000 - (i + 1)) (names ++ s.name ∷ []) s.rest)
-  one_row i s j lt f r n =
-      by_row i lt f ∙ ap (λ o. put_all is (row_then names o (reads (4000 - (i + 1))))) r ∙
-      ap (λ o. put_all is (put o (reads (4000 - (i + 1)) (names ++ s.name ∷ []) s.rest))) n ∙
-      one_behind is j (reads (4000 - (i + 1)) (names ++ s.name ∷ []) s.rest)
-
-  pub refused : (i : ℕ) (s : Spelled) (more : List (List ℕ)) (longer : List Instruction) (e : NarrowFault) → i < 4000 → begins_ret ps ≡ false → row_of ps ≡ Some s → Keeps names more is longer s (Err e) → e ≡ NotNarrow → left i ≡ None
-  refused i s more longer e lt f r h same = unresolved i s lt f r (refused_as names more is longer s e h same)
-
-  pub kept : (i : ℕ) (s : Spelled) (more : List (List ℕ)) (longer : List Instruction) → i < 4000 → begins_ret ps ≡ false → row_of ps ≡ Some s → Kept names more is longer s → put_all longer (reads (4000 - (i + 1)) more s.rest) ≡ left i
-  kept i s more longer lt f r k =
-      ap (λ l. put_all l (reads (4000 - (i + 1)) more s.rest)) k.behind ∙
-      ap (λ ns. put_all (is ++ k.instruction ∷ []) (reads (4000 - (i + 1)) ns s.rest)) k.named ∙
-      sym (one_row i s k.instruction lt f r k.read)
+  pub kept : (r : Row) (more : List (List ℕ)) (longer : List Instruction) → row_of i ≡ Some r → Kept names more is longer r → put_all longer (reads more (drop (at + 1) insts) v) ≡ left
+  kept r more longer k h =
+      ap (λ l. put_all l (reads more (drop (at + 1) insts) v)) h.behind ∙
+      ap (λ ns. put_all (is ++ h.instruction ∷ []) (reads ns (drop (at + 1) insts) v)) h.named ∙
+      sym (by_row ∙ ap (λ o. put_all is (row_then names o (λ ns. reads ns (drop (at + 1) insts) v))) k ∙
+      ap (λ o. put_all is (put o (reads (names ++ r.name ∷ []) (drop (at + 1) insts) v))) h.read ∙ one_behind is h.instruction (reads (names ++ r.name ∷ []) (drop (at + 1) insts) v))

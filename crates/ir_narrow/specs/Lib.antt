@@ -1,5 +1,4 @@
-pub mod Pieces
 pub mod Values
-pub mod NarrowText
-pub mod Reading
+pub mod NarrowModule
 pub mod Resolved
+pub mod Reading

@@ -1,103 +1,63 @@
--- A narrow text read piece by piece, its operands resolved. That this reads exactly the narrow texts is proved.
-use Rattle.std.specs.Prelude.{◌≡◌, Result, Ok, Err, ℕ, zero, suc, Bool, false, ◌&&◌, nat_eq, if◌then◌else◌, List, [], ◌∷◌, ◌++◌, length, take, slice_index, Option, Some, None, codes, ℤ, is_none}
+-- A module read part by part, its operands resolved. That this reads exactly the narrow modules is proved.
+use Rattle.std.specs.Prelude.{◌≡◌, Result, Ok, Err, ℕ, Bool, true, false, ◌&&◌, nat_le, if◌then◌else◌, List, [], ◌∷◌, ◌++◌, length, Option, Some, None, codes, is_none}
+use Rattle.rd_num.specs.declared.width.Width.TheVariants.{W32}
+use Rattle.ir_core.specs.declared.ty.Ty.{Ty, out-Ty}
+use Rattle.ir_core.specs.declared.ty.Ty.TheOpen.{Ty-F}
+use Rattle.ir_core.specs.declared.ty.NamedTy.{NamedTy}
+use Rattle.ir_core.specs.declared.operand.Operand.{Operand}
+use Rattle.ir_core.specs.declared.instruction.BinOp.{BinOp}
+use Rattle.ir_core.specs.declared.instruction.BinOp.TheVariants as op
+use Rattle.ir_core.specs.declared.instruction.Op.{Op}
+use Rattle.ir_core.specs.declared.instruction.Op.TheVariants.{Bin}
+use Rattle.ir_core.specs.declared.instruction.Inst.{Inst}
+use Rattle.ir_core.specs.declared.instruction.Term.{Term}
+use Rattle.ir_core.specs.declared.instruction.Term.TheVariants.{RetValue}
+use Rattle.ir_core.specs.declared.module.Block.{Block}
+use Rattle.ir_core.specs.declared.module.Param.{Param}
+use Rattle.ir_core.specs.declared.module.Function.{Function}
+use Rattle.ir_core.specs.declared.module.Extern.{Extern}
+use Rattle.ir_core.specs.declared.module.GlobalVar.{GlobalVar}
+use Rattle.ir_core.specs.declared.module.Module.{Module}
 use Rattle.ir_narrow.specs.declared.narrow.Operation.{Operation}
 use Rattle.ir_narrow.specs.declared.narrow.Operation.TheVariants.{Add, Sub, Mul}
 use Rattle.ir_narrow.specs.declared.narrow.Value.{Value}
-use Rattle.ir_narrow.specs.declared.narrow.Value.TheVariants.{Number, Earlier}
 use Rattle.ir_narrow.specs.declared.narrow.Instruction.{Instruction}
 use Rattle.ir_narrow.specs.declared.narrow.Narrow.{Narrow}
 use Rattle.ir_narrow.specs.declared.narrow.NarrowFault.{NarrowFault}
 use Rattle.ir_narrow.specs.declared.narrow.NarrowFault.TheVariants.{NotNarrow, NoMemory}
-use Rattle.ir_narrow.specs.Pieces.{same}
-use Rattle.ir_narrow.specs.Values.{is_name, integer_of, word_of, place_of}
+use Rattle.ir_narrow.specs.Values.{same, is_name, index_of}
+use Rattle.ir_narrow.specs.NarrowModule.{Row}
+use Rattle.ir_narrow.specs.Resolved.{value_of}
 
-abbrev pub number : Option ℤ → Option Value
-number None = None
-number (Some n) = Some (Number (word_of n))
+abbrev pub is_word_at : Ty-F Ty → Bool
+is_word_at (Ty-F.Int W32) = true
+is_word_at other = false
 
-abbrev pub earlier : Option ℕ → Option Value
-earlier None = None
-earlier (Some k) = Some (Earlier k)
+-- i32
+unfoldable pub is_word : Ty → Bool
+is_word ty = is_word_at (out-Ty ty)
 
--- what stands behind a `%`
-abbrev pub behind_percent : List ℕ → Option (List ℕ)
-behind_percent [] = None
-behind_percent (c ∷ cs) = if nat_eq c 37 then Some cs else None
+abbrev pub operation_of : BinOp → Option Operation
+operation_of op.Add = Some Add
+operation_of op.Sub = Some Sub
+operation_of op.Mul = Some Mul
+operation_of other = None
 
-abbrev pub value_or : List (List ℕ) → List ℕ → Option (List ℕ) → Option Value
-value_or names v None = number (integer_of v)
-value_or names v (Some name) = earlier (place_of names name)
+abbrev pub with_operation : List ℕ → Option Operation → Operand → Operand → Option Row
+with_operation name (Some operation) a b = Some (record { name = name; operation = operation; left = a; right = b })
+with_operation name None a b = None
 
--- an operand, where these names have results
-abbrev pub value_of : List (List ℕ) → List ℕ → Option Value
-value_of names v = value_or names v (behind_percent v)
+abbrev pub row_of_op : List ℕ → Op → Option Row
+row_of_op name (Bin o ty a b) = if is_name name && is_word ty then with_operation name (operation_of o) a b else None
+row_of_op name other = None
 
-abbrev pub operation_of : List ℕ → Option Operation
-operation_of w = if same w (codes "add") then Some Add else (if same w (codes "sub") then Some Sub else (if same w (codes "mul") then Some Mul else None))
+abbrev pub row_of_result : Option (List ℕ) → Op → Option Row
+row_of_result (Some name) o = row_of_op name o
+row_of_result None o = None
 
--- what stands before a comma at the end
-abbrev pub before_comma : List ℕ → Option (List ℕ)
-before_comma [] = None
-before_comma (c ∷ cs) = if nat_eq (slice_index (c ∷ cs) (length cs)) 44 then Some (take (length cs) (c ∷ cs)) else None
-
-abbrev pub if_name : Option (List ℕ) → Option (List ℕ)
-if_name None = None
-if_name (Some name) = if is_name name then Some name else None
-
--- what stands behind a `%`, where it is a name
-abbrev pub name_of : List ℕ → Option (List ℕ)
-name_of piece = if_name (behind_percent piece)
-
--- the pieces behind one that is asked for
-abbrev pub after : List ℕ → List (List ℕ) → Option (List (List ℕ))
-after w [] = None
-after w (p ∷ ps) = if same p w then Some ps else None
-
--- the six pieces of an instruction, and what is behind them
-pub record Spelled : Type 0 where
-  pub name : List ℕ
-  pub operation : Operation
-  pub left : List ℕ
-  pub right : List ℕ
-  pub rest : List (List ℕ)
-
-abbrev pub spelled : Option (List ℕ) → Option Operation → Option (List ℕ) → List ℕ → List (List ℕ) → Option Spelled
-spelled (Some name) (Some operation) (Some left) right rest = Some (record { name = name; operation = operation; left = left; right = right; rest = rest })
-spelled None operation left right rest = None
-spelled (Some name) None left right rest = None
-spelled (Some name) (Some operation) None right rest = None
-
--- two pieces, and what is behind them
-pub record Two : Type 0 where
-  pub first : List ℕ
-  pub second : List ℕ
-  pub rest : List (List ℕ)
-
--- %NAME = OPERATION
-abbrev pub opening_of : List (List ℕ) → Option Two
-opening_of (n ∷ e ∷ o ∷ rest) = if same e (codes "=") then Some (record { first = n; second = o; rest = rest }) else None
-opening_of ps = None
-
--- i32 LEFT, RIGHT
-abbrev pub operands_of : List (List ℕ) → Option Two
-operands_of (t ∷ l ∷ r ∷ rest) = if same t (codes "i32") then Some (record { first = l; second = r; rest = rest }) else None
-operands_of ps = None
-
-abbrev pub with_operands : Two → Option Two → Option Spelled
-with_operands o None = None
-with_operands o (Some v) = spelled (name_of o.first) (operation_of o.second) (before_comma v.first) v.second v.rest
-
-abbrev pub with_opening : Option Two → Option Spelled
-with_opening None = None
-with_opening (Some o) = with_operands o (operands_of o.rest)
-
-abbrev pub row_of : List (List ℕ) → Option Spelled
-row_of ps = with_opening (opening_of ps)
-
--- the last four pieces: the operand of `ret`
-abbrev pub end_of : List (List ℕ) → Option (List ℕ)
-end_of (a ∷ t ∷ v ∷ b ∷ []) = if same a (codes "ret") && (same t (codes "i32") && same b (codes "}")) then Some v else None
-end_of ps = None
+-- the row of an instruction
+abbrev pub row_of : Inst → Option Row
+row_of i = row_of_result i.result i.op
 
 abbrev pub instruction : Operation → Option Value → Option Value → Option Instruction
 instruction operation (Some left) (Some right) = Some (record { operation = operation; left = left; right = right })
@@ -105,8 +65,8 @@ instruction operation None right = None
 instruction operation (Some left) None = None
 
 -- the instruction of a row, whose name must be fresh
-abbrev pub resolved : List (List ℕ) → Spelled → Option Instruction
-resolved names s = if is_none (place_of names s.name) then instruction s.operation (value_of names s.left) (value_of names s.right) else None
+abbrev pub resolved : List (List ℕ) → Row → Option Instruction
+resolved names r = if is_none (index_of names r.name) then instruction r.operation (value_of names r.left) (value_of names r.right) else None
 
 abbrev pub put : Option Instruction → Option Narrow → Option Narrow
 put (Some i) (Some n) = Some (record n { instructions = i ∷ n.instructions })
@@ -117,32 +77,38 @@ abbrev pub with_result : Option Value → Option Narrow
 with_result None = None
 with_result (Some v) = Some (record { instructions = []; result = v })
 
-abbrev pub returned : List (List ℕ) → Option (List ℕ) → Option Value
-returned names None = None
-returned names (Some v) = value_of names v
-
-abbrev pub begins_ret : List (List ℕ) → Bool
-begins_ret [] = false
-begins_ret (p ∷ ps) = same p (codes "ret")
-
--- what is read of a row, and then of the pieces behind it
-abbrev pub row_then : List (List ℕ) → Option Spelled → (List (List ℕ) → List (List ℕ) → Option Narrow) → Option Narrow
+-- what is read of a row, and then of the instructions behind it
+abbrev pub row_then : List (List ℕ) → Option Row → (List (List ℕ) → Option Narrow) → Option Narrow
 row_then names None go = None
-row_then names (Some s) go = put (resolved names s) (go (names ++ s.name ∷ []) s.rest)
+row_then names (Some r) go = put (resolved names r) (go (names ++ r.name ∷ []))
 
--- at most `more` instructions and an end, where these names have results
-unfoldable pub reads : ℕ → List (List ℕ) → List (List ℕ) → Option Narrow
-reads zero names ps = with_result (returned names (end_of ps))
-reads (suc more) names ps = if begins_ret ps then with_result (returned names (end_of ps)) else row_then names (row_of ps) (reads more)
+-- instructions and an end, where these names have results
+unfoldable pub reads : List (List ℕ) → List Inst → Operand → Option Narrow
+reads names [] result = with_result (value_of names result)
+reads names (i ∷ is) result = row_then names (row_of i) (λ ns. reads ns is result)
 
--- the head of the one function
-abbrev pub body_of : List (List ℕ) → Option (List (List ℕ))
-body_of (a ∷ t ∷ m ∷ b ∷ ps) = if same a (codes "define") && (same t (codes "i32") && (same m (codes "@main()") && same b (codes "{"))) then Some ps else None
-body_of ps = None
+-- the block
+abbrev pub narrow_end : List Inst → Term → Option Narrow
+narrow_end insts (RetValue ty v) = if is_word ty && nat_le (length insts) 4000 then reads [] insts v else None
+narrow_end insts other = None
 
-abbrev pub narrow_in : Option (List (List ℕ)) → Option Narrow
-narrow_in None = None
-narrow_in (Some ps) = reads 4000 [] ps
+abbrev pub narrow_block : Block → Option Narrow
+narrow_block b = if same b.label (codes "0") then narrow_end b.insts b.end else None
+
+abbrev pub narrow_body : List Param → List Block → Option Narrow
+narrow_body [] (b ∷ []) = narrow_block b
+narrow_body params blocks = None
+
+-- `main`
+abbrev pub narrow_function : Function → Option Narrow
+narrow_function f = if same f.name (codes "main") && is_word f.ret then narrow_body f.params f.blocks else None
+
+abbrev pub narrow_parts : List NamedTy → List GlobalVar → List Extern → List Function → Option Narrow
+narrow_parts [] [] [] (f ∷ []) = narrow_function f
+narrow_parts types globals externs functions = None
+
+abbrev pub narrow_in : Module → Option Narrow
+narrow_in m = narrow_parts m.types m.globals m.externs m.functions
 
 -- instructions in front of what is read behind them
 abbrev pub put_all : List Instruction → Option Narrow → Option Narrow
@@ -156,13 +122,13 @@ Gives o (Err NotNarrow) = o ≡ None
 Gives o (Err NoMemory) = Unit {0}
 
 -- a row's name and instruction stand behind the others, or the row has none
-pub record Kept (names more : List (List ℕ)) (all longer : List Instruction) (s : Spelled) : Type 0 where
+pub record Kept (names more : List (List ℕ)) (all longer : List Instruction) (r : Row) : Type 0 where
   pub instruction : Instruction
-  pub read : resolved names s ≡ Some instruction
+  pub read : resolved names r ≡ Some instruction
   pub behind : longer ≡ all ++ instruction ∷ []
-  pub named : more ≡ names ++ s.name ∷ []
+  pub named : more ≡ names ++ r.name ∷ []
 
-abbrev pub Keeps : List (List ℕ) → List (List ℕ) → List Instruction → List Instruction → Spelled → Result (Unit {0}) NarrowFault → Type 0
-Keeps names more all longer s (Ok x) = Kept names more all longer s
-Keeps names more all longer s (Err NotNarrow) = resolved names s ≡ None
-Keeps names more all longer s (Err NoMemory) = Unit {0}
+abbrev pub Keeps : List (List ℕ) → List (List ℕ) → List Instruction → List Instruction → Row → Result (Unit {0}) NarrowFault → Type 0
+Keeps names more all longer r (Ok x) = Kept names more all longer r
+Keeps names more all longer r (Err NotNarrow) = resolved names r ≡ None
+Keeps names more all longer r (Err NoMemory) = Unit {0}

@@ -1,8 +1,11 @@
-//! What a narrow text says, with operands resolved.
+//! What a narrow module says, with operands resolved.
+//!
+//! Instructions count from 0, in the order of the block; an operand is a number or the result of an
+//! instruction in front. Which modules are narrow stands in `specs/NarrowModule.antt`.
 
 use rd_num::list::List;
 
-/// The most instructions that a narrow text may have before its `ret`.
+/// The most instructions that a narrow module may have in front of its `ret`.
 pub const MAX_INSTRUCTIONS: usize = 4000;
 
 /// What an instruction does with its operands, modulo 2^32.
@@ -35,10 +38,10 @@ pub struct Narrow {
     pub result: Value,
 }
 
-/// Why a text was not read.
+/// Why a module was not read.
 #[derive(Clone, Copy)]
 pub enum NarrowFault {
-    /// The text isn't narrow.
+    /// The module isn't narrow.
     NotNarrow,
     NoMemory,
 }

@@ -1,6 +1,6 @@
 use Rattle.std.proofs.Common.{◌≡◌, drop}
 use Rattle.ir_narrow.specs.Values.{all_name_bytes}
-use Rattle.ir_narrow.proofs.reading.name_bytes.Given as goal
+use Rattle.ir_narrow.proofs.row.name_bytes.Given as goal
 
 -- the bytes so far are of names
 abbrev pub invariant-loop-c : goal.invariant-loop-c

@@ -1,9 +1,9 @@
 use Rattle.std.proofs.Common.{◌≡◌, [], ◌∷◌, ◌++◌, subst}
 use Rattle.std.specs.List.{list_any}
 use Rattle.std.specs.Prelude.{if◌then◌else◌}
-use Rattle.ir_narrow.specs.Pieces.{same}
+use Rattle.ir_narrow.specs.Values.{same}
 use Rattle.ir_narrow.proofs.Kept.{put_last}
-use Rattle.ir_narrow.proofs.reading.put_name.Goals as goal
+use Rattle.ir_narrow.proofs.row.put_name.Goals as goal
 
 pub returns : goal.returns
 returns c =
