@@ -1,4 +1,4 @@
--- The object of a narrow text is compiled from the text's module.
+-- The object of a narrow module is compiled from it.
 use Rattle.std.proofs.Common.{◌≡◌, ◌≢◌, ℕ, ◌^◌, ◌<◌, List, false, refl, sym, subst}
 use Rattle.behavior.specs.Ending.{Strayed, is_left}
 use Rattle.behavior.specs.Moment.{AreBytes}
@@ -8,9 +8,9 @@ use Rattle.ir_core.specs.Run.{source_run}
 use Rattle.ir_core.proofs.Laws.{run_straight}
 use Rattle.obj_core.specs.WellFormed.{IsWellFormed}
 use Rattle.obj_core.specs.SymbolicMachine.{symbolic_behavior}
-use Rattle.ir_narrow.specs.NarrowText.{Program}
+use Rattle.ir_narrow.specs.NarrowModule.{Program, module_of}
 use Rattle.ir_narrow.specs.declared.narrow.Narrow.{Narrow}
-use Rattle.ir_narrow.specs.Resolved.{IsOfProgram, module_of}
+use Rattle.ir_narrow.specs.Resolved.{IsOfProgram}
 use Rattle.obj_core.specs.declared.object.Object.{Object}
 use Rattle.rd_compile.specs.NarrowCode.{IsFit, narrow_object}
 use Rattle.rd_compile.specs.Compiled.{IsCompiledFrom, IsCompiledNarrow}

@@ -1,4 +1,4 @@
--- What a text was resolved to is fit to be compiled.
+-- What a module was resolved to is fit to be compiled.
 use Rattle.std.proofs.Common.{◌≡◌, ℕ, ◌+◌, ◌<◌, ◌≤◌, List, [], ◌∷◌, ◌++◌, length, Option, Some, None, refl, sym, ◌∙◌, subst, arith, length-append}
 use Rattle.std.specs.Prelude.{ℤ, if◌then◌else◌, Bool, true, false}
 use Rattle.std.proofs.lemmas.List.{length-map}
@@ -8,15 +8,16 @@ use Rattle.ir_narrow.specs.declared.narrow.Value.{Value}
 use Rattle.ir_narrow.specs.declared.narrow.Value.TheVariants.{Number, Earlier}
 use Rattle.ir_narrow.specs.declared.narrow.Instruction.{Instruction}
 use Rattle.ir_narrow.specs.declared.narrow.Narrow.{Narrow}
-use Rattle.ir_narrow.specs.Pieces.{same}
-use Rattle.ir_narrow.specs.Values.{integer_of, word_of, place_of}
-use Rattle.ir_narrow.specs.NarrowText.{Row, Program, IsNarrow, names_of}
-use Rattle.ir_narrow.specs.Reading.{behind_percent, number, earlier, value_or, value_of}
-use Rattle.ir_narrow.specs.Resolved.{AllMatch, IsResolved}
+use Rattle.ir_core.specs.declared.operand.Operand.{Operand}
+use Rattle.ir_core.specs.declared.operand.Operand.TheVariants.{Int, Local}
+use Rattle.ir_narrow.specs.Values.{same, in_range, word_of, index_of}
+use Rattle.ir_narrow.specs.NarrowModule.{Row, Program, IsNarrow, names_of}
+use Rattle.ir_narrow.specs.Resolved.{earlier, value_of, AllMatch, IsResolved}
+use Rattle.ir_narrow.proofs.Words.{passed}
 use Rattle.rd_compile.specs.NarrowCode.{HasPlaces, AllHavePlaces, IsFit}
 use Rattle.rd_compile.proofs.Values.{integer_word}
 
--- a place in a list is below its length
+-- an index in a list is below its length
 from_below : (p : List ℕ → Bool) (i j : ℕ) (xs : List (List ℕ)) → position_from p i xs ≡ Some j → j < i + length xs
 from_below p i j [] h = absurd (cc)
 from_below p i j (x ∷ xs) h = by_test (p x) h (from_below p (i + 1) j xs)
@@ -25,23 +26,17 @@ from_below p i j (x ∷ xs) h = by_test (p x) h (from_below p (i + 1) j xs)
     by_test true k go = let e : i ≡ j = cc in omega arith
     by_test false k go = let lt = go k in omega arith
 
-place_below : (names : List (List ℕ)) (q : List ℕ) (j : ℕ) → place_of names q ≡ Some j → j < length names
-place_below names q j h = let lt = from_below (same q) 0 j names (sym (position_from-zero (same q) names) ∙ h) in omega arith
+index_below : (names : List (List ℕ)) (q : List ℕ) (j : ℕ) → index_of names q ≡ Some j → j < length names
+index_below names q j h = let lt = from_below (same q) 0 j names (sym (position_from-zero (same q) names) ∙ h) in omega arith
 
-value_fits : (names : List (List ℕ)) (v : List ℕ) (x : Value) → value_of names v ≡ Some x → HasPlaces (length names) x
-value_fits names v x h = by_form (behind_percent v) h
+value_fits : (names : List (List ℕ)) (v : Operand) (x : Value) → value_of names v ≡ Some x → HasPlaces (length names) x
+value_fits names (Int z) x h = let p = passed (in_range z) (Number (word_of z)) x h in subst (HasPlaces (length names)) p.1 (integer_word z p.0).small
+value_fits names (Local q) x h = by_index (index_of names q) refl h
   where
-    by_integer : (o : Option ℤ) → integer_of v ≡ o → number o ≡ Some x → HasPlaces (length names) x
-    by_integer None e k = absurd (cc)
-    by_integer (Some z) e k = let s : Number (word_of z) ≡ x = cc in subst (HasPlaces (length names)) s (integer_word v z e).small
-
-    by_place : (q : List ℕ) (o : Option ℕ) → place_of names q ≡ o → earlier o ≡ Some x → HasPlaces (length names) x
-    by_place q None e k = absurd (cc)
-    by_place q (Some j) e k = let s : Earlier j ≡ x = cc in subst (HasPlaces (length names)) s (place_below names q j e)
-
-    by_form : (o : Option (List ℕ)) → value_or names v o ≡ Some x → HasPlaces (length names) x
-    by_form None k = by_integer (integer_of v) refl k
-    by_form (Some q) k = by_place q (place_of names q) refl k
+    by_index : (o : Option ℕ) → index_of names q ≡ o → earlier o ≡ Some x → HasPlaces (length names) x
+    by_index None e k = absurd (cc)
+    by_index (Some j) e k = let s : Earlier j ≡ x = cc in subst (HasPlaces (length names)) s (index_below names q j e)
+value_fits names other x h = absurd (cc)
 
 all_fit : (names : List (List ℕ)) (rows : List Row) (is : List Instruction) → AllMatch names rows is → AllHavePlaces (length names) is
 all_fit names [] [] h = tt

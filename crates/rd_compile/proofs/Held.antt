@@ -8,15 +8,14 @@ use Rattle.ir_core.specs.Names.{same_name, first_where}
 use Rattle.ir_core.specs.State.{Local}
 use Rattle.ir_core.specs.Stops.{Left, found_or}
 use Rattle.ir_core.specs.Operands.{local_value}
-use Rattle.ir_narrow.specs.Pieces.{same}
-use Rattle.ir_narrow.specs.Values.{place_of}
+use Rattle.ir_narrow.specs.Values.{same, index_of}
 use Rattle.ir_narrow.proofs.Words.{same_is, same_self}
 use Rattle.rd_compile.specs.Frame.{HomeHolds}
 use Rattle.rd_compile.proofs.Homes.{IsStack, with_home, home_written, home_kept}
-use Rattle.rd_compile.proofs.Values.{Result, Held, place_behind}
+use Rattle.rd_compile.proofs.Values.{Result, Held, index_behind}
 
 -- the newest local hides no other name
-module _ (results : ℕ) (few : results ≤ 4000) (names : List (List ℕ)) (locals : List Local) (bytes : List ℕ) (stack : IsStack bytes) (name : List ℕ) (fresh : place_of names name ≡ None) (below : length names < results) (w : ℕ) (small : w < 2 ^ 32) where
+module _ (results : ℕ) (few : results ≤ 4000) (names : List (List ℕ)) (locals : List Local) (bytes : List ℕ) (stack : IsStack bytes) (name : List ℕ) (fresh : index_of names name ≡ None) (below : length names < results) (w : ℕ) (small : w < 2 ^ 32) where
   abbrev pub more : List Local
   more = record { name = name; value = Num W32 w } ∷ locals
 
@@ -30,14 +29,14 @@ module _ (results : ℕ) (few : results ≤ 4000) (names : List (List ℕ)) (loc
   newest q e =
       ap (local_value more) e ∙ ap (λ b. found_or (Left Unset) (option_map (λ (l : Local). l.value) (if b then Some (record { name = name; value = Num W32 w }) else first_where (λ (l : Local). same_name l.name name) locals))) (same_self name)
 
-  older : (q : List ℕ) (j : ℕ) → place_of names q ≡ Some j → (b : Bool) → same_name name q ≡ b → local_value more q ≡ local_value locals q
+  older : (q : List ℕ) (j : ℕ) → index_of names q ≡ Some j → (b : Bool) → same_name name q ≡ b → local_value more q ≡ local_value locals q
   older q j e true t =
       let s : name ≡ q = same_is name q t in
-      let none : place_of names q ≡ None = ap (place_of names) (sym s) ∙ fresh in
+      let none : index_of names q ≡ None = ap (index_of names) (sym s) ∙ fresh in
       absurd (cc)
   older q j e false t = ap (λ b. found_or (Left Unset) (option_map (λ (l : Local). l.value) (if b then Some (record { name = name; value = Num W32 w }) else first_where (λ (l : Local). same_name l.name q) locals))) t
 
-  kept : (q : List ℕ) (j : ℕ) → place_of names q ≡ Some j → Result results names locals bytes q j → Result results (names ++ name ∷ []) more written q j
+  kept : (q : List ℕ) (j : ℕ) → index_of names q ≡ Some j → Result results names locals bytes q j → Result results (names ++ name ∷ []) more written q j
   kept q j e r =
       let lt : j < length names = r.below in
       record {
@@ -58,4 +57,4 @@ module _ (results : ℕ) (few : results ≤ 4000) (names : List (List ℕ)) (loc
   }
 
   pub held_more : Held results names locals bytes → Held results (names ++ name ∷ []) more written
-  held_more held q j h = elim (place_behind names name q j h) [ inl e ↦ kept q j e (held q j e) | inr e ↦ made q j e.0 e.1 ]
+  held_more held q j h = elim (index_behind names name q j h) [ inl e ↦ kept q j e (held q j e) | inr e ↦ made q j e.0 e.1 ]

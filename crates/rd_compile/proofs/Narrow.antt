@@ -39,9 +39,8 @@ use Rattle.ir_narrow.specs.declared.narrow.Value.{Value}
 use Rattle.ir_narrow.specs.declared.narrow.Value.TheVariants.{Number as Constant, Earlier}
 use Rattle.ir_narrow.specs.declared.narrow.Instruction.{Instruction}
 use Rattle.ir_narrow.specs.declared.narrow.Narrow.{Narrow}
-use Rattle.ir_narrow.specs.NarrowText.{Row, Program, names_of}
-use Rattle.ir_narrow.specs.Reading.{value_of}
-use Rattle.ir_narrow.specs.Resolved.{Matches, AllMatch, IsResolved, word_type, operand_of, operation_in_module, instruction_of_row, module_of}
+use Rattle.ir_narrow.specs.NarrowModule.{Row, Program, names_of, word_type, operation_in_module, instruction_of_row, module_of}
+use Rattle.ir_narrow.specs.Resolved.{value_of, Matches, AllMatch, IsResolved}
 use Rattle.obj_core.specs.declared.object.Place.{Place}
 use Rattle.obj_core.specs.Object.{Each}
 use Rattle.obj_core.specs.Disassembly.{spelled}
@@ -110,7 +109,7 @@ module _ (slot_seed reg_seed : ℕ) (p : Program) (n : Narrow) (few : length n.i
   results = length n.instructions
 
   abbrev block : Block
-  block = record { label = codes "0"; insts = map instruction_of_row p.rows; end = RetValue word_type (operand_of p.result) }
+  block = record { label = codes "0"; insts = map instruction_of_row p.rows; end = RetValue word_type p.result }
 
   abbrev main : Function
   main = record { name = codes "main"; ret = word_type; params = []; blocks = block ∷ [] }
@@ -188,8 +187,8 @@ module _ (slot_seed reg_seed : ℕ) (p : Program) (n : Narrow) (few : length n.i
       let value : value_of (names_of before) p.result ≡ Some n.result = ap (λ rs. value_of (names_of rs) p.result) (sym rows) ∙ resolved.result in
       let x = operand_value m results (names_of before) locals bytes held p.result n.result value in
       let returns : source_step m input s ≡ record s { ending = Ended (x.number % 256) } =
-      last_return_here m input s (call_at (length before) locals) main block word_type (operand_of p.result) W32 x.number refl refl (stands (length before) locals None past) refl
-      (ap (λ k. module_value m locals k (operand_of p.result)) (kind-int W32) ∙ x.in_module) in
+      last_return_here m input s (call_at (length before) locals) main block word_type p.result W32 x.number refl refl (stands (length before) locals None past) refl
+      (ap (λ k. module_value m locals k p.result) (kind-int W32) ∙ x.in_module) in
       let count : length (names_of before) ≡ results = names_long before ∙ same ∙ ap length (sym (code ∙ append-nil done)) in
       let in_object : IsValue results results bytes n.result x.number = subst (λ c. IsValue results c bytes n.result x.number) count x.in_object in
       let instr = value_instr Rdi n.result results bytes x.number few x.small in_object in
@@ -223,7 +222,7 @@ module _ (slot_seed reg_seed : ℕ) (p : Program) (n : Narrow) (few : length n.i
       let op = binary_is i.operation a.number b.number in
       let does : binary (operation_in_module r.operation) W32 a.number b.number ≡ Ok w = ap (λ o. binary (operation_in_module o) W32 a.number b.number) match.operation ∙ op in
       let steps : source_step m input s ≡ source_at (length before + 1) (record { name = r.name; value = Num W32 w } ∷ locals) =
-      binary_here m input s (call_at (length before) locals) [] main block (Some r.name) (operation_in_module r.operation) word_type (operand_of r.left) (operand_of r.right) W32 W32 W32 a.number b.number w refl refl
+      binary_here m input s (call_at (length before) locals) [] main block (Some r.name) (operation_in_module r.operation) word_type r.left r.right W32 W32 W32 a.number b.number w refl refl
       (stands (length before) locals (Some (instruction_of_row r)) here) (kind-int W32) a.in_module b.in_module does in
       let long : length n.instructions ≡ length done + length (i ∷ todo) = ap length code ∙ length-append done (i ∷ todo) in
       let below : k < results = omega (arith, long, kd) in

@@ -6,8 +6,8 @@ use Rattle.behavior.specs.Preserves.{Preserves, ReachesWithin}
 use Rattle.ir_core.specs.declared.module.Module.{Module}
 use Rattle.ir_core.specs.Run.{source_run}
 use Rattle.ir_narrow.specs.declared.narrow.Narrow.{Narrow}
-use Rattle.ir_narrow.specs.NarrowText.{Program, IsNarrow}
-use Rattle.ir_narrow.specs.Resolved.{IsResolved, module_of}
+use Rattle.ir_narrow.specs.NarrowModule.{Program, IsNarrow, module_of}
+use Rattle.ir_narrow.specs.Resolved.{IsResolved}
 use Rattle.obj_core.specs.declared.object.Object.{Object}
 use Rattle.obj_core.specs.declared.object.Func.{Func}
 use Rattle.obj_core.specs.declared.object.FuncKind.{FuncKind}

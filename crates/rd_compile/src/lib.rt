@@ -1,6 +1,6 @@
 //! The compiler: modules in, objects out.
 //!
-//! `compile` takes a narrow text to the object whose functions are `main` and six more. Each result
+//! `compile` takes a narrow module to the object whose functions are `main` and six more. Each result
 //! has a home of eight bytes in the frame of `main`; each instruction takes its operands to eax and
 //! ecx, and its result home:
 //!
