@@ -4,3 +4,4 @@ pub mod Firsts
 pub mod Loops
 pub mod Tails
 pub mod Present
+pub mod ItemRows

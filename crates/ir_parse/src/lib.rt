@@ -13,4 +13,5 @@ pub mod function;
 pub mod inst;
 pub mod instruction;
 pub mod item;
+pub mod module;
 pub mod terminator;
