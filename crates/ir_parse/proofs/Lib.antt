@@ -5,3 +5,4 @@ pub mod Loops
 pub mod Tails
 pub mod Present
 pub mod ItemRows
+pub mod Whole

@@ -14,4 +14,5 @@ pub mod inst;
 pub mod instruction;
 pub mod item;
 pub mod module;
+pub mod parse;
 pub mod terminator;
