@@ -148,10 +148,7 @@ fn void_callee<'a>(
 
 /// A call without a result name, or none where it is one of debug records.
 #[tactic(auto, unfolding(ir_syntax::specs::Instructions::void_call))]
-pub fn void_call<'a>(
-    alloc: Global,
-    tokens: &'a [Token],
-) -> Result<(Option<Op>, &'a [Token]), Stop>
+pub fn void_call<'a>(alloc: Global, tokens: &'a [Token]) -> Result<(Option<Op>, &'a [Token]), Stop>
     ensures { Gives (λ x. done x.0 (kinds x.1.now)) result (read a_void_call (kinds tokens.now)) }
 {
     let (ty, rest) = call_head(alloc, tokens)?;
