@@ -24,5 +24,5 @@ pub fn steps_follow_the_table()
     ensures { (land : ℕ → Option ℕ) (i : Instr) (after : ℕ) (at : ℤ → ℕ) (back : ℕ) (s : State ℕ) →
         length s.regs ≡ 16 →
         act land (sorted i after at back) s
-            ≡ by_table land (effect_of i s.regs s.flags) after at back s }
+        ≡ by_table land (effect_of i s.regs s.flags) after at back s }
 {}
