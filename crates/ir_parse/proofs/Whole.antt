@@ -64,13 +64,18 @@ stray_stops tokens left end fault (text, long, scans) s tells =
     let n = length-kinds tokens in
     let is = s.left_is in
     let at : length tokens - left ≡ length s.front = omega arith in
-    let here : drop (length tokens - left) tokens ≡ c.right = ap (λ x. drop x tokens) at ∙ c.dropped in
-    (c.left, c.right, c.whole, record {
-      begins = viable_text module_text text tokens (kinds c.left) s.rest scans (s.cut ∙ ap (λ x. x ++ s.rest) (sym c.left_is)) (subst (Viable module_text) (sym c.left_is) s.viable);
-      no_text = λ m. subst (λ x. Derives module_text m (kinds x) → ⊥) c.whole (s.no_text m);
-      dead = λ t behind other m next d.
-          s.dead t.kind (kinds behind) other m (sym c.right_is ∙ ap kinds next) (subst (λ x. Derives module_text m (x ++ t.kind ∷ other)) c.left_is d);
-    }, subst (λ x. Tells x end fault) here tells)
+    let here : drop (length tokens - left) tokens ≡ c.right = ap (λ x. drop x tokens) at ∙ c.dropped in (
+      c.left,
+      c.right,
+      c.whole,
+      record {
+        begins = viable_text module_text text tokens (kinds c.left) s.rest scans (s.cut ∙ ap (λ x. x ++ s.rest) (sym c.left_is)) (subst (Viable module_text) (sym c.left_is) s.viable);
+        no_text = λ m. subst (λ x. Derives module_text m (kinds x) → ⊥) c.whole (s.no_text m);
+        dead = λ t behind other m next d.
+            s.dead t.kind (kinds behind) other m (sym c.right_is ∙ ap kinds next) (subst (λ x. Derives module_text m (x ++ t.kind ∷ other)) c.left_is d);
+      },
+      subst (λ x. Tells x end fault) here tells,
+    )
 
 -- what a fault says
 pub stray_fault : (tokens : List Token) (left end : ℕ) (fault : ParseFault) → AreOfText tokens end → Stray module_text (kinds tokens) left

@@ -72,7 +72,8 @@ fn item<'a>(alloc: Global, tokens: &'a [Token]) -> Result<(Item, &'a [Token]), S
 
 /// One item more, behind those of its kind.
 fn with_item(parts: Module, item: Item) -> Result<Module, Stop>
-    ensures { MatchResult result (λ more. more ≡ joined parts (module_of (item ∷ []))) (λ stop. stop ≡ Stop.NoMemory) }
+    ensures { MatchResult result (λ more. more ≡ joined parts (module_of (item ∷ [])))
+        (λ stop. stop ≡ Stop.NoMemory) }
 {
     let mut all = parts;
     let added = match item {
@@ -91,7 +92,8 @@ fn with_item(parts: Module, item: Item) -> Result<Module, Stop>
 /// The module of the items that stand first, as many as there are, and the tokens behind them.
 #[tactic(auto, using(crate::proofs::ItemRows::items_end, crate::proofs::ItemRows::items_none))]
 pub fn module_text<'a>(alloc: Global, tokens: &'a [Token]) -> Result<(Module, &'a [Token]), Stop>
-    ensures { Gives (λ x. done x.0 (kinds x.1.now)) result (read a_module_text (kinds tokens.now)) }
+    ensures { Gives (λ x. done x.0 (kinds x.1.now)) result
+        (read a_module_text (kinds tokens.now)) }
 {
     let mut all = Module {
         types: List::new(alloc),

@@ -189,10 +189,12 @@ pub fn parse(alloc: Global, tokens: &List<Token>, end: u64) -> Result<Module, Pa
 
 /// Tokens are one module's at most.
 pub fn one_module()
-    ensures { (a b : IrModule) (ts : Row Kind) → Derives a_module_text a ts → Derives a_module_text b ts → a ≡ b }
+    ensures { (a b : IrModule) (ts : Row Kind) → Derives a_module_text a ts →
+        Derives a_module_text b ts → a ≡ b }
 {}
 
 /// Tokens that are a module's have no fault.
 pub fn never_both()
-    ensures { (m : IrModule) (tokens : Row LexToken) (end place : ℕ) → Derives a_module_text m (kinds tokens) → ¬ (Faults tokens end (ParseFault.Grammar place)) }
+    ensures { (m : IrModule) (tokens : Row LexToken) (end place : ℕ) →
+        Derives a_module_text m (kinds tokens) → ¬ (Faults tokens end (ParseFault.Grammar place)) }
 {}
