@@ -50,7 +50,8 @@ impl<'a> NameSet<'a> {
     /// Adds a name, and answers whether it is new.
     pub fn add(&mut self, name: &'a Name) -> Result<bool, NoMemory>
         ensures new { IfOk result (λ r. r ≡ not (list_any (same_name name.now) self.old)) }
-        ensures added { IfOk result (λ r. self.new ≡ (if r then self.old ++ name.now ∷ [] else self.old)) }
+        ensures added { IfOk result (λ r. self.new ≡
+            (if r then self.old ++ name.now ∷ [] else self.old)) }
     {
         match self.kept.insert_full(name) {
             Ok((_, new)) => Ok(new),
@@ -67,8 +68,10 @@ impl<'a> NameSet<'a> {
 
     /// Adds names until one is in the set already, and answers that one. Without one all are added.
     pub fn add_all<T: Named>(&mut self, items: &'a [T]) -> Result<Option<&'a Name>, NoMemory>
-        ensures first { IfOk result (λ r. option_copied r ≡ slice_get (repeated self.old (map T.name_of items.now)) 0) }
-        ensures added { IfOk result (λ r. r ≡ None → self.new ≡ self.old ++ map T.name_of items.now) }
+        ensures first { IfOk result (λ r. option_copied r ≡
+            slice_get (repeated self.old (map T.name_of items.now)) 0) }
+        ensures added { IfOk result (λ r. r ≡ None → self.new ≡ self.old ++
+            map T.name_of items.now) }
     {
         for item in items {
             let name = item.name();

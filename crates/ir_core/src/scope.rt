@@ -59,8 +59,10 @@ impl<'a> Locals<'a> {
     /// Adds parameters.
     fn add_params(&mut self, params: &'a [Param]) -> Result<(), NoMemory>
         requires { repeated self.old.names (named_locals (map param_kind params.now)) ≡ [] }
-        ensures named { OnOk result (self.new.names ≡ self.old.names ++ named_locals (map param_kind params.now)) }
-        ensures known { OnOk result (self.new.kinds ≡ self.old.kinds ++ local_kinds (map param_kind params.now)) }
+        ensures named { OnOk result (self.new.names ≡ self.old.names ++
+            named_locals (map param_kind params.now)) }
+        ensures known { OnOk result (self.new.kinds ≡ self.old.kinds ++
+            local_kinds (map param_kind params.now)) }
     {
         for p in params {
             self.add(&p.name, Kind::of(&p.ty))?;
@@ -71,8 +73,10 @@ impl<'a> Locals<'a> {
     /// Adds the result of an instruction, where it has one.
     fn add_result(&mut self, i: &'a Inst) -> Result<(), NoMemory>
         requires { repeated self.old.names (named_locals (inst_local i.now)) ≡ [] }
-        ensures named { OnOk result (self.new.names ≡ self.old.names ++ named_locals (inst_local i.now)) }
-        ensures known { OnOk result (self.new.kinds ≡ self.old.kinds ++ local_kinds (inst_local i.now)) }
+        ensures named { OnOk result (self.new.names ≡ self.old.names ++
+            named_locals (inst_local i.now)) }
+        ensures known { OnOk result (self.new.kinds ≡ self.old.kinds ++
+            local_kinds (inst_local i.now)) }
     {
         match &i.result {
             Some(name) => self.add(name, result_kind(&i.op)),
@@ -83,8 +87,10 @@ impl<'a> Locals<'a> {
     /// Adds the results of instructions.
     fn add_results(&mut self, insts: &'a [Inst]) -> Result<(), NoMemory>
         requires { repeated self.old.names (named_locals (kinds_in insts.now)) ≡ [] }
-        ensures named { OnOk result (self.new.names ≡ self.old.names ++ named_locals (kinds_in insts.now)) }
-        ensures known { OnOk result (self.new.kinds ≡ self.old.kinds ++ local_kinds (kinds_in insts.now)) }
+        ensures named { OnOk result (self.new.names ≡ self.old.names ++
+            named_locals (kinds_in insts.now)) }
+        ensures known { OnOk result (self.new.kinds ≡ self.old.kinds ++
+            local_kinds (kinds_in insts.now)) }
     {
         for i in insts {
             self.add_result(i)?;
@@ -95,8 +101,10 @@ impl<'a> Locals<'a> {
     /// Adds the results of blocks.
     fn add_blocks(&mut self, blocks: &'a [Block]) -> Result<(), NoMemory>
         requires { repeated self.old.names (named_locals (results_of blocks.now)) ≡ [] }
-        ensures named { OnOk result (self.new.names ≡ self.old.names ++ named_locals (results_of blocks.now)) }
-        ensures known { OnOk result (self.new.kinds ≡ self.old.kinds ++ local_kinds (results_of blocks.now)) }
+        ensures named { OnOk result (self.new.names ≡ self.old.names ++
+            named_locals (results_of blocks.now)) }
+        ensures known { OnOk result (self.new.kinds ≡ self.old.kinds ++
+            local_kinds (results_of blocks.now)) }
     {
         for b in blocks {
             self.add_results(b.insts.as_slice())?;
@@ -127,7 +135,9 @@ impl<'a> Model for Scope<'a> {
 
     ghost view = { λ s. s.function.now };
 
-    ghost invariant = { λ s. (s.locals.names ≡ named_locals (locals_of s.function.now)) × (s.locals.kinds ≡ local_kinds (locals_of s.function.now)) × (s.labels ≡ label_names s.function.now) };
+    ghost invariant = { λ s. (s.locals.names ≡ named_locals (locals_of s.function.now))
+        × (s.locals.kinds ≡ local_kinds (locals_of s.function.now))
+        × (s.labels ≡ label_names s.function.now) };
 }
 
 /// The locals of a function.

@@ -220,7 +220,8 @@ impl<'a> Model for Sizes<'a> {
 
     ghost view = { λ s. s.types.now };
 
-    ghost invariant = { λ s. (s.names ≡ names_in s.types.now) × (s.rows ≡ rows_after s.types.now MAX_NESTING) };
+    ghost invariant = { λ s. (s.names ≡ names_in s.types.now)
+        × (s.rows ≡ rows_after s.types.now MAX_NESTING) };
 }
 
 /// One more round over the named types.

@@ -41,13 +41,17 @@ impl<'a> Model for Tables<'a> {
 
     ghost view = { λ t. t.whole.now };
 
-    ghost invariant = { λ t. (t.types ≡ type_names t.whole.now) × (t.variables ≡ variable_names t.whole.now) × (t.externs ≡ extern_names t.whole.now) × (t.functions ≡ function_names t.whole.now) };
+    ghost invariant = { λ t. (t.types ≡ type_names t.whole.now)
+        × (t.variables ≡ variable_names t.whole.now)
+        × (t.externs ≡ extern_names t.whole.now)
+        × (t.functions ≡ function_names t.whole.now) };
 }
 
 /// The item of a name. Takes no memory.
 fn item_of<'a, T: Named>(names: &NameSet, items: &'a List<T>, name: &Name) -> Option<&'a T>
     requires { names.now ≡ map T.name_of items.now }
-    ensures { option_copied result ≡ first_where (λ x. same_name (T.name_of x) name.now) items.now }
+    ensures { option_copied result ≡ first_where
+        (λ x. same_name (T.name_of x) name.now) items.now }
 {
     match names.number(name) {
         Some(k) => items.get(k),
@@ -83,7 +87,8 @@ impl<'a> Tables<'a> {
 
     /// The named type of a name. Takes no memory.
     pub fn named_type(&self, name: &Name) -> Option<&'a NamedTy>
-        ensures { option_copied result ≡ first_where (λ t. same_name t.name name.now) self.now.types }
+        ensures { option_copied result ≡ first_where
+            (λ t. same_name t.name name.now) self.now.types }
     {
         item_of(&self.types, &self.whole.types, name)
     }
@@ -97,14 +102,16 @@ impl<'a> Tables<'a> {
 
     /// The declaration of a name. Takes no memory.
     pub fn external(&self, name: &Name) -> Option<&'a Extern>
-        ensures { option_copied result ≡ first_where (λ e. same_name e.name name.now) self.now.externs }
+        ensures { option_copied result ≡ first_where
+            (λ e. same_name e.name name.now) self.now.externs }
     {
         item_of(&self.externs, &self.whole.externs, name)
     }
 
     /// The defined function of a name. Takes no memory.
     pub fn function(&self, name: &Name) -> Option<&'a Function>
-        ensures { option_copied result ≡ first_where (λ f. same_name f.name name.now) self.now.functions }
+        ensures { option_copied result ≡ first_where
+            (λ f. same_name f.name name.now) self.now.functions }
     {
         item_of(&self.functions, &self.whole.functions, name)
     }

@@ -46,7 +46,8 @@ fn shape_of_token(kind: &TokenKind) -> Shape
 
 /// The tokens behind a closing mark, and behind all that is opened before it.
 fn behind_group<'a>(alloc: Global, tokens: &'a [Token], close: u8) -> Result<&'a [Token], Stop>
-    ensures { Gives (λ rest. done tt (kinds rest.now)) result (scan (kinds tokens.now) (close ∷ [])) }
+    ensures { Gives (λ rest. done tt (kinds rest.now)) result
+        (scan (kinds tokens.now) (close ∷ [])) }
 {
     let mut open: Vec<u8> = Vec::new(alloc);
     let mut due = close;
@@ -84,7 +85,8 @@ pub fn nest<'a>(
     opening: u8,
     close: u8,
 ) -> Result<&'a [Token], Stop>
-    ensures { Gives (λ rest. done tt (kinds rest.now)) result (read (a_nest opening close) (kinds tokens.now)) }
+    ensures { Gives (λ rest. done tt (kinds rest.now)) result
+        (read (a_nest opening close) (kinds tokens.now)) }
 {
     let rest = mark(tokens, opening)?;
     behind_group(alloc, rest, close)

@@ -55,7 +55,8 @@ pub fn at_mark(tokens: &[Token], byte: u8) -> bool
 
 /// The tokens behind this word.
 pub fn word<'a>(tokens: &'a [Token], text: &[u8]) -> Result<&'a [Token], Stop>
-    ensures { Gives (λ rest. done tt (kinds rest.now)) result (read (the_word text.now) (kinds tokens.now)) }
+    ensures { Gives (λ rest. done tt (kinds rest.now)) result
+        (read (the_word text.now) (kinds tokens.now)) }
 {
     match tokens {
         [next, rest @ ..] => {
@@ -71,7 +72,8 @@ pub fn word<'a>(tokens: &'a [Token], text: &[u8]) -> Result<&'a [Token], Stop>
 
 /// The tokens behind this mark.
 pub fn mark<'a>(tokens: &'a [Token], byte: u8) -> Result<&'a [Token], Stop>
-    ensures { Gives (λ rest. done tt (kinds rest.now)) result (read (the_mark byte) (kinds tokens.now)) }
+    ensures { Gives (λ rest. done tt (kinds rest.now)) result
+        (read (the_mark byte) (kinds tokens.now)) }
 {
     match tokens {
         [next, rest @ ..] => {
@@ -87,7 +89,8 @@ pub fn mark<'a>(tokens: &'a [Token], byte: u8) -> Result<&'a [Token], Stop>
 
 /// A number from 0 to 2^32 - 1.
 fn count_in(kind: &TokenKind) -> Option<u32>
-    ensures { MatchOption result (same_sort count (sort_of kind.now) ≡ false) (λ n. (same_sort count (sort_of kind.now) ≡ true) × (n ≡ count_of kind.now)) }
+    ensures { MatchOption result (same_sort count (sort_of kind.now) ≡ false)
+        (λ n. (same_sort count (sort_of kind.now) ≡ true) × (n ≡ count_of kind.now)) }
 {
     match kind {
         TokenKind::Int(n) if *n >= 0 && *n < 4294967296 => Some(*n as u32),

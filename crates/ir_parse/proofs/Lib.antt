@@ -4,3 +4,5 @@ pub mod Firsts
 pub mod Loops
 pub mod Tails
 pub mod Present
+pub mod ItemRows
+pub mod Whole

@@ -1,10 +1,10 @@
 -- Rows of instructions, of which some leave no trace.
-use Rattle.std.proofs.Common.{◌≡◌, ℕ, true, false, List, [], ◌∷◌, ◌++◌, length, refl, sym, ◌∙◌, ap, append_assoc, append-nil, Option, Some, None}
+use Rattle.std.proofs.Common.{◌≡◌, false, List, [], ◌∷◌, ◌++◌, refl, sym, ◌∙◌, ap, append_assoc, append-nil, Option, Some, None}
 use Rattle.std.specs.Prelude.{codes, ◌||◌, flat_map, option_to_list}
 use Rattle.ir_lex.specs.declared.token.Token.{Token}
 use Rattle.ir_lex.specs.declared.token.TokenKind.{TokenKind}
 use Rattle.ir_core.specs.declared.instruction.Inst.{Inst}
-use Rattle.ir_grammar.specs.Tokens.{word, local, debug_hash, starts, kinds}
+use Rattle.ir_grammar.specs.Tokens.{local, debug_hash, starts, kinds}
 use Rattle.ir_grammar.specs.Grammar.{many}
 use Rattle.ir_grammar.specs.Reading.{first, Read, done, fault, ◌>>=◌, read, put_before}
 use Rattle.ir_grammar.proofs.Sets.{starts-append}

@@ -1,1 +1,3 @@
 pub mod Present
+pub mod Joined
+pub mod Faults

@@ -20,7 +20,8 @@ use std::alloc::Global;
 
 /// One instruction more, where it leaves a trace.
 fn with_inst(insts: List<Inst>, next: Option<Inst>) -> Result<List<Inst>, Stop>
-    ensures { MatchResult result (λ more. more ≡ insts ++ option_to_list next) (λ stop. stop ≡ Stop.NoMemory) }
+    ensures { MatchResult result (λ more. more ≡ insts ++ option_to_list next)
+        (λ stop. stop ≡ Stop.NoMemory) }
 {
     let mut all = insts;
     match next {
@@ -50,7 +51,8 @@ fn insts<'a>(alloc: Global, tokens: &'a [Token]) -> Result<(List<Inst>, &'a [Tok
 /// A block with this name, and the tokens behind it.
 #[tactic(auto, unfolding(ir_syntax::specs::Functions::block))]
 fn block<'a>(alloc: Global, tokens: &'a [Token], label: Name) -> Result<(Block, &'a [Token]), Stop>
-    ensures { Gives (λ x. done x.0 (kinds x.1.now)) result (applied label (read a_block (kinds tokens.now))) }
+    ensures { Gives (λ x. done x.0 (kinds x.1.now)) result
+        (applied label (read a_block (kinds tokens.now))) }
 {
     let (insts, rest) = insts(alloc, tokens)?;
     let (end, rest) = term(alloc, rest)?;
@@ -80,7 +82,8 @@ fn more_blocks<'a>(
     tokens: &'a [Token],
     blocks: List<Block>,
 ) -> Result<(List<Block>, &'a [Token]), Stop>
-    ensures { Gives (λ x. done x.0 (kinds x.1.now)) result (put_before blocks (read (many a_labelled) (kinds tokens.now))) }
+    ensures { Gives (λ x. done x.0 (kinds x.1.now)) result
+        (put_before blocks (read (many a_labelled) (kinds tokens.now))) }
 {
     let mut all = blocks;
     let mut rest = tokens;
@@ -112,7 +115,8 @@ pub fn body<'a>(
     tokens: &'a [Token],
     unlabelled: Name,
 ) -> Result<(List<Block>, &'a [Token]), Stop>
-    ensures { Gives (λ x. done x.0 (kinds x.1.now)) result (applied unlabelled (read a_body (kinds tokens.now))) }
+    ensures { Gives (λ x. done x.0 (kinds x.1.now)) result
+        (applied unlabelled (read a_body (kinds tokens.now))) }
 {
     let (name, rest) = maybe_label(alloc, tokens)?;
     let name = chosen(name, unlabelled);

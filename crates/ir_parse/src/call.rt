@@ -28,7 +28,8 @@ const TAILS: [&[u8]; 2] = [b"tail", b"notail"];
 /// The tokens behind the word of a call.
 #[tactic(auto, unfolding(ir_syntax::specs::Instructions::call_word))]
 fn call_word<'a>(tokens: &'a [Token]) -> Result<&'a [Token], Stop>
-    ensures { Gives (λ rest. done tt (kinds rest.now)) result (read a_call_word (kinds tokens.now)) }
+    ensures { Gives (λ rest. done tt (kinds rest.now)) result
+        (read a_call_word (kinds tokens.now)) }
 {
     if at_one_of(tokens, &TAILS) {
         let rest = one_word(tokens, &TAILS)?;
@@ -77,7 +78,8 @@ fn callee<'a>(alloc: Global, tokens: &'a [Token]) -> Result<(Operand, &'a [Token
 /// The tokens behind a word on what a function does, with its group.
 #[tactic(auto, unfolding(ir_syntax::specs::Instructions::function_attribute))]
 fn function_attribute<'a>(alloc: Global, tokens: &'a [Token]) -> Result<&'a [Token], Stop>
-    ensures { Gives (λ rest. done tt (kinds rest.now)) result (read a_function_attribute (kinds tokens.now)) }
+    ensures { Gives (λ rest. done tt (kinds rest.now)) result
+        (read a_function_attribute (kinds tokens.now)) }
 {
     let rest = function_word(tokens)?;
     maybe_pgroup(alloc, rest)
@@ -94,7 +96,8 @@ fn at_call_attribute(tokens: &[Token]) -> bool
 /// The tokens behind one thing of those.
 #[tactic(auto, unfolding(ir_syntax::specs::Instructions::call_attribute))]
 fn call_attribute<'a>(alloc: Global, tokens: &'a [Token]) -> Result<&'a [Token], Stop>
-    ensures { Gives (λ rest. done tt (kinds rest.now)) result (read a_call_attribute (kinds tokens.now)) }
+    ensures { Gives (λ rest. done tt (kinds rest.now)) result
+        (read a_call_attribute (kinds tokens.now)) }
 {
     if at_plain_hash(tokens) {
         return plain_hash(tokens);
@@ -105,7 +108,8 @@ fn call_attribute<'a>(alloc: Global, tokens: &'a [Token]) -> Result<&'a [Token],
 /// The tokens behind what may stand behind a call's arguments.
 #[tactic(auto, unfolding(ir_syntax::specs::Instructions::call_tail))]
 fn call_tail<'a>(alloc: Global, tokens: &'a [Token]) -> Result<&'a [Token], Stop>
-    ensures { Gives (λ rest. done tt (kinds rest.now)) result (read a_call_tail (kinds tokens.now)) }
+    ensures { Gives (λ rest. done tt (kinds rest.now)) result
+        (read a_call_tail (kinds tokens.now)) }
 {
     let mut rest = tokens;
     'attributes: while at_call_attribute(rest) {
@@ -134,7 +138,8 @@ fn void_callee<'a>(
     tokens: &'a [Token],
     ty: Ty,
 ) -> Result<(Option<Op>, &'a [Token]), Stop>
-    ensures { Gives (λ x. done x.0 (kinds x.1.now)) result (applied ty (read a_void_callee (kinds tokens.now))) }
+    ensures { Gives (λ x. done x.0 (kinds x.1.now)) result
+        (applied ty (read a_void_callee (kinds tokens.now))) }
 {
     if at_debug_global(tokens) {
         let rest = debug_global(tokens)?;
@@ -148,10 +153,7 @@ fn void_callee<'a>(
 
 /// A call without a result name, or none where it is one of debug records.
 #[tactic(auto, unfolding(ir_syntax::specs::Instructions::void_call))]
-pub fn void_call<'a>(
-    alloc: Global,
-    tokens: &'a [Token],
-) -> Result<(Option<Op>, &'a [Token]), Stop>
+pub fn void_call<'a>(alloc: Global, tokens: &'a [Token]) -> Result<(Option<Op>, &'a [Token]), Stop>
     ensures { Gives (λ x. done x.0 (kinds x.1.now)) result (read a_void_call (kinds tokens.now)) }
 {
     let (ty, rest) = call_head(alloc, tokens)?;

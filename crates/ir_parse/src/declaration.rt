@@ -34,7 +34,8 @@ fn at_declared_tail(tokens: &[Token]) -> bool
 /// The tokens behind one thing that may stand behind a declaration.
 #[tactic(auto, unfolding(ir_syntax::specs::Functions::declared_tail))]
 fn declared_tail<'a>(alloc: Global, tokens: &'a [Token]) -> Result<&'a [Token], Stop>
-    ensures { Gives (λ rest. done tt (kinds rest.now)) result (read a_declared_tail (kinds tokens.now)) }
+    ensures { Gives (λ rest. done tt (kinds rest.now)) result
+        (read a_declared_tail (kinds tokens.now)) }
 {
     if at_hash(tokens) {
         return hash(tokens);
@@ -51,7 +52,8 @@ fn declared_tail<'a>(alloc: Global, tokens: &'a [Token]) -> Result<&'a [Token], 
 
 /// The tokens behind all that stands behind a declaration.
 fn declared_tails<'a>(alloc: Global, tokens: &'a [Token]) -> Result<&'a [Token], Stop>
-    ensures { Gives (λ rest. done tt (kinds rest.now)) result (read (skip a_declared_tail) (kinds tokens.now)) }
+    ensures { Gives (λ rest. done tt (kinds rest.now)) result
+        (read (skip a_declared_tail) (kinds tokens.now)) }
 {
     let mut rest = tokens;
     'tails: while at_declared_tail(rest) {
@@ -71,7 +73,8 @@ fn at_defined_tail(tokens: &[Token]) -> bool
 /// The tokens behind one thing that may stand behind the parameters of a function.
 #[tactic(auto, unfolding(ir_syntax::specs::Functions::defined_tail))]
 fn defined_tail<'a>(alloc: Global, tokens: &'a [Token]) -> Result<&'a [Token], Stop>
-    ensures { Gives (λ rest. done tt (kinds rest.now)) result (read a_defined_tail (kinds tokens.now)) }
+    ensures { Gives (λ rest. done tt (kinds rest.now)) result
+        (read a_defined_tail (kinds tokens.now)) }
 {
     if at_declared_tail(tokens) {
         return declared_tail(alloc, tokens);
@@ -81,7 +84,8 @@ fn defined_tail<'a>(alloc: Global, tokens: &'a [Token]) -> Result<&'a [Token], S
 
 /// The tokens behind all that stands behind the parameters of a function.
 pub fn defined_tails<'a>(alloc: Global, tokens: &'a [Token]) -> Result<&'a [Token], Stop>
-    ensures { Gives (λ rest. done tt (kinds rest.now)) result (read (skip a_defined_tail) (kinds tokens.now)) }
+    ensures { Gives (λ rest. done tt (kinds rest.now)) result
+        (read (skip a_defined_tail) (kinds tokens.now)) }
 {
     let mut rest = tokens;
     'tails: while at_defined_tail(rest) {
@@ -100,7 +104,8 @@ fn at_attach(tokens: &[Token]) -> bool
 
 /// The tokens behind attachments without commas.
 fn attach_row<'a>(alloc: Global, tokens: &'a [Token]) -> Result<&'a [Token], Stop>
-    ensures { Gives (λ rest. done tt (kinds rest.now)) result (read (skip an_attach) (kinds tokens.now)) }
+    ensures { Gives (λ rest. done tt (kinds rest.now)) result
+        (read (skip an_attach) (kinds tokens.now)) }
 {
     let mut rest = tokens;
     'attaches: while at_attach(rest) {
@@ -112,7 +117,8 @@ fn attach_row<'a>(alloc: Global, tokens: &'a [Token]) -> Result<&'a [Token], Sto
 /// What a declaration with this result declares, and the tokens behind it.
 #[tactic(auto, unfolding(ir_syntax::specs::Functions::declared))]
 fn declared<'a>(alloc: Global, tokens: &'a [Token], ret: Ty) -> Result<(Item, &'a [Token]), Stop>
-    ensures { Gives (λ x. done x.0 (kinds x.1.now)) result (applied ret (read a_declared (kinds tokens.now))) }
+    ensures { Gives (λ x. done x.0 (kinds x.1.now)) result
+        (applied ret (read a_declared (kinds tokens.now))) }
 {
     if at_debug_global(tokens) {
         let rest = debug_global(tokens)?;

@@ -118,7 +118,8 @@ fn counted<'a>(alloc: Global, tokens: &'a [Token]) -> Result<(u32, &'a [Token]),
 /// What stands behind an alloca's type, as the number of its items.
 #[tactic(auto, unfolding(ir_syntax::specs::Instructions::alloca_tail))]
 fn alloca_tail<'a>(alloc: Global, tokens: &'a [Token]) -> Result<(u32, &'a [Token]), Stop>
-    ensures { Gives (λ x. done x.0 (kinds x.1.now)) result (read an_alloca_tail (kinds tokens.now)) }
+    ensures { Gives (λ x. done x.0 (kinds x.1.now)) result
+        (read an_alloca_tail (kinds tokens.now)) }
 {
     if !at_mark(tokens, b',') {
         return Ok((1, tokens));
@@ -140,7 +141,8 @@ pub fn alloca<'a>(alloc: Global, tokens: &'a [Token]) -> Result<(Op, &'a [Token]
 
 /// The tokens behind `volatile`, where it stands first.
 fn maybe_volatile<'a>(tokens: &'a [Token]) -> Result<&'a [Token], Stop>
-    ensures { Gives (λ rest. done tt (kinds rest.now)) result (read (maybe (the_word (codes "volatile"))) (kinds tokens.now)) }
+    ensures { Gives (λ rest. done tt (kinds rest.now)) result
+        (read (maybe (the_word (codes "volatile"))) (kinds tokens.now)) }
 {
     if at_word(tokens, b"volatile") {
         return word(tokens, b"volatile");
@@ -191,7 +193,8 @@ fn index<'a>(alloc: Global, tokens: &'a [Token]) -> Result<(Arg, &'a [Token]), S
 
 /// The attachments that end indices or entries, the first without its comma.
 fn last_attaches<'a>(alloc: Global, tokens: &'a [Token]) -> Result<&'a [Token], Stop>
-    ensures { Gives (λ rest. done tt (kinds rest.now)) result (read (attach ▹ all_attaches) (kinds tokens.now)) }
+    ensures { Gives (λ rest. done tt (kinds rest.now)) result
+        (read (attach ▹ all_attaches) (kinds tokens.now)) }
 {
     let rest = attach(alloc, tokens)?;
     attaches(alloc, rest)
@@ -271,7 +274,8 @@ fn more_entries<'a>(
     tokens: &'a [Token],
     entries: List<Entry>,
 ) -> Result<(List<Entry>, &'a [Token]), Stop>
-    ensures { Gives (λ x. done x.0 (kinds x.1.now)) result (put_row entries (read entry_rows (kinds tokens.now))) }
+    ensures { Gives (λ x. done x.0 (kinds x.1.now)) result
+        (put_row entries (read entry_rows (kinds tokens.now))) }
 {
     let mut all = entries;
     let mut rest = tokens;

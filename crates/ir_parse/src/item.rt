@@ -26,7 +26,8 @@ const TARGETS: [&[u8]; 2] = [b"datalayout", b"triple"];
 /// The tokens behind the name of the source file.
 #[tactic(auto, unfolding(ir_syntax::specs::Items::source_item))]
 pub fn source_item<'a>(tokens: &'a [Token]) -> Result<(Item, &'a [Token]), Stop>
-    ensures { Gives (λ x. done x.0 (kinds x.1.now)) result (read a_source_item (kinds tokens.now)) }
+    ensures { Gives (λ x. done x.0 (kinds x.1.now)) result
+        (read a_source_item (kinds tokens.now)) }
 {
     let rest = word(tokens, b"source_filename")?;
     let rest = mark(rest, b'=')?;
@@ -37,7 +38,8 @@ pub fn source_item<'a>(tokens: &'a [Token]) -> Result<(Item, &'a [Token]), Stop>
 /// The tokens behind what is said of the target.
 #[tactic(auto, unfolding(ir_syntax::specs::Items::target_item))]
 pub fn target_item<'a>(tokens: &'a [Token]) -> Result<(Item, &'a [Token]), Stop>
-    ensures { Gives (λ x. done x.0 (kinds x.1.now)) result (read a_target_item (kinds tokens.now)) }
+    ensures { Gives (λ x. done x.0 (kinds x.1.now)) result
+        (read a_target_item (kinds tokens.now)) }
 {
     let rest = word(tokens, b"target")?;
     let rest = one_word(rest, &TARGETS)?;
@@ -61,7 +63,8 @@ pub fn type_item<'a>(alloc: Global, tokens: &'a [Token]) -> Result<(Item, &'a [T
 /// The tokens behind one thing that may stand behind a global.
 #[tactic(auto, unfolding(ir_syntax::specs::Items::global_tail))]
 fn global_tail<'a>(alloc: Global, tokens: &'a [Token]) -> Result<&'a [Token], Stop>
-    ensures { Gives (λ rest. done tt (kinds rest.now)) result (read a_global_tail (kinds tokens.now)) }
+    ensures { Gives (λ rest. done tt (kinds rest.now)) result
+        (read a_global_tail (kinds tokens.now)) }
 {
     if at_word(tokens, b"align") {
         return aligned(tokens);
@@ -74,7 +77,8 @@ fn global_tail<'a>(alloc: Global, tokens: &'a [Token]) -> Result<&'a [Token], St
 
 /// The tokens behind all that stands behind a global, each behind a comma.
 fn global_tails<'a>(alloc: Global, tokens: &'a [Token]) -> Result<&'a [Token], Stop>
-    ensures { Gives (λ rest. done tt (kinds rest.now)) result (read (skip (behind_comma a_global_tail)) (kinds tokens.now)) }
+    ensures { Gives (λ rest. done tt (kinds rest.now)) result
+        (read (skip (behind_comma a_global_tail)) (kinds tokens.now)) }
 {
     let mut rest = tokens;
     'tails: while at_mark(rest, b',') {
@@ -86,7 +90,8 @@ fn global_tails<'a>(alloc: Global, tokens: &'a [Token]) -> Result<&'a [Token], S
 
 /// Whether a global is constant, and the tokens behind the word that says so.
 fn mutability<'a>(tokens: &'a [Token]) -> Result<(bool, &'a [Token]), Stop>
-    ensures { Gives (λ x. done x.0 (kinds x.1.now)) result (read (by_word (codes "global", false) ((codes "constant", true) ∷ [])) (kinds tokens.now)) }
+    ensures { Gives (λ x. done x.0 (kinds x.1.now)) result
+        (read (by_word (codes "global", false) ((codes "constant", true) ∷ [])) (kinds tokens.now)) }
 {
     if at_word(tokens, b"global") {
         let rest = word(tokens, b"global")?;
@@ -99,7 +104,8 @@ fn mutability<'a>(tokens: &'a [Token]) -> Result<(bool, &'a [Token]), Stop>
 /// A global, and the tokens behind it.
 #[tactic(auto, unfolding(ir_syntax::specs::Items::global_item))]
 pub fn global_item<'a>(alloc: Global, tokens: &'a [Token]) -> Result<(Item, &'a [Token]), Stop>
-    ensures { Gives (λ x. done x.0 (kinds x.1.now)) result (read a_global_item (kinds tokens.now)) }
+    ensures { Gives (λ x. done x.0 (kinds x.1.now)) result
+        (read a_global_item (kinds tokens.now)) }
 {
     let (name, rest) = global(alloc, tokens)?;
     let rest = mark(rest, b'=')?;
@@ -120,7 +126,8 @@ pub fn global_item<'a>(alloc: Global, tokens: &'a [Token]) -> Result<(Item, &'a 
 /// The tokens behind a group of attributes.
 #[tactic(auto, unfolding(ir_syntax::specs::Items::attributes_item))]
 pub fn attributes_item<'a>(alloc: Global, tokens: &'a [Token]) -> Result<(Item, &'a [Token]), Stop>
-    ensures { Gives (λ x. done x.0 (kinds x.1.now)) result (read an_attributes_item (kinds tokens.now)) }
+    ensures { Gives (λ x. done x.0 (kinds x.1.now)) result
+        (read an_attributes_item (kinds tokens.now)) }
 {
     let rest = word(tokens, b"attributes")?;
     let rest = hash(rest)?;
@@ -131,7 +138,8 @@ pub fn attributes_item<'a>(alloc: Global, tokens: &'a [Token]) -> Result<(Item, 
 
 /// The tokens behind a word, where it stands first.
 fn maybe_word<'a>(tokens: &'a [Token], text: &[u8]) -> Result<&'a [Token], Stop>
-    ensures { Gives (λ rest. done tt (kinds rest.now)) result (read (maybe (the_word text.now)) (kinds tokens.now)) }
+    ensures { Gives (λ rest. done tt (kinds rest.now)) result
+        (read (maybe (the_word text.now)) (kinds tokens.now)) }
 {
     if at_word(tokens, text) {
         return word(tokens, text);
@@ -142,7 +150,8 @@ fn maybe_word<'a>(tokens: &'a [Token], text: &[u8]) -> Result<&'a [Token], Stop>
 /// The tokens behind metadata with a name or a number.
 #[tactic(auto, unfolding(ir_syntax::specs::Items::metadata_item))]
 pub fn metadata_item<'a>(alloc: Global, tokens: &'a [Token]) -> Result<(Item, &'a [Token]), Stop>
-    ensures { Gives (λ x. done x.0 (kinds x.1.now)) result (read a_metadata_item (kinds tokens.now)) }
+    ensures { Gives (λ x. done x.0 (kinds x.1.now)) result
+        (read a_metadata_item (kinds tokens.now)) }
 {
     let rest = meta(tokens)?;
     let rest = mark(rest, b'=')?;

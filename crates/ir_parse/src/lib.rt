@@ -13,4 +13,6 @@ pub mod function;
 pub mod inst;
 pub mod instruction;
 pub mod item;
+pub mod module;
+pub mod parse;
 pub mod terminator;

@@ -82,7 +82,8 @@ fn at_case(tokens: &[Token]) -> bool
 
 /// Cases, as many as there are.
 fn cases<'a>(alloc: Global, tokens: &'a [Token]) -> Result<(List<Case>, &'a [Token]), Stop>
-    ensures { Gives (λ x. done x.0 (kinds x.1.now)) result (read (many a_case) (kinds tokens.now)) }
+    ensures { Gives (λ x. done x.0 (kinds x.1.now)) result
+        (read (many a_case) (kinds tokens.now)) }
 {
     let mut all = List::new(alloc);
     let mut rest = tokens;
@@ -116,7 +117,8 @@ fn switch<'a>(alloc: Global, tokens: &'a [Token]) -> Result<(Term, &'a [Token]),
 /// The end that nothing reaches.
 #[tactic(auto, unfolding(ir_syntax::specs::Terminators::unreachable))]
 fn unreachable_end<'a>(tokens: &'a [Token]) -> Result<(Term, &'a [Token]), Stop>
-    ensures { Gives (λ x. done x.0 (kinds x.1.now)) result (read an_unreachable (kinds tokens.now)) }
+    ensures { Gives (λ x. done x.0 (kinds x.1.now)) result
+        (read an_unreachable (kinds tokens.now)) }
 {
     let rest = word(tokens, b"unreachable")?;
     Ok((Term::Unreachable, rest))

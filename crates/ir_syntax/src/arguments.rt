@@ -33,7 +33,8 @@ fn more_args<'a>(
     tokens: &'a [Token],
     args: List<Arg>,
 ) -> Result<(List<Arg>, &'a [Token]), Stop>
-    ensures { Gives (λ x. done x.0 (kinds x.1.now)) result (put_before args (read (many (behind_comma an_arg)) (kinds tokens.now))) }
+    ensures { Gives (λ x. done x.0 (kinds x.1.now)) result
+        (put_before args (read (many (behind_comma an_arg)) (kinds tokens.now))) }
 {
     let mut all = args;
     let mut rest = tokens;

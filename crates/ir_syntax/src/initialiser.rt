@@ -33,7 +33,8 @@ fn at_simple_init(tokens: &[Token]) -> bool
 /// An initialiser without elements.
 #[tactic(auto, unfolding(crate::specs::Initialisers::simple_init), using(crate::proofs::InitLevels::fixed_starts))]
 fn simple_init<'a>(alloc: Global, tokens: &'a [Token]) -> Result<(Init, &'a [Token]), Stop>
-    ensures { Gives (λ x. done x.0 (kinds x.1.now)) result (read a_simple_init (kinds tokens.now)) }
+    ensures { Gives (λ x. done x.0 (kinds x.1.now)) result
+        (read a_simple_init (kinds tokens.now)) }
 {
     if at_plain_value(tokens) || at_word(tokens, b"getelementptr") {
         let (value, rest) = fixed_value(alloc, tokens)?;
@@ -51,7 +52,8 @@ fn simple_init<'a>(alloc: Global, tokens: &'a [Token]) -> Result<(Init, &'a [Tok
 #[cycle(init)]
 #[tactic(auto, using(crate::proofs::InitLevels::shallow_init, crate::proofs::InitLevels::simple_level, crate::proofs::InitLevels::deep_level))]
 fn level<'a>(alloc: Global, tokens: &'a [Token], depth: u32) -> Result<(Init, &'a [Token]), Stop>
-    ensures { Gives (λ x. done x.0 (kinds x.1.now)) result (read (init_at depth) (kinds tokens.now)) }
+    ensures { Gives (λ x. done x.0 (kinds x.1.now)) result
+        (read (init_at depth) (kinds tokens.now)) }
 {
     if depth == 0 || at_simple_init(tokens) {
         return simple_init(alloc, tokens);
@@ -67,7 +69,8 @@ fn deep_init<'a>(
     tokens: &'a [Token],
     depth: u32,
 ) -> Result<(Init, &'a [Token]), Stop>
-    ensures { Gives (λ x. done x.0 (kinds x.1.now)) result (read (a_deep_init (init_at depth)) (kinds tokens.now)) }
+    ensures { Gives (λ x. done x.0 (kinds x.1.now)) result
+        (read (a_deep_init (init_at depth)) (kinds tokens.now)) }
 {
     if at_mark(tokens, b'[') {
         let rest = mark(tokens, b'[')?;
@@ -94,7 +97,8 @@ fn elements<'a>(
     depth: u32,
     close: u8,
 ) -> Result<(List<Elem>, &'a [Token]), Stop>
-    ensures { Gives (λ x. done x.0 (kinds x.1.now)) result (read (listed close (an_element (init_at depth))) (kinds tokens.now)) }
+    ensures { Gives (λ x. done x.0 (kinds x.1.now)) result
+        (read (listed close (an_element (init_at depth))) (kinds tokens.now)) }
 {
     let mut elements = List::new(alloc);
     if at_mark(tokens, close) {
@@ -119,7 +123,9 @@ fn more_elements<'a>(
     depth: u32,
     elements: List<Elem>,
 ) -> Result<(List<Elem>, &'a [Token]), Stop>
-    ensures { Gives (λ x. done x.0 (kinds x.1.now)) result (put_before elements (read (many (behind_comma (an_element (init_at depth)))) (kinds tokens.now))) }
+    ensures { Gives (λ x. done x.0 (kinds x.1.now)) result
+        (put_before elements (read (many (behind_comma (an_element (init_at depth))))
+        (kinds tokens.now))) }
 {
     let mut all = elements;
     let mut rest = tokens;
@@ -139,7 +145,8 @@ fn more_elements<'a>(
 #[cycle(init)]
 #[tactic(auto, unfolding(crate::specs::Initialisers::element))]
 fn element<'a>(alloc: Global, tokens: &'a [Token], depth: u32) -> Result<(Elem, &'a [Token]), Stop>
-    ensures { Gives (λ x. done x.0 (kinds x.1.now)) result (read (an_element (init_at depth)) (kinds tokens.now)) }
+    ensures { Gives (λ x. done x.0 (kinds x.1.now)) result
+        (read (an_element (init_at depth)) (kinds tokens.now)) }
 {
     let (ty, rest) = whole(alloc, tokens)?;
     let (init, rest) = level(alloc, rest, depth)?;

@@ -26,7 +26,8 @@ pub fn pgroup<'a>(alloc: Global, tokens: &'a [Token]) -> Result<&'a [Token], Sto
 
 /// The tokens behind a group in parentheses, where one stands first.
 pub fn maybe_pgroup<'a>(alloc: Global, tokens: &'a [Token]) -> Result<&'a [Token], Stop>
-    ensures { Gives (λ rest. done tt (kinds rest.now)) result (read (maybe a_pgroup) (kinds tokens.now)) }
+    ensures { Gives (λ rest. done tt (kinds rest.now)) result
+        (read (maybe a_pgroup) (kinds tokens.now)) }
 {
     if at_mark(tokens, b'(') {
         return pgroup(alloc, tokens);
@@ -104,7 +105,8 @@ pub fn meta<'a>(tokens: &'a [Token]) -> Result<&'a [Token], Stop>
 /// The tokens behind a number of metadata, or behind metadata that is written out.
 #[tactic(auto, unfolding(crate::specs::Metadata::metadata))]
 pub fn metadata<'a>(alloc: Global, tokens: &'a [Token]) -> Result<&'a [Token], Stop>
-    ensures { Gives (λ rest. done tt (kinds rest.now)) result (read a_metadata (kinds tokens.now)) }
+    ensures { Gives (λ rest. done tt (kinds rest.now)) result
+        (read a_metadata (kinds tokens.now)) }
 {
     if at_meta_number(tokens) {
         return meta(tokens);
@@ -125,7 +127,8 @@ pub fn attach<'a>(alloc: Global, tokens: &'a [Token]) -> Result<&'a [Token], Sto
 /// The tokens behind attachments that commas lead in.
 #[tactic(auto, unfolding(crate::specs::Metadata::attaches))]
 pub fn attaches<'a>(alloc: Global, tokens: &'a [Token]) -> Result<&'a [Token], Stop>
-    ensures { Gives (λ rest. done tt (kinds rest.now)) result (read all_attaches (kinds tokens.now)) }
+    ensures { Gives (λ rest. done tt (kinds rest.now)) result
+        (read all_attaches (kinds tokens.now)) }
 {
     let mut rest = tokens;
     'attaches: while at_mark(rest, b',') {
@@ -137,7 +140,8 @@ pub fn attaches<'a>(alloc: Global, tokens: &'a [Token]) -> Result<&'a [Token], S
 
 /// The tokens behind an alignment.
 pub fn aligned<'a>(tokens: &'a [Token]) -> Result<&'a [Token], Stop>
-    ensures { Gives (λ rest. done tt (kinds rest.now)) result (read an_aligned (kinds tokens.now)) }
+    ensures { Gives (λ rest. done tt (kinds rest.now)) result
+        (read an_aligned (kinds tokens.now)) }
 {
     let rest = word(tokens, b"align")?;
     let (_, rest) = number(rest)?;
@@ -146,7 +150,8 @@ pub fn aligned<'a>(tokens: &'a [Token]) -> Result<&'a [Token], Stop>
 
 /// The tokens behind an alignment, or behind an attachment.
 pub fn aligned_or_attach<'a>(alloc: Global, tokens: &'a [Token]) -> Result<&'a [Token], Stop>
-    ensures { Gives (λ rest. done tt (kinds rest.now)) result (read (either an_aligned an_attach) (kinds tokens.now)) }
+    ensures { Gives (λ rest. done tt (kinds rest.now)) result
+        (read (either an_aligned an_attach) (kinds tokens.now)) }
 {
     if at_word(tokens, b"align") {
         return aligned(tokens);
@@ -157,7 +162,8 @@ pub fn aligned_or_attach<'a>(alloc: Global, tokens: &'a [Token]) -> Result<&'a [
 /// The tokens behind what may stand behind an address: an alignment, and attachments.
 #[tactic(auto, unfolding(crate::specs::Metadata::align_tail))]
 pub fn align_tail<'a>(alloc: Global, tokens: &'a [Token]) -> Result<&'a [Token], Stop>
-    ensures { Gives (λ rest. done tt (kinds rest.now)) result (read an_align_tail (kinds tokens.now)) }
+    ensures { Gives (λ rest. done tt (kinds rest.now)) result
+        (read an_align_tail (kinds tokens.now)) }
 {
     if !at_mark(tokens, b',') {
         return Ok(tokens);

@@ -74,7 +74,8 @@ pub fn maybe_local<'a>(
     alloc: Global,
     tokens: &'a [Token],
 ) -> Result<(Option<Name>, &'a [Token]), Stop>
-    ensures { Gives (λ x. done x.0 (kinds x.1.now)) result (read (optional a_local) (kinds tokens.now)) }
+    ensures { Gives (λ x. done x.0 (kinds x.1.now)) result
+        (read (optional a_local) (kinds tokens.now)) }
 {
     if at_local(tokens) {
         let (name, rest) = local(alloc, tokens)?;
@@ -85,7 +86,8 @@ pub fn maybe_local<'a>(
 
 /// The tokens behind a local, where one is next.
 pub fn behind_local<'a>(tokens: &'a [Token]) -> &'a [Token]
-    ensures { read (maybe (one_of (a_local_sort ∷ []))) (kinds tokens.now) ≡ done tt (kinds result.now) }
+    ensures { read (maybe (one_of (a_local_sort ∷ []))) (kinds tokens.now) ≡
+        done tt (kinds result.now) }
 {
     match tokens {
         [next, rest @ ..] => match &next.kind {
@@ -117,7 +119,8 @@ pub fn maybe_label<'a>(
     alloc: Global,
     tokens: &'a [Token],
 ) -> Result<(Option<Name>, &'a [Token]), Stop>
-    ensures { Gives (λ x. done x.0 (kinds x.1.now)) result (read (optional a_label) (kinds tokens.now)) }
+    ensures { Gives (λ x. done x.0 (kinds x.1.now)) result
+        (read (optional a_label) (kinds tokens.now)) }
 {
     if at_label(tokens) {
         let (name, rest) = label(alloc, tokens)?;
@@ -167,7 +170,8 @@ pub fn at_debug_global(tokens: &[Token]) -> bool
 
 /// The name of a global that is none of debug records, and the tokens behind it.
 pub fn plain_global<'a>(alloc: Global, tokens: &'a [Token]) -> Result<(Name, &'a [Token]), Stop>
-    ensures { Gives (λ x. done x.0 (kinds x.1.now)) result (read a_plain_global (kinds tokens.now)) }
+    ensures { Gives (λ x. done x.0 (kinds x.1.now)) result
+        (read a_plain_global (kinds tokens.now)) }
 {
     match tokens {
         [next, rest @ ..] => match &next.kind {

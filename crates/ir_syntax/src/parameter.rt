@@ -59,7 +59,8 @@ fn pattr<'a>(alloc: Global, tokens: &'a [Token]) -> Result<&'a [Token], Stop>
 
 /// The tokens behind attributes of a parameter, as many as there are.
 pub fn pattrs<'a>(alloc: Global, tokens: &'a [Token]) -> Result<&'a [Token], Stop>
-    ensures { Gives (λ rest. done tt (kinds rest.now)) result (read (skip a_pattr) (kinds tokens.now)) }
+    ensures { Gives (λ rest. done tt (kinds rest.now)) result
+        (read (skip a_pattr) (kinds tokens.now)) }
 {
     let mut rest = tokens;
     'attributes: while at_pattr(rest) {
@@ -103,7 +104,8 @@ fn is_numbered(name: &Option<Name>) -> bool
 
 /// A name, or a number as a name where there is none.
 fn name_or_number(alloc: Global, name: Option<Name>, number: usize) -> Result<Name, Stop>
-    ensures { MatchResult result (λ own. own ≡ name_or name (decimal number)) (λ stop. stop ≡ Stop.NoMemory) }
+    ensures { MatchResult result (λ own. own ≡ name_or name (decimal number))
+        (λ stop. stop ≡ Stop.NoMemory) }
 {
     match name {
         Some(own) => Ok(own),
@@ -114,7 +116,8 @@ fn name_or_number(alloc: Global, name: Option<Name>, number: usize) -> Result<Na
 /// One parameter more, with a name.
 fn with_param(alloc: Global, params: NamedParams, written: Written) -> Result<NamedParams, Stop>
     requires { params.numbered ≤ length params.named }
-    ensures { MatchResult result (λ more. more ≡ with_one params written) (λ stop. stop ≡ Stop.NoMemory) }
+    ensures { MatchResult result (λ more. more ≡ with_one params written)
+        (λ stop. stop ≡ Stop.NoMemory) }
 {
     let mut params = params;
     let number = params.numbered;
@@ -140,7 +143,9 @@ fn more_params<'a>(
     params: NamedParams,
 ) -> Result<(NamedParams, &'a [Token]), Stop>
     requires { params.numbered ≤ length params.named }
-    ensures { Gives (λ x. done x.0 (kinds x.1.now)) result (named_behind params.named params.numbered (read (many (behind_comma a_param)) (kinds tokens.now))) }
+    ensures { Gives (λ x. done x.0 (kinds x.1.now)) result
+        (named_behind params.named params.numbered
+        (read (many (behind_comma a_param)) (kinds tokens.now))) }
 {
     let mut all = params;
     let mut rest = tokens;
@@ -177,7 +182,8 @@ pub fn params<'a>(alloc: Global, tokens: &'a [Token]) -> Result<(NamedParams, &'
 /// The type of a declaration's parameter, and the tokens behind it.
 #[tactic(auto, unfolding(crate::specs::Parameters::declared_param))]
 fn declared_param<'a>(alloc: Global, tokens: &'a [Token]) -> Result<(Ty, &'a [Token]), Stop>
-    ensures { Gives (λ x. done x.0 (kinds x.1.now)) result (read a_declared_param (kinds tokens.now)) }
+    ensures { Gives (λ x. done x.0 (kinds x.1.now)) result
+        (read a_declared_param (kinds tokens.now)) }
 {
     let (ty, rest) = whole(alloc, tokens)?;
     let rest = pattrs(alloc, rest)?;
@@ -191,7 +197,8 @@ fn more_declared_params<'a>(
     tokens: &'a [Token],
     types: List<Ty>,
 ) -> Result<(List<Ty>, &'a [Token]), Stop>
-    ensures { Gives (λ x. done x.0 (kinds x.1.now)) result (put_before types (read (many (behind_comma a_declared_param)) (kinds tokens.now))) }
+    ensures { Gives (λ x. done x.0 (kinds x.1.now)) result
+        (put_before types (read (many (behind_comma a_declared_param)) (kinds tokens.now))) }
 {
     let mut all = types;
     let mut rest = tokens;
@@ -213,7 +220,8 @@ pub fn declared_params<'a>(
     alloc: Global,
     tokens: &'a [Token],
 ) -> Result<(List<Ty>, &'a [Token]), Stop>
-    ensures { Gives (λ x. done x.0 (kinds x.1.now)) result (read all_declared_params (kinds tokens.now)) }
+    ensures { Gives (λ x. done x.0 (kinds x.1.now)) result
+        (read all_declared_params (kinds tokens.now)) }
 {
     let rest = mark(tokens, b'(')?;
     let mut types = List::new(alloc);

@@ -70,7 +70,8 @@ pub fn hash<'a>(tokens: &'a [Token]) -> Result<&'a [Token], Stop>
 
 /// The tokens behind a hash that belongs to no debug records.
 pub fn plain_hash<'a>(tokens: &'a [Token]) -> Result<&'a [Token], Stop>
-    ensures { Gives (λ rest. done tt (kinds rest.now)) result (read a_plain_hash (kinds tokens.now)) }
+    ensures { Gives (λ rest. done tt (kinds rest.now)) result
+        (read a_plain_hash (kinds tokens.now)) }
 {
     match tokens {
         [next, rest @ ..] => match &next.kind {
@@ -89,7 +90,8 @@ pub fn plain_hash<'a>(tokens: &'a [Token]) -> Result<&'a [Token], Stop>
 
 /// The tokens behind a hash of debug records.
 pub fn debug_hash<'a>(tokens: &'a [Token]) -> Result<&'a [Token], Stop>
-    ensures { Gives (λ rest. done tt (kinds rest.now)) result (read a_debug_hash (kinds tokens.now)) }
+    ensures { Gives (λ rest. done tt (kinds rest.now)) result
+        (read a_debug_hash (kinds tokens.now)) }
 {
     match tokens {
         [next, rest @ ..] => match &next.kind {
@@ -132,7 +134,8 @@ pub fn section<'a>(tokens: &'a [Token]) -> Result<&'a [Token], Stop>
 
 /// The tokens behind a global of debug records.
 pub fn debug_global<'a>(tokens: &'a [Token]) -> Result<&'a [Token], Stop>
-    ensures { Gives (λ rest. done tt (kinds rest.now)) result (read a_debug_global (kinds tokens.now)) }
+    ensures { Gives (λ rest. done tt (kinds rest.now)) result
+        (read a_debug_global (kinds tokens.now)) }
 {
     match tokens {
         [next, rest @ ..] => match &next.kind {

@@ -113,7 +113,8 @@ pub fn at_type(tokens: &[Token]) -> bool
 #[cycle(ty)]
 #[tactic(auto, using(crate::proofs::Levels::shallow, crate::proofs::Levels::deep_simple, crate::proofs::Levels::deep_array, crate::proofs::Levels::deep_struct))]
 fn ty<'a>(alloc: Global, tokens: &'a [Token], depth: u32) -> Result<(Ty, &'a [Token]), Stop>
-    ensures { Gives (λ x. done x.0 (kinds x.1.now)) result (read (type_at depth) (kinds tokens.now)) }
+    ensures { Gives (λ x. done x.0 (kinds x.1.now)) result
+        (read (type_at depth) (kinds tokens.now)) }
 {
     if depth == 0 || at_simple(tokens) {
         return simple(alloc, tokens);
@@ -128,7 +129,8 @@ fn ty<'a>(alloc: Global, tokens: &'a [Token], depth: u32) -> Result<(Ty, &'a [To
 #[cycle(ty)]
 #[tactic(auto, unfolding(crate::specs::Types::array_type))]
 fn array<'a>(alloc: Global, tokens: &'a [Token], depth: u32) -> Result<(Ty, &'a [Token]), Stop>
-    ensures { Gives (λ x. done x.0 (kinds x.1.now)) result (read (array_type (type_at depth)) (kinds tokens.now)) }
+    ensures { Gives (λ x. done x.0 (kinds x.1.now)) result
+        (read (array_type (type_at depth)) (kinds tokens.now)) }
 {
     let rest = mark(tokens, b'[')?;
     let (count, rest) = number(rest)?;
@@ -145,7 +147,8 @@ fn array<'a>(alloc: Global, tokens: &'a [Token], depth: u32) -> Result<(Ty, &'a 
 #[cycle(ty)]
 #[tactic(auto, unfolding(crate::specs::Types::struct_type, crate::specs::Types::plain_struct, crate::specs::Types::packed_struct))]
 fn structure<'a>(alloc: Global, tokens: &'a [Token], depth: u32) -> Result<(Ty, &'a [Token]), Stop>
-    ensures { Gives (λ x. done x.0 (kinds x.1.now)) result (read (struct_type (type_at depth)) (kinds tokens.now)) }
+    ensures { Gives (λ x. done x.0 (kinds x.1.now)) result
+        (read (struct_type (type_at depth)) (kinds tokens.now)) }
 {
     if at_mark(tokens, b'{') {
         let rest = mark(tokens, b'{')?;
@@ -166,7 +169,8 @@ fn fields<'a>(
     tokens: &'a [Token],
     depth: u32,
 ) -> Result<(List<Ty>, &'a [Token]), Stop>
-    ensures { Gives (λ x. done x.0 (kinds x.1.now)) result (read (listed 125 (type_at depth)) (kinds tokens.now)) }
+    ensures { Gives (λ x. done x.0 (kinds x.1.now)) result
+        (read (listed 125 (type_at depth)) (kinds tokens.now)) }
 {
     let mut fields = List::new(alloc);
     if at_mark(tokens, b'}') {
@@ -191,7 +195,8 @@ fn more_fields<'a>(
     depth: u32,
     fields: List<Ty>,
 ) -> Result<(List<Ty>, &'a [Token]), Stop>
-    ensures { Gives (λ x. done x.0 (kinds x.1.now)) result (put_before fields (read (many (behind_comma (type_at depth))) (kinds tokens.now))) }
+    ensures { Gives (λ x. done x.0 (kinds x.1.now)) result
+        (put_before fields (read (many (behind_comma (type_at depth))) (kinds tokens.now))) }
 {
     let mut all = fields;
     let mut rest = tokens;
@@ -218,7 +223,8 @@ pub fn whole<'a>(alloc: Global, tokens: &'a [Token]) -> Result<(Ty, &'a [Token])
 /// The fields of a named type, and the tokens behind them.
 #[tactic(auto, unfolding(crate::specs::Types::fields_type))]
 pub fn fields_type<'a>(alloc: Global, tokens: &'a [Token]) -> Result<(Ty, &'a [Token]), Stop>
-    ensures { Gives (λ x. done x.0 (kinds x.1.now)) result (read a_fields_type (kinds tokens.now)) }
+    ensures { Gives (λ x. done x.0 (kinds x.1.now)) result
+        (read a_fields_type (kinds tokens.now)) }
 {
     structure(alloc, tokens, 63)
 }

@@ -24,7 +24,8 @@ const VALUE_WORDS: [&[u8]; 5] = [b"true", b"false", b"null", b"undef", b"poison"
 /// A number or a truth value, and the tokens behind it.
 #[tactic(auto, unfolding(crate::specs::Values::const_value))]
 pub fn const_value<'a>(tokens: &'a [Token]) -> Result<(Operand, &'a [Token]), Stop>
-    ensures { Gives (λ x. done x.0 (kinds x.1.now)) result (read a_const_value (kinds tokens.now)) }
+    ensures { Gives (λ x. done x.0 (kinds x.1.now)) result
+        (read a_const_value (kinds tokens.now)) }
 {
     match tokens {
         [next, rest @ ..] => {
@@ -55,7 +56,8 @@ pub fn at_plain_value(tokens: &[Token]) -> bool
 /// A value that is one token, and no local.
 #[tactic(auto, unfolding(crate::specs::Values::plain_value, crate::specs::Values::const_value))]
 fn plain_value<'a>(alloc: Global, tokens: &'a [Token]) -> Result<(Operand, &'a [Token]), Stop>
-    ensures { Gives (λ x. done x.0 (kinds x.1.now)) result (read a_plain_value (kinds tokens.now)) }
+    ensures { Gives (λ x. done x.0 (kinds x.1.now)) result
+        (read a_plain_value (kinds tokens.now)) }
 {
     match tokens {
         [next, rest @ ..] => {
@@ -91,7 +93,8 @@ fn plain_value<'a>(alloc: Global, tokens: &'a [Token]) -> Result<(Operand, &'a [
 /// An index of a place, with its type.
 #[tactic(auto, unfolding(crate::specs::Values::place_index))]
 fn place_index<'a>(alloc: Global, tokens: &'a [Token]) -> Result<(Index0, &'a [Token]), Stop>
-    ensures { Gives (λ x. done x.0 (kinds x.1.now)) result (read a_place_index (kinds tokens.now)) }
+    ensures { Gives (λ x. done x.0 (kinds x.1.now)) result
+        (read a_place_index (kinds tokens.now)) }
 {
     let (ty, rest) = whole(alloc, tokens)?;
     let (value, rest) = int(rest)?;
@@ -104,7 +107,8 @@ fn place_indices<'a>(
     alloc: Global,
     tokens: &'a [Token],
 ) -> Result<(List<Index0>, &'a [Token]), Stop>
-    ensures { Gives (λ x. done x.0 (kinds x.1.now)) result (read (many (behind_comma a_place_index)) (kinds tokens.now)) }
+    ensures { Gives (λ x. done x.0 (kinds x.1.now)) result
+        (read (many (behind_comma a_place_index)) (kinds tokens.now)) }
 {
     let mut all = List::new(alloc);
     let mut rest = tokens;
@@ -145,7 +149,8 @@ fn place<'a>(alloc: Global, tokens: &'a [Token]) -> Result<(Place0, &'a [Token])
 /// A value that is known before a run, and the tokens behind it.
 #[tactic(auto, unfolding(crate::specs::Values::fixed_value))]
 pub fn fixed_value<'a>(alloc: Global, tokens: &'a [Token]) -> Result<(Operand, &'a [Token]), Stop>
-    ensures { Gives (λ x. done x.0 (kinds x.1.now)) result (read a_fixed_value (kinds tokens.now)) }
+    ensures { Gives (λ x. done x.0 (kinds x.1.now)) result
+        (read a_fixed_value (kinds tokens.now)) }
 {
     if at_plain_value(tokens) {
         return plain_value(alloc, tokens);

@@ -132,7 +132,8 @@ pub fn at_one_of(tokens: &[Token], words: &[&[u8]]) -> bool
 /// The tokens behind one of these words.
 pub fn one_word<'a>(tokens: &'a [Token], words: &[&[u8]]) -> Result<&'a [Token], Stop>
     requires { 0 < length words.now }
-    ensures { Gives (λ rest. done tt (kinds rest.now)) result (read (one_of (map (λ w. a_word_sort w.now) words.now)) (kinds tokens.now)) }
+    ensures { Gives (λ rest. done tt (kinds rest.now)) result
+        (read (one_of (map (λ w. a_word_sort w.now) words.now)) (kinds tokens.now)) }
 {
     match tokens {
         [next, rest @ ..] => {
@@ -149,8 +150,11 @@ pub fn one_word<'a>(tokens: &'a [Token], words: &[&[u8]]) -> Result<&'a [Token],
 /// The tokens behind the first one, where it is one of these words.
 #[tactic(auto, using(crate::proofs::Skips::skip_more))]
 fn behind_one<'a>(tokens: &'a [Token], words: &[&[u8]]) -> Option<&'a [Token]>
-    ensures none { IfNone result (starts (map (λ w. a_word_sort w.now) words.now) (kinds tokens.now) ≡ false) }
-    ensures rest { IfSome result (λ rest. read (skip (one_of (map (λ w. a_word_sort w.now) words.now))) (kinds rest.now) ≡ read (skip (one_of (map (λ w. a_word_sort w.now) words.now))) (kinds tokens.now)) }
+    ensures none { IfNone result (starts (map (λ w. a_word_sort w.now) words.now)
+        (kinds tokens.now) ≡ false) }
+    ensures rest { IfSome result (λ rest. read
+        (skip (one_of (map (λ w. a_word_sort w.now) words.now))) (kinds rest.now) ≡
+        read (skip (one_of (map (λ w. a_word_sort w.now) words.now))) (kinds tokens.now)) }
     ensures shorter { IfSome result (λ rest. length rest.now < length tokens.now) }
 {
     match tokens {
@@ -168,7 +172,8 @@ fn behind_one<'a>(tokens: &'a [Token], words: &[&[u8]]) -> Option<&'a [Token]>
 /// The tokens behind these words, as many as stand first.
 #[tactic(auto, using(crate::proofs::Skips::skip_end))]
 fn behind_words<'a>(tokens: &'a [Token], words: &[&[u8]]) -> &'a [Token]
-    ensures { read (skip (one_of (map (λ w. a_word_sort w.now) words.now))) (kinds tokens.now) ≡ done tt (kinds result.now) }
+    ensures { read (skip (one_of (map (λ w. a_word_sort w.now) words.now))) (kinds tokens.now) ≡
+        done tt (kinds result.now) }
 {
     let mut rest = tokens;
     'words: while let Some(behind) = behind_one(rest, words) {
@@ -212,7 +217,8 @@ pub fn at_parameter_word(tokens: &[Token]) -> bool
 /// The tokens behind a word on what a parameter may be.
 #[tactic(auto, unfolding(crate::specs::Words::parameter_word))]
 pub fn parameter_word<'a>(tokens: &'a [Token]) -> Result<&'a [Token], Stop>
-    ensures { Gives (λ rest. done tt (kinds rest.now)) result (read a_parameter_word (kinds tokens.now)) }
+    ensures { Gives (λ rest. done tt (kinds rest.now)) result
+        (read a_parameter_word (kinds tokens.now)) }
 {
     one_word(tokens, &PARAMETER_WORDS)
 }
@@ -228,7 +234,8 @@ pub fn at_function_word(tokens: &[Token]) -> bool
 /// The tokens behind a word on what a function does.
 #[tactic(auto, unfolding(crate::specs::Words::function_word))]
 pub fn function_word<'a>(tokens: &'a [Token]) -> Result<&'a [Token], Stop>
-    ensures { Gives (λ rest. done tt (kinds rest.now)) result (read a_function_word (kinds tokens.now)) }
+    ensures { Gives (λ rest. done tt (kinds rest.now)) result
+        (read a_function_word (kinds tokens.now)) }
 {
     one_word(tokens, &FUNCTION_WORDS)
 }

@@ -24,7 +24,8 @@ ghost use Rattle.obj_lay.specs.Hidden.{ShowsObject};
 /// Bytes that hold each instruction and each slot of a well-formed object hold the object.
 pub fn instructions_hold_the_object()
     ensures { (exec : Row Segment) (place : Place → ℕ) (o : Object) (well : IsWellFormed o) →
-        HoldsInstrs exec place o well.disassemblies → HoldsPlaces exec place (is_step_place o well.disassemblies) o }
+        HoldsInstrs exec place o well.disassemblies →
+        HoldsPlaces exec place (is_step_place o well.disassemblies) o }
 {}
 
 /// An image that holds an object shows what the object shows, wherever it has its code.

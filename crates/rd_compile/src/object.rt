@@ -15,7 +15,11 @@ use x86_encode::put;
 
 /// A function of one instruction.
 fn single(alloc: Global, instr: &Instr) -> Result<Func, NoMemory>
-    ensures { IfOk result (λ f. f ≡ record { kind = FuncKind.Plain; bytes = spelled (instr.now ∷ []); links = [] }) }
+    ensures { IfOk result (λ f. f ≡ record {
+      kind = FuncKind.Plain;
+      bytes = spelled (instr.now ∷ []);
+      links = [];
+    }) }
 {
     let mut bytes = List::new(alloc);
     put(&mut bytes, instr)?;
@@ -45,7 +49,11 @@ fn start(alloc: Global) -> Result<Func, NoMemory>
 fn main_of(alloc: Global, bytes: List<u8>) -> Result<Func, NoMemory>
     requires long { 6 ≤ length bytes }
     requires short { length bytes < 2 ^ 32 }
-    ensures { IfOk result (λ f. f ≡ record { kind = FuncKind.Plain; bytes = bytes; links = record { at = length bytes - 6; slot = 2 } ∷ [] }) }
+    ensures { IfOk result (λ f. f ≡ record {
+      kind = FuncKind.Plain;
+      bytes = bytes;
+      links = record { at = length bytes - 6; slot = 2 } ∷ [];
+    }) }
 {
     let at = (bytes.len() - 6) as u32;
     let mut links = List::new(alloc);
@@ -59,7 +67,8 @@ fn main_of(alloc: Global, bytes: List<u8>) -> Result<Func, NoMemory>
 
 /// The slots: the entry, that of `main`, and the system call at the end of `main`.
 fn slots(alloc: Global, back: u32) -> Result<List<Slot>, NoMemory>
-    ensures { IfOk result (λ l. l ≡ Slot.Entry 1 ∷ Slot.Jump 0 ∷ Slot.System (record { function = 0; offset = back }) ∷ []) }
+    ensures { IfOk result (λ l. l ≡ Slot.Entry 1 ∷ Slot.Jump 0 ∷ Slot.System
+        (record { function = 0; offset = back }) ∷ []) }
 {
     let mut all = List::new(alloc);
     all.add(Slot::Entry { target: 1 })?;
@@ -75,7 +84,8 @@ fn slots(alloc: Global, back: u32) -> Result<List<Slot>, NoMemory>
 
 /// The seven functions.
 fn functions(alloc: Global, main: Func) -> Result<List<Func>, NoMemory>
-    ensures { IfOk result (λ l. l ≡ main ∷ start_function ∷ stub_function ∷ stub_function ∷ stub_function ∷ stub_function ∷ stub_function ∷ []) }
+    ensures { IfOk result (λ l. l ≡ main ∷ start_function ∷ stub_function ∷ stub_function ∷
+        stub_function ∷ stub_function ∷ stub_function ∷ []) }
 {
     let mut all = List::new(alloc);
     all.add(main)?;

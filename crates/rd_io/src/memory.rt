@@ -33,7 +33,13 @@ pub struct MemFiles {
 impl MemFiles {
     /// Files of which the calls with these numbers fail. Takes no memory.
     pub fn new(files: List<File>, fails: List<u64>) -> MemFiles
-        ensures { result ≡ record { files = files; fails = fails; calls = 0; lost = None; faults = 0 } }
+        ensures { result ≡ record {
+          files = files;
+          fails = fails;
+          calls = 0;
+          lost = None;
+          faults = 0;
+        } }
     {
         MemFiles {
             files,
@@ -115,7 +121,13 @@ pub struct MemSource {
 impl MemSource {
     /// A source of these bytes, of which the calls with these numbers fail. Takes no memory.
     pub fn new(bytes: List<u8>, fails: List<u64>) -> MemSource
-        ensures { result ≡ record { bytes = bytes; place = 0; fails = fails; calls = 0; faults = 0 } }
+        ensures { result ≡ record {
+          bytes = bytes;
+          place = 0;
+          fails = fails;
+          calls = 0;
+          faults = 0;
+        } }
     {
         MemSource {
             bytes,

@@ -187,7 +187,8 @@ impl<W: Write> Sink for StreamSink<W> {
 
     /// Takes no memory of its own. A call of std that takes none of a nonempty piece is a fault.
     fn put(&mut self, bytes: &[u8]) -> Result<(), PutFail>
-        ensures stream { PutsAll (W.contents self.old.writer) (W.contents self.new.writer) bytes.now result }
+        ensures stream { PutsAll (W.contents self.old.writer)
+            (W.contents self.new.writer) bytes.now result }
         ensures memory { result ≢ Err PutFail.NoMemory }
         ensures cause { PutCaused self.old.faults self.new.faults result }
     {

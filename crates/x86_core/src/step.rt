@@ -22,5 +22,7 @@ pub fn stopped_stays()
 /// Every instruction takes its registers, its flags and its next place from the instruction table.
 pub fn steps_follow_the_table()
     ensures { (land : ℕ → Option ℕ) (i : Instr) (after : ℕ) (at : ℤ → ℕ) (back : ℕ) (s : State ℕ) →
-        length s.regs ≡ 16 → act land (sorted i after at back) s ≡ by_table land (effect_of i s.regs s.flags) after at back s }
+        length s.regs ≡ 16 →
+        act land (sorted i after at back) s
+        ≡ by_table land (effect_of i s.regs s.flags) after at back s }
 {}
