@@ -5,9 +5,6 @@ use Rattle.behavior.specs.Moment.{AreBytes}
 use Rattle.behavior.specs.Preserves.{Preserves, ReachesWithin}
 use Rattle.ir_core.specs.declared.module.Module.{Module}
 use Rattle.ir_core.specs.Run.{source_run}
-use Rattle.ir_narrow.specs.declared.narrow.Narrow.{Narrow}
-use Rattle.ir_narrow.specs.NarrowModule.{Program, IsNarrow, module_of}
-use Rattle.ir_narrow.specs.Resolved.{IsResolved}
 use Rattle.obj_core.specs.declared.object.Object.{Object}
 use Rattle.obj_core.specs.declared.object.Func.{Func}
 use Rattle.obj_core.specs.declared.object.FuncKind.{FuncKind}
@@ -30,13 +27,10 @@ pub record IsCompiledFrom (m : Module) (slot_seed reg_seed : ℕ) (o : Object) :
 
 -- an object that is compiled from a narrow module; the module is never left, it comes to an end on every input, and the object
 -- never strays
-pub record IsCompiledNarrow (n : Narrow) (slot_seed reg_seed : ℕ) (o : Object) : Type 0 where
-  pub program : Program
-  pub narrow : IsNarrow program
-  pub resolved : IsResolved program n
-  pub compiled : IsCompiledFrom (module_of program) slot_seed reg_seed o
-  pub meant : (input : List ℕ) → AreBytes input → (k : ℕ) → is_left (source_run (module_of program) input k).ending ≡ false
-  pub ends : (input : List ℕ) → AreBytes input → (k : ℕ) × (status : ℕ) × (source_run (module_of program) input k ≡ record { printed = []; taken = 0; ending = Ended status })
+pub record IsCompiledNarrow (m : Module) (slot_seed reg_seed : ℕ) (o : Object) : Type 0 where
+  pub compiled : IsCompiledFrom m slot_seed reg_seed o
+  pub meant : (input : List ℕ) → AreBytes input → (k : ℕ) → is_left (source_run m input k).ending ≡ false
+  pub ends : (input : List ℕ) → AreBytes input → (k : ℕ) × (status : ℕ) × (source_run m input k ≡ record { printed = []; taken = 0; ending = Ended status })
   -- what the module shows after k steps, the object shows after at most 4 + 4k
-  pub within : ReachesWithin 4 4 (source_run (module_of program)) (symbolic_behavior o)
+  pub within : ReachesWithin 4 4 (source_run m) (symbolic_behavior o)
   pub straight : (input : List ℕ) → AreBytes input → (n : ℕ) → (symbolic_behavior o input n).ending ≢ Strayed

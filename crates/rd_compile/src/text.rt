@@ -1,7 +1,8 @@
 //! From a module to its object.
 
 ghost use Rattle.std.specs.Prelude.{IfOk};
-ghost use Rattle.ir_narrow.specs.Resolved.{IsOfProgram};
+ghost use Rattle.ir_core.specs.declared.module.Module.{Module};
+ghost use Rattle.ir_narrow.specs.Resolved.{IsOfProgram, Narrows};
 ghost use Rattle.rd_compile.specs.Compiled.{IsCompiledNarrow};
 
 use crate::object::narrow_object_of;
@@ -20,7 +21,8 @@ pub fn compile(
     reg_seed: u64,
 ) -> Result<Checked, NoMemory>
     requires { IsOfProgram narrow.now }
-    ensures { IfOk result (λ c. IsCompiledNarrow narrow.now slot_seed reg_seed c.object) }
+    ensures { IfOk result (λ c. (m : Module) → Narrows m narrow.now →
+        IsCompiledNarrow m slot_seed reg_seed c.object) }
 {
     let object = narrow_object_of(alloc, narrow, slot_seed, reg_seed)?;
     Ok(Checked::new(object))

@@ -13,7 +13,7 @@ use Rattle.rd_top.specs.declared.answer.Stop.TheVariants.{PageFault, NoForm, NoF
 use Rattle.rd_top.specs.declared.answer.Refusal.{Refusal}
 use Rattle.rd_top.specs.declared.answer.Refusal.TheVariants.{Module, Object, Image, Script}
 use Rattle.rd_top.specs.declared.answer.ModuleFault.{ModuleFault}
-use Rattle.rd_top.specs.declared.answer.ModuleFault.TheVariants.{Later}
+use Rattle.rd_top.specs.declared.answer.ModuleFault.TheVariants.{Lex, Grammar, Unsupported, Later}
 use Rattle.rd_top.specs.declared.answer.ObjectFault.{ObjectFault}
 use Rattle.rd_top.specs.declared.answer.ObjectFault.TheVariants.{Form, Shape}
 use Rattle.rd_top.specs.declared.answer.Answer.{Answer}
@@ -80,8 +80,18 @@ spot_number (Slot k) = k
 abbrev pub shape_text : ℕ → ShapeSpot → ℕ → List ℕ
 shape_text rule spot offset = (((((codes "shape " ++ decimal rule) ++ spot_word spot) ++ decimal (spot_number spot)) ++ codes " ") ++ decimal offset) ++ 10 ∷ []
 
+-- unsupported PLACE WORD
+abbrev pub unsupported_text : ℕ → List ℕ → List ℕ
+unsupported_text place word = (((codes "unsupported " ++ decimal place) ++ codes " ") ++ word) ++ 10 ∷ []
+
+abbrev pub module_fault_text : ModuleFault → List ℕ
+module_fault_text (Lex place) = codes "lex " ++ decimal place ++ 10 ∷ []
+module_fault_text (Grammar place) = codes "grammar " ++ decimal place ++ 10 ∷ []
+module_fault_text (Unsupported place word) = unsupported_text place word
+module_fault_text Later = codes "later\n"
+
 abbrev pub refusal_text : Refusal → List ℕ
-refusal_text (Module Later) = codes "later\n"
+refusal_text (Module fault) = module_fault_text fault
 refusal_text (Object (Form place)) = codes "form " ++ decimal place ++ 10 ∷ []
 refusal_text (Object (Shape rule spot offset)) = shape_text rule spot offset
 refusal_text (Image rule) = codes "image " ++ decimal rule ++ 10 ∷ []

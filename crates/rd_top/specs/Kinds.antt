@@ -1,9 +1,18 @@
 -- The kinds of files: modules' texts, objects, images and scripts.
-use Rattle.std.specs.Prelude.{◌≡◌, ℕ, List}
+use Rattle.std.specs.Prelude.{◌≡◌, ℕ, List, length}
 use Rattle.x86_core.specs.declared.image.Image.{Image}
 use Rattle.ir_narrow.specs.declared.narrow.Narrow.{Narrow}
-use Rattle.ir_narrow.specs.NarrowText.{Program, IsNarrowText}
-use Rattle.ir_narrow.specs.Resolved.{SpellsNarrow}
+use Rattle.ir_narrow.specs.Resolved.{Narrows, IsWide}
+use Rattle.ir_core.specs.declared.module.Module.{Module}
+use Rattle.ir_lex.specs.declared.token.Token.{Token}
+use Rattle.ir_lex.specs.declared.LexFault.TheVariants.{At}
+use Rattle.ir_lex.specs.Tokens.{Scans, Faults as HasNoTokens}
+use Rattle.ir_grammar.specs.Tokens.{kinds}
+use Rattle.ir_grammar.specs.Grammar.{Derives}
+use Rattle.ir_syntax.specs.ModuleText.{module_text as a_module_text}
+use Rattle.ir_parse.specs.declared.parse.ParseFault.{ParseFault}
+use Rattle.ir_parse.specs.declared.parse.ParseFault.TheVariants as stray
+use Rattle.ir_parse.specs.Faults.{Faults as FaultsOf}
 use Rattle.obj_core.specs.declared.object.Object.{Object}
 use Rattle.obj_core.specs.declared.checked.Checked.{Checked}
 use Rattle.obj_core.specs.Object.{IsObject, object_bytes}
@@ -16,14 +25,40 @@ use Rattle.watch_script.specs.declared.script.Script.{Script}
 use Rattle.watch_script.specs.Script.{ScriptOf, IsFirstBad}
 use Rattle.rd_top.specs.declared.answer.Refusal.{Refusal}
 use Rattle.rd_top.specs.declared.answer.Refusal.TheVariants as refusal
-use Rattle.rd_top.specs.declared.answer.ModuleFault.TheVariants.{Later}
+use Rattle.rd_top.specs.declared.answer.ModuleFault.TheVariants.{Lex, Grammar, Unsupported, Later}
 use Rattle.rd_top.specs.declared.answer.ObjectFault.TheVariants.{Form, Shape}
 use Rattle.rd_top.specs.Files.{Kind}
 
--- no module that is compiled today is spelled
+-- the text's tokens are those of this module
+pub record IsTextOf (text : List ℕ) (whole : Module) : Type 0 where
+  pub tokens : List Token
+  pub scanned : Scans text tokens
+  pub derived : Derives a_module_text whole (kinds tokens)
+
+-- the text is that of a narrow module, and these are its instructions
+pub record SpellsNarrow (text : List ℕ) (n : Narrow) : Type 0 where
+  pub whole : Module
+  pub text_of : IsTextOf text whole
+  pub narrows : Narrows whole n
+
+-- the text has tokens, and they are no module's
+pub record HasNoModule (text : List ℕ) (fault : ParseFault) : Type 0 where
+  pub tokens : List Token
+  pub scanned : Scans text tokens
+  pub stopped : FaultsOf tokens (length text) fault
+
+-- the text is that of a module that isn't compiled today
+pub record IsOfLater (text : List ℕ) : Type 0 where
+  pub whole : Module
+  pub text_of : IsTextOf text whole
+  pub wide : IsWide whole
+
 abbrev pub RefusesText : List ℕ → Refusal → Type 0
-RefusesText bytes (refusal.Module Later) = (p : Program) → IsNarrowText bytes p → ⊥
-RefusesText bytes other = ⊥
+RefusesText text (refusal.Module (Lex place)) = HasNoTokens text (At place)
+RefusesText text (refusal.Module (Grammar place)) = HasNoModule text (stray.Grammar place)
+RefusesText text (refusal.Module (Unsupported place word)) = HasNoModule text (stray.Unsupported place word)
+RefusesText text (refusal.Module Later) = IsOfLater text
+RefusesText text other = ⊥
 
 -- a module's text, at most 8 MiB
 abbrev pub module_text : Kind Narrow

@@ -3,7 +3,8 @@ use Rattle.std.specs.Prelude.{◌≡◌, ℕ, List}
 use Rattle.behavior.specs.Preserves.{Preserves}
 use Rattle.ir_core.specs.Run.{source_run}
 use Rattle.ir_narrow.specs.declared.narrow.Narrow.{Narrow}
-use Rattle.ir_narrow.specs.Resolved.{module_of}
+use Rattle.ir_narrow.specs.Resolved.{Narrows}
+use Rattle.ir_core.specs.declared.module.Module.{Module}
 use Rattle.x86_core.specs.Machine.{machine_behavior}
 use Rattle.obj_core.specs.declared.object.Object.{Object}
 use Rattle.obj_core.specs.Object.{object_bytes}
@@ -12,10 +13,10 @@ use Rattle.elf_file.specs.Elf.{elf_bytes}
 use Rattle.rd_compile.specs.Compiled.{IsCompiledNarrow}
 use Rattle.rd_top.specs.Hiding.{Hides}
 
--- bytes are those of one object that is compiled from a module
+-- bytes are those of one object that is compiled from the module with these instructions
 pub record IsObjectFor (n : Narrow) (slot_seed reg_seed : ℕ) (bytes : List ℕ) : Type 0 where
   pub object : Object
-  pub compiled : IsCompiledNarrow n slot_seed reg_seed object
+  pub compiled : (m : Module) → Narrows m n → IsCompiledNarrow m slot_seed reg_seed object
   pub spelled : bytes ≡ object_bytes object
 
 -- bytes are the file of the image of an object, which hides its layout
@@ -23,10 +24,10 @@ pub record IsLaid (o : Object) (layout_seed : ℕ) (bytes : List ℕ) : Type 0 w
   pub spelled : bytes ≡ elf_bytes (layout o layout_seed)
   pub hides : Hides o layout_seed
 
--- bytes are the file of the image of an object that is compiled from a module: the image prints, takes and ends as the
--- module means, in both directions
+-- bytes are the file of the image of an object that is compiled from the module with these instructions: the image prints,
+-- takes and ends as the module means, in both directions
 pub record IsImageFor (n : Narrow) (slot_seed reg_seed layout_seed : ℕ) (bytes : List ℕ) : Type 0 where
   pub object : Object
-  pub compiled : IsCompiledNarrow n slot_seed reg_seed object
+  pub compiled : (m : Module) → Narrows m n → IsCompiledNarrow m slot_seed reg_seed object
   pub laid : IsLaid object layout_seed bytes
-  pub means : Preserves (source_run (module_of compiled.program)) (machine_behavior (layout object layout_seed))
+  pub means : (m : Module) → Narrows m n → Preserves (source_run m) (machine_behavior (layout object layout_seed))

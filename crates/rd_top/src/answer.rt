@@ -5,8 +5,9 @@
 //! `specs/Answers.antt`; for people, in docs/command-line.md, "Statuses".
 
 ghost use Rattle.std.specs.Prelude.{◌≡◌, ◌≢◌, ◌∷◌, ◌++◌, [], IfOk, OnOk, OnErr, decimal};
-ghost use Rattle.rd_top.specs.Answers.{status_number, refusal_number, outcome_number, line_of, outcome_text, refusal_text, shape_text, spot_word, spot_number};
+ghost use Rattle.rd_top.specs.Answers.{status_number, refusal_number, outcome_number, line_of, outcome_text, refusal_text, module_fault_text, unsupported_text, shape_text, spot_word, spot_number};
 
+use ir_core::ty::Name;
 use itoa::Buffer;
 use obj_check::fault::ShapeSpot;
 use rd_num::copied::copy_list;
@@ -73,10 +74,16 @@ pub enum Refusal {
     Script(u32),
 }
 
-/// What is wrong with a module.
+/// What is wrong with a module's text.
 #[derive(Drop)]
 pub enum ModuleFault {
-    /// It is for a later version.
+    /// The byte where the first piece begins that is no token.
+    Lex(u64),
+    /// The byte where the first token begins with which no module's text goes on, or the text's end.
+    Grammar(u64),
+    /// The same, where that token is a word which is known and not supported.
+    Unsupported { place: u64, word: Name },
+    /// The module is for a later version.
     Later,
 }
 
@@ -188,6 +195,30 @@ fn shape_line(alloc: Global, rule: u8, spot: ShapeSpot, offset: u32) -> Result<L
     Ok(line)
 }
 
+/// The line of a word that isn't supported.
+fn unsupported_line(alloc: Global, place: u64, word: &Name) -> Result<List<u8>, NoMemory>
+    ensures { IfOk result (λ l. l ≡ unsupported_text place word.now) }
+{
+    let mut line = copy_list(alloc, b"unsupported ")?;
+    put_number(&mut line, place)?;
+    line.append(b" ")?;
+    line.append(word.as_slice())?;
+    line.append(b"\n")?;
+    Ok(line)
+}
+
+/// The line of a module's text.
+fn module_line(alloc: Global, fault: &ModuleFault) -> Result<List<u8>, NoMemory>
+    ensures { IfOk result (λ l. l ≡ module_fault_text fault.now) }
+{
+    match fault {
+        ModuleFault::Lex(place) => numbered(alloc, b"lex ", *place),
+        ModuleFault::Grammar(place) => numbered(alloc, b"grammar ", *place),
+        ModuleFault::Unsupported { place, word } => unsupported_line(alloc, *place, word),
+        ModuleFault::Later => copy_list(alloc, b"later\n"),
+    }
+}
+
 /// The line of an outcome.
 fn outcome_line(alloc: Global, outcome: Outcome) -> Result<List<u8>, NoMemory>
     ensures { IfOk result (λ l. l ≡ outcome_text outcome) }
@@ -210,7 +241,7 @@ fn refusal_line(alloc: Global, refusal: &Refusal) -> Result<List<u8>, NoMemory>
     ensures { IfOk result (λ l. l ≡ refusal_text refusal.now) }
 {
     match refusal {
-        Refusal::Module(ModuleFault::Later) => copy_list(alloc, b"later\n"),
+        Refusal::Module(fault) => module_line(alloc, fault),
         Refusal::Object(ObjectFault::Form(place)) => numbered(alloc, b"form ", *place),
         Refusal::Object(ObjectFault::Shape { rule, spot, offset }) => {
             shape_line(alloc, *rule, *spot, *offset)

@@ -3,12 +3,17 @@
 //! A kind's definition stands in `specs/Kinds.antt`. A further kind is one more `impl` here.
 
 ghost use Rattle.std.specs.Prelude.{IfOk, IfErr};
-ghost use Rattle.rd_top.specs.Kinds.{module_text, object_file, image_file, script_file};
+ghost use Rattle.rd_top.specs.Kinds.{IsTextOf, module_text, object_file, image_file, script_file};
+ghost use Rattle.rd_top.specs.Files.{Unread};
 
 use crate::answer::{Answer, ModuleFault, ObjectFault, Refusal};
 use crate::file::FileKind;
 use elf_file::ImageFault;
+use ir_core::module::Module;
+use ir_lex::{LexFault, lex};
 use ir_narrow::narrow::{Narrow, NarrowFault};
+use ir_narrow::narrow_of;
+use ir_parse::parse::{ParseFault, parse};
 use obj_check::check;
 use obj_check::fault::ShapeFault;
 use obj_core::checked::Checked;
@@ -27,6 +32,31 @@ const BINARY_LIMIT: u64 = 268435456;
 /// The most bytes of a script's file: 1 MiB.
 const SCRIPT_LIMIT: u64 = 1048576;
 
+/// The module that a text spells.
+fn module_of(alloc: Global, text: &[u8]) -> Result<Module, Answer>
+    ensures text { IfOk result (IsTextOf text.now) }
+    ensures refused { IfErr result (Unread module_text text.now) }
+{
+    let tokens = match lex(alloc, text) {
+        Ok(tokens) => tokens,
+        Err(LexFault::At { place }) => {
+            return Err(Answer::Refused(Refusal::Module(ModuleFault::Lex(place))));
+        }
+        Err(LexFault::NoMemory) => return Err(Answer::Memory),
+    };
+    match parse(alloc, &tokens, text.len() as u64) {
+        Ok(module) => Ok(module),
+        Err(ParseFault::Grammar { place }) => {
+            Err(Answer::Refused(Refusal::Module(ModuleFault::Grammar(place))))
+        }
+        Err(ParseFault::Unsupported { place, word }) => {
+            let fault = ModuleFault::Unsupported { place, word };
+            Err(Answer::Refused(Refusal::Module(fault)))
+        }
+        Err(ParseFault::NoMemory) => Err(Answer::Memory),
+    }
+}
+
 impl FileKind for Narrow {
     ghost kind = { module_text };
 
@@ -35,8 +65,12 @@ impl FileKind for Narrow {
     }
 
     fn parse(alloc: Global, bytes: &[u8]) -> Result<Narrow, Answer> {
-        match ir_narrow::read(alloc, bytes) {
-            Ok(module) => Ok(module),
+        let whole = match module_of(alloc, bytes) {
+            Ok(whole) => whole,
+            Err(answer) => return Err(answer),
+        };
+        match narrow_of(alloc, &whole) {
+            Ok(narrow) => Ok(narrow),
             Err(NarrowFault::NotNarrow) => {
                 Err(Answer::Refused(Refusal::Module(ModuleFault::Later)))
             }

@@ -10,5 +10,5 @@ new-requires c = well_formed c.args.narrow.now c.args.slot_seed c.args.reg_seed 
 
 pub returns : goal.returns
 returns c =
-    compiled_narrow c.args.narrow.now c.args.slot_seed c.args.reg_seed c.new.result.object c.requires
+    compiled_narrow c.args.narrow.now c.args.slot_seed c.args.reg_seed c.new.result.object
     c.ranges.slot_seed.fits c.ranges.reg_seed.fits (c.new.ensures ∙ c.in_ok-object.ensures)
