@@ -3,6 +3,7 @@
 ghost use Rattle.std.specs.Prelude.{IfOk};
 ghost use Rattle.ir_core.specs.declared.module.Module.{Module};
 ghost use Rattle.ir_narrow.specs.Resolved.{IsOfProgram, Narrows};
+ghost use Rattle.obj_core.specs.WellFormed.{IsWellFormed};
 ghost use Rattle.rd_compile.specs.Compiled.{IsCompiledNarrow};
 
 use crate::object::narrow_object_of;
@@ -21,7 +22,8 @@ pub fn compile(
     reg_seed: u64,
 ) -> Result<Checked, NoMemory>
     requires { IsOfProgram narrow.now }
-    ensures { IfOk result (λ c. (m : Module) → Narrows m narrow.now →
+    ensures well_formed { IfOk result (λ c. IsWellFormed c.object) }
+    ensures compiled { IfOk result (λ c. (m : Module) → Narrows m narrow.now →
         IsCompiledNarrow m slot_seed reg_seed c.object) }
 {
     let object = narrow_object_of(alloc, narrow, slot_seed, reg_seed)?;

@@ -28,8 +28,9 @@ pub fn object_bytes(
     requires { IsOfProgram «module».now }
     ensures { IfOk result (IsObjectFor «module».now slot_seed reg_seed) }
 {
-    let object = compile(alloc, module, slot_seed, reg_seed)?;
-    obj_file::write::write(alloc, object.object())
+    let checked = compile(alloc, module, slot_seed, reg_seed)?;
+    let bytes = obj_file::write::write(alloc, checked.object())?;
+    Ok(bytes)
 }
 
 /// The bytes of the image of a module's object.
