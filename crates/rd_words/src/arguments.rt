@@ -100,7 +100,8 @@ fn first<'a>(words: &'a [String]) -> Option<Next<'a>>
 
 /// The file so far, after one more argument; none where that is a second file.
 fn with_file<'a>(found: Option<&'a str>, part: Part<'a>) -> Option<Option<&'a str>>
-    ensures { FileGoesOn (option_copied found.entry) (shown part.entry) (option_map option_copied result) }
+    ensures { FileGoesOn (option_copied found.entry) (shown part.entry)
+        (option_map option_copied result) }
 {
     match (found, part) {
         (_, Part::Given(_, _)) => Some(found),

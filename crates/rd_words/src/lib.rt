@@ -169,6 +169,7 @@ pub fn read_words<'a>(words: &'a [String]) -> Option<Command<'a>>
 /// A law: words ask for one thing at most.
 #[tactic(auto, using(crate::proofs::Exact::one_reading))]
 pub fn words_ask_for_one()
-    ensures { (words : Row (Row ℕ)) (reading : Reading) (other : Reading) → IsReading words reading →
+    ensures { (words : Row (Row ℕ)) (reading : Reading) (other : Reading) →
+        IsReading words reading →
         IsReading words other → reading ≡ other }
 {}
