@@ -1,5 +1,5 @@
-pub mod Answered
-pub mod Lengths
+pub mod Alike
+pub mod ByCommand
 mod Made
 pub mod Runs
 pub mod Told

@@ -12,7 +12,7 @@ use Rattle.rd_top.specs.Reports.{Reports}
 use Rattle.rd_top.specs.Making.{IsObjectFor, IsImageFor, IsLaid}
 use Rattle.rd_top.specs.Machines.{machine_course, shown_after, report_on}
 use Rattle.rd_top.specs.World.{World}
-use Rattle.rd_top.specs.Words.{Reading, Compile, Build, Lay, Run, Show, Watch}
+use Rattle.rd_words.specs.Words.{Reading, Compile, Build, Lay, Run, Show, Watch}
 
 -- nothing was taken, and nothing was put
 abbrev pub Untouched : World → World → Type 0

@@ -1,5 +1,4 @@
 pub mod Answers
-pub mod Asked
 pub mod Commands
 pub mod Courses
 pub mod Files
@@ -11,5 +10,4 @@ pub mod Program
 pub mod Puts
 pub mod Reports
 pub mod Telling
-pub mod Words
 pub mod World

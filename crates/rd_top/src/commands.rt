@@ -53,8 +53,8 @@ pub fn build_file<F: Files, O: Sink>(
     files: &mut F,
     out: &mut O,
 ) -> Answer
-    ensures means { Builds file.now slot_seed reg_seed layout_seed (F.told files.old) (F.told files.new)
-        (O.told out.old) (O.told out.new) result }
+    ensures means { Builds file.now slot_seed reg_seed layout_seed
+        (F.told files.old) (F.told files.new) (O.told out.old) (O.told out.new) result }
     ensures files { KeepsFiles (F.told files.old) (F.told files.new) result }
     ensures out { KeepsOut (O.told out.old) (O.told out.new) result }
 {
@@ -100,7 +100,8 @@ pub fn run_file<F: Files, I: Source, O: Sink>(
     input: &mut I,
     out: &mut O,
 ) -> Answer
-    ensures means { Runs file.now steps (world (F.told files.old) (I.told input.old) (O.told out.old))
+    ensures means { Runs file.now steps
+        (world (F.told files.old) (I.told input.old) (O.told out.old))
         (world (F.told files.new) (I.told input.new) (O.told out.new)) result }
     ensures keeps { KeepsCounts (world (F.told files.old) (I.told input.old) (O.told out.old))
         (world (F.told files.new) (I.told input.new) (O.told out.new)) result }
@@ -121,7 +122,8 @@ pub fn show_file<F: Files, I: Source, O: Sink>(
     input: &mut I,
     out: &mut O,
 ) -> Answer
-    ensures means { Shows file.now steps (world (F.told files.old) (I.told input.old) (O.told out.old))
+    ensures means { Shows file.now steps
+        (world (F.told files.old) (I.told input.old) (O.told out.old))
         (world (F.told files.new) (I.told input.new) (O.told out.new)) result }
     ensures keeps { KeepsCounts (world (F.told files.old) (I.told input.old) (O.told out.old))
         (world (F.told files.new) (I.told input.new) (O.told out.new)) result }
@@ -142,7 +144,8 @@ pub fn watch_file<F: Files, I: Source, O: Sink>(
     input: &mut I,
     out: &mut O,
 ) -> Answer
-    ensures means { Watches file.now script.now (world (F.told files.old) (I.told input.old) (O.told out.old))
+    ensures means { Watches file.now script.now
+        (world (F.told files.old) (I.told input.old) (O.told out.old))
         (world (F.told files.new) (I.told input.new) (O.told out.new)) result }
     ensures keeps { KeepsCounts (world (F.told files.old) (I.told input.old) (O.told out.old))
         (world (F.told files.new) (I.told input.new) (O.told out.new)) result }

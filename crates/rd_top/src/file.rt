@@ -33,7 +33,8 @@ pub fn read_file<V: FileKind, F: Files>(
     files: &mut F,
 ) -> Result<V, Answer>
     ensures taken { IfOk result (IsFileOf V.kind ((F.told files.old).held name.now)) }
-    ensures refused { IfErr result (NotTaken V.kind name.now (F.told files.old) (F.told files.new)) }
+    ensures refused { IfErr result
+        (NotTaken V.kind name.now (F.told files.old) (F.told files.new)) }
     ensures same { OnOk result (F.told files.new ≡ F.told files.old) }
     ensures kept { IfErr result (KeepsFiles (F.told files.old) (F.told files.new)) }
 {

@@ -7,25 +7,24 @@
 //!     read_main show FILE --steps N
 //!     read_main watch FILE --script FILE
 //!
-//! `words` reads the command line and `commands` does the work: over `file`, which reads a file of a
+//! `rd_words` reads the command line and `commands` does the work: over `file`, which reads a file of a
 //! kind, `put`, which puts a result at once, and `stream`, which puts a run's output as it comes.
-//! `answer` has the statuses with their lines. What a reading of words is stands in
-//! `specs/Words.antt`, what a command does to the outside in `specs/Commands.antt`, and what the
-//! whole program does in `specs/Program.antt`.
+//! `answer` has the statuses with their lines. What a command does to the outside stands in
+//! `specs/Commands.antt`, and what the whole program does in `specs/Program.antt`.
 #![tactic(auto)]
 
-ghost use Rattle.std.specs.Prelude.{map, string_bytes};
+ghost use Rattle.std.specs.Prelude.{Some, map, string_bytes};
+ghost use Rattle.rd_words.specs.Asked.{asked};
 ghost use Rattle.rd_top.specs.Commands.{Means};
-ghost use Rattle.rd_top.specs.Program.{IsAnswered};
+ghost use Rattle.rd_top.specs.Program.{IsAnswered, IsDone};
 ghost use Rattle.rd_top.specs.Telling.{Tells};
-ghost use Rattle.rd_top.specs.Words.{reading_of};
 ghost use Rattle.rd_top.specs.World.{KeepsCounts, world};
 
 use answer::{Answer, line, status};
 use commands::{build_file, compile_file, lay_file, run_file, show_file, watch_file};
 use rd_io::{Files, PutFail, Sink, Source};
+use rd_words::{Command, read_words};
 use std::alloc::Global;
-use words::{Command, read_words};
 
 pub mod answer;
 pub mod commands;
@@ -39,45 +38,57 @@ pub mod report;
 pub mod stream;
 #[cfg(test)]
 mod tests;
-pub mod words;
 
-/// Does what the words ask for; puts nothing on the sink for messages.
+/// Does what a command asks for; puts nothing on the sink for messages.
 fn work<F: Files, I: Source, O: Sink>(
+    alloc: Global,
+    command: Command,
+    files: &mut F,
+    input: &mut I,
+    out: &mut O,
+) -> Answer
+    ensures means { Means (Some (asked command.entry))
+        (world (F.told files.old) (I.told input.old) (O.told out.old))
+        (world (F.told files.new) (I.told input.new) (O.told out.new)) result }
+    ensures keeps { KeepsCounts (world (F.told files.old) (I.told input.old) (O.told out.old))
+        (world (F.told files.new) (I.told input.new) (O.told out.new)) result }
+{
+    match command {
+        Command::Compile {
+            file,
+            slot_seed,
+            reg_seed,
+        } => compile_file(alloc, file, slot_seed, reg_seed, files, out),
+        Command::Build {
+            file,
+            slot_seed,
+            reg_seed,
+            layout_seed,
+        } => build_file(alloc, file, slot_seed, reg_seed, layout_seed, files, out),
+        Command::Lay { file, layout_seed } => lay_file(alloc, file, layout_seed, files, out),
+        Command::Run { file, steps } => run_file(alloc, file, steps, files, input, out),
+        Command::Show { file, steps } => show_file(alloc, file, steps, files, input, out),
+        Command::Watch { file, script } => watch_file(alloc, file, script, files, input, out),
+    }
+}
+
+/// Does what the words ask for.
+fn answered<F: Files, I: Source, O: Sink>(
     alloc: Global,
     words: &[String],
     files: &mut F,
     input: &mut I,
     out: &mut O,
 ) -> Answer
-    ensures means { Means (reading_of (map string_bytes words.now))
+    ensures done { IsDone (map string_bytes words.now)
         (world (F.told files.old) (I.told input.old) (O.told out.old))
         (world (F.told files.new) (I.told input.new) (O.told out.new)) result }
     ensures keeps { KeepsCounts (world (F.told files.old) (I.told input.old) (O.told out.old))
         (world (F.told files.new) (I.told input.new) (O.told out.new)) result }
 {
     match read_words(words) {
+        Some(command) => work(alloc, command, files, input, out),
         None => Answer::Words,
-        Some(
-            Command::Compile {
-                file,
-                slot_seed,
-                reg_seed,
-            },
-        ) => compile_file(alloc, file, slot_seed, reg_seed, files, out),
-        Some(
-            Command::Build {
-                file,
-                slot_seed,
-                reg_seed,
-                layout_seed,
-            },
-        ) => build_file(alloc, file, slot_seed, reg_seed, layout_seed, files, out),
-        Some(Command::Lay { file, layout_seed }) => lay_file(alloc, file, layout_seed, files, out),
-        Some(Command::Run { file, steps }) => run_file(alloc, file, steps, files, input, out),
-        Some(Command::Show { file, steps }) => show_file(alloc, file, steps, files, input, out),
-        Some(Command::Watch { file, script }) => {
-            watch_file(alloc, file, script, files, input, out)
-        }
     }
 }
 
@@ -113,11 +124,11 @@ pub fn top<F: Files, I: Source, O: Sink, E: Sink>(
     out: &mut O,
     err: &mut E,
 ) -> u8
-    ensures { IsAnswered (reading_of (map string_bytes words.now))
+    ensures { IsAnswered (map string_bytes words.now)
         (world (F.told files.old) (I.told input.old) (O.told out.old))
         (world (F.told files.new) (I.told input.new) (O.told out.new))
         (E.told err.old) (E.told err.new) result }
 {
-    let answer = work(alloc, words, files, input, out);
+    let answer = answered(alloc, words, files, input, out);
     finish(alloc, &answer, err)
 }

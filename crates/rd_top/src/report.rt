@@ -74,7 +74,8 @@ pub fn reported<I: Source>(
 
 /// Puts the text on a run, or answers why there is none.
 pub fn put_report<O: Sink>(text: Result<List<u8>, RunFault>, out: &mut O) -> Answer
-    ensures reports { (course : Course) (n : ℕ) (text_on : Row ℕ → Row ℕ) (input input2 : SourceTold) →
+    ensures reports { (course : Course) (n : ℕ) (text_on : Row ℕ → Row ℕ)
+        (input input2 : SourceTold) →
         Reported course n text_on input input2 text →
         Reports course n text_on input input2 (O.told out.old) (O.told out.new) result }
     ensures input { (before : ℕ) (now : ℕ) → InputCharged before now text →

@@ -1,7 +1,7 @@
 use Rattle.std.proofs.Common.{sym, ◌∙◌}
 use Rattle.obj_core.specs.Layout.{layout}
 use Rattle.obj_lay.proofs.hidden.Images.{hidden_layout}
-use Rattle.rd_top.proofs.Answered.{answers_alike}
+use Rattle.rd_top.proofs.Alike.{answers_alike}
 use Rattle.rd_top.proofs.law.layouts_answer_the_same.Goals as goal
 
 pub returns : goal.returns

@@ -1,6 +1,6 @@
 use Rattle.std.proofs.Common.{ap, ◌∙◌}
 use Rattle.elf_file.specs.Elf.{elf_bytes}
-use Rattle.rd_top.proofs.Answered.{hides}
+use Rattle.rd_top.proofs.Alike.{hides}
 use Rattle.rd_top.proofs.making.laid_bytes.Goals as goal
 
 pub returns : goal.returns

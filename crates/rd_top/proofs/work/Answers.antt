@@ -1,0 +1,24 @@
+use Rattle.std.proofs.Common.{refl}
+use Rattle.rd_top.specs.World.{world}
+use Rattle.rd_top.proofs.ByCommand.{means_as}
+use Rattle.rd_top.proofs.work.Goals as goal
+
+pub returns-in-Compile-clause-means : goal.returns-in-Compile-clause-means
+returns-in-Compile-clause-means g c =
+    means_as c.args.command _ (world (g.F.Files.told c.args.files.now) (g.I.Source.told c.args.input.now) (g.O.Sink.told c.args.out.now))
+    (world (g.F.Files.told c.compile_file.new.files) (g.I.Source.told c.args.input.now) (g.O.Sink.told c.compile_file.new.out)) c.compile_file.result c.in-Compile.is (c.compile_file.ensures.means, refl)
+
+pub returns-in-Lay-clause-means : goal.returns-in-Lay-clause-means
+returns-in-Lay-clause-means g c =
+    means_as c.args.command _ (world (g.F.Files.told c.args.files.now) (g.I.Source.told c.args.input.now) (g.O.Sink.told c.args.out.now))
+    (world (g.F.Files.told c.lay_file.new.files) (g.I.Source.told c.args.input.now) (g.O.Sink.told c.lay_file.new.out)) c.lay_file.result c.in-Lay.is (c.lay_file.ensures.means, refl)
+
+pub returns-in-Show-clause-means : goal.returns-in-Show-clause-means
+returns-in-Show-clause-means g c =
+    means_as c.args.command _ (world (g.F.Files.told c.args.files.now) (g.I.Source.told c.args.input.now) (g.O.Sink.told c.args.out.now))
+    (world (g.F.Files.told c.show_file.new.files) (g.I.Source.told c.show_file.new.input) (g.O.Sink.told c.show_file.new.out)) c.show_file.result c.in-Show.is c.show_file.ensures.means
+
+pub returns-in-Watch-clause-means : goal.returns-in-Watch-clause-means
+returns-in-Watch-clause-means g c =
+    means_as c.args.command _ (world (g.F.Files.told c.args.files.now) (g.I.Source.told c.args.input.now) (g.O.Sink.told c.args.out.now))
+    (world (g.F.Files.told c.watch_file.new.files) (g.I.Source.told c.watch_file.new.input) (g.O.Sink.told c.watch_file.new.out)) c.watch_file.result c.in-Watch.is c.watch_file.ensures.means
