@@ -108,7 +108,7 @@ fn words_have_these_statuses(rt: HostRuntime) -> Result<(), Fail> {
         (&["compile"], 2),
         (&["compose", "m", "--slot-seed", "1", "--reg-seed", "2"], 2),
         (&["compile", "-m", "--slot-seed", "1", "--reg-seed", "2"], 2),
-        (&["compile", "m", "--reg-seed", "1", "--slot-seed", "2"], 2),
+        (&["compile", "--reg-seed=1", "m", "--slot-seed", "2"], 0),
         (&["compile", "m", "--slot-seed", "", "--reg-seed", "2"], 2),
         (&["compile", "m", "--slot-seed", "+1", "--reg-seed", "2"], 2),
         (
@@ -154,35 +154,39 @@ fn words_have_these_statuses(rt: HostRuntime) -> Result<(), Fail> {
 }
 
 #[test]
-fn texts_have_these_statuses(rt: HostRuntime) -> Result<(), Fail> {
-    let rows: [(&[u8], u8); 16] = [
-        (SEVEN, 0),
-        (b"", 4),
-        (b"define i32 @main() { ret i32 -2147483648 }", 0),
-        (b"define i32 @main() { ret i32 -2147483649 }", 4),
-        (b"define i32 @main() { ret i32 4294967295 }", 0),
-        (b"define i32 @main() { ret i32 4294967296 }", 4),
-        (b"define i32 @main() { ret i32 7 } ; seven", 4),
-        (b"define i32 @main() {\tret i32 7 }", 4),
-        (b"define i64 @main() { ret i64 7 }", 4),
-        (b"define i32 @other() { ret i32 7 }", 4),
-        (b"define i32 @main() { %a = add i32 1, 2 ret i32 %a }", 0),
-        (b"define i32 @main() { %a = sdiv i32 1, 2 ret i32 %a }", 4),
-        (b"define i32 @main() { %a = add i32 %a, 2 ret i32 %a }", 4),
+fn texts_have_these_lines(rt: HostRuntime) -> Result<(), Fail> {
+    let rows: [(&[u8], &[u8]); 19] = [
+        (SEVEN, b""),
+        (b"", b"later\n"),
+        (b"define i32 @main() { ret i32 -2147483648 }", b""),
+        (b"define i32 @main() { ret i32 -2147483649 }", b"later\n"),
+        (b"define i32 @main() { ret i32 4294967295 }", b""),
+        (b"define i32 @main() { ret i32 4294967296 }", b"later\n"),
+        (b"define i32 @main() {\tret i32 7 } ; seven", b""),
+        (b"define i64 @main() { ret i64 7 }", b"later\n"),
+        (b"define i32 @other() { ret i32 7 }", b"later\n"),
+        (b"define i32 @main() { %a = add nuw i32 1, 2 ret i32 %a }", b""),
+        (b"define i32 @main() { %a = sdiv i32 1, 2 ret i32 %a }", b"later\n"),
+        (b"define i32 @main() { %a = add i32 %a, 2 ret i32 %a }", b"later\n"),
         (
             b"define i32 @main() { %a = add i32 %b, 2 %b = add i32 1, 2 ret i32 %a }",
-            4,
+            b"later\n",
         ),
         (
             b"define i32 @main() { %a = add i32 1, 2 %a = add i32 1, 2 ret i32 %a }",
-            4,
+            b"later\n",
         ),
-        (b"define i32 @main() { %a = add i32 1, 2 ret i32 %b }", 4),
+        (b"define i32 @main() { %a = add i32 1, 2 ret i32 %b }", b"later\n"),
+        (b"define i32 @main() { ret i32 7", b"grammar 30\n"),
+        (b"define i32 @main() { ret i32 7, }", b"grammar 30\n"),
+        (b"define double @main() { ret double 7 }", b"unsupported 7 double\n"),
+        (b"define i32 @main() { ret i32 7 } ?", b"lex 33\n"),
     ];
-    for (text, want) in rows {
-        let (status, written) = ends_surely(rt.alloc(), ASKED, text)?;
-        assert_eq!(rt; status, want);
-        assert_eq!(rt; written == 0, want != 0);
+    for (text, line) in rows {
+        let left = run_surely(rt.alloc(), ASKED, text)?;
+        assert_eq!(rt; left.said.as_slice() == line, true);
+        assert_eq!(rt; left.status == 0, line.is_empty());
+        assert_eq!(rt; left.out.is_empty(), !line.is_empty());
     }
     Ok(())
 }
