@@ -1,12 +1,11 @@
 -- The whole of a text's tokens.
-use Rattle.std.proofs.Common.{◌≡◌, ℕ, ◌+◌, ◌-◌, ◌≤◌, List, [], ◌∷◌, ◌++◌, length, drop, length-append, arith, refl, sym, ◌∙◌, ap, subst, map}
+use Rattle.std.proofs.Common.{◌≡◌, ℕ, ◌-◌, ◌≤◌, List, [], ◌∷◌, ◌++◌, length, drop, length-append, arith, refl, sym, ◌∙◌, ap, subst}
 use Rattle.ir_lex.specs.declared.token.Token.{Token}
 use Rattle.ir_lex.specs.declared.token.TokenKind.{TokenKind}
 use Rattle.ir_core.specs.declared.module.Module.{Module}
 use Rattle.ir_grammar.specs.Tokens.{kinds}
 use Rattle.ir_grammar.specs.Grammar.{Derives, Viable, Stray}
 use Rattle.ir_grammar.specs.Reading.{done, fault, read}
-use Rattle.ir_grammar.proofs.Heads.{map-append}
 use Rattle.ir_grammar.proofs.Exact.{is_text, one_text, stray, stray_behind}
 use Rattle.ir_grammar.proofs.Rows.{length-kinds}
 use Rattle.ir_grammar.proofs.Texts.{viable_text}
@@ -14,7 +13,7 @@ use Rattle.ir_syntax.specs.ModuleText.{module_text}
 use Rattle.ir_syntax.proofs.FineModule.{fine-module_text}
 use Rattle.ir_parse.specs.declared.parse.ParseFault.{ParseFault}
 use Rattle.ir_parse.specs.declared.parse.ParseFault.TheVariants as why
-use Rattle.ir_parse.specs.Faults.{IsStrayBehind, Tells, Stops, Faults, AreOfText}
+use Rattle.ir_parse.specs.Faults.{Tells, Stops, Faults, AreOfText}
 
 -- tokens that are read to their end
 pub whole_text : (m : Module) (ts : List TokenKind) (rest : List Token) → read module_text ts ≡ done m (kinds rest) → length rest ≡ 0 → Derives module_text m ts
@@ -55,9 +54,9 @@ cut_of (t ∷ tokens) (k ∷ front) rest e =
     record { left = t ∷ c.left; right = c.right; whole = ap (λ x. t ∷ x) c.whole; left_is = (let same : t.kind ≡ k = cc in let l = c.left_is in cc); right_is = c.right_is; dropped = c.dropped }
 
 -- the rest that a number of tokens left leads to
-pub stray_stops : (tokens : List Token) (left end : ℕ) (fault : ParseFault) → AreOfText tokens end → Stray module_text (kinds tokens) left
-    → Tells (drop (length tokens - left) tokens) end fault → Stops tokens end fault
-stray_stops tokens left end fault (text, long, scans) s tells =
+pub stray_stops : (tokens : List Token) (left end : ℕ) (says : ParseFault) → AreOfText tokens end → Stray module_text (kinds tokens) left
+    → Tells (drop (length tokens - left) tokens) end says → Stops tokens end says
+stray_stops tokens left end says (text, long, scans) s tells =
     let c = cut_of tokens s.front s.rest s.cut in
     let l = ap length s.cut in
     let parts = length-append s.front s.rest in
@@ -74,12 +73,12 @@ stray_stops tokens left end fault (text, long, scans) s tells =
         dead = λ t behind other m next d.
             s.dead t.kind (kinds behind) other m (sym c.right_is ∙ ap kinds next) (subst (λ x. Derives module_text m (x ++ t.kind ∷ other)) c.left_is d);
       },
-      subst (λ x. Tells x end fault) here tells,
+      subst (λ x. Tells x end says) here tells,
     )
 
 -- what a fault says
-pub stray_fault : (tokens : List Token) (left end : ℕ) (fault : ParseFault) → AreOfText tokens end → Stray module_text (kinds tokens) left
-    → Tells (drop (length tokens - left) tokens) end fault → Faults tokens end fault
+pub stray_fault : (tokens : List Token) (left end : ℕ) (says : ParseFault) → AreOfText tokens end → Stray module_text (kinds tokens) left
+    → Tells (drop (length tokens - left) tokens) end says → Faults tokens end says
 stray_fault tokens left end (why.Grammar place) t s tells = stray_stops tokens left end (why.Grammar place) t s tells
 stray_fault tokens left end (why.Unsupported place word) t s tells = stray_stops tokens left end (why.Unsupported place word) t s tells
 stray_fault tokens left end why.NoMemory t s tells = tt
