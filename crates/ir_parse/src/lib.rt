@@ -17,3 +17,5 @@ pub mod laws;
 pub mod module;
 pub mod parse;
 pub mod terminator;
+#[cfg(test)]
+mod tests;
