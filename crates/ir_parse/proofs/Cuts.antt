@@ -1,14 +1,11 @@
 -- There is one first stray token.
-use Rattle.std.proofs.Common.{◌≡◌, ℕ, ◌⊎◌, true, false, List, [], ◌∷◌, ◌++◌, Option, Some, refl, sym, ◌∙◌, ap, subst, inl, inr, append_assoc}
+use Rattle.std.proofs.Common.{◌≡◌, ℕ, ◌⊎◌, true, false, List, [], ◌∷◌, ◌++◌, Some, refl, sym, ◌∙◌, ap, subst, inl, inr, append_assoc}
 use Rattle.ir_lex.specs.declared.token.Token.{Token}
-use Rattle.ir_lex.specs.declared.token.TokenKind.{TokenKind}
 use Rattle.ir_grammar.specs.Tokens.{kinds}
 use Rattle.ir_grammar.specs.Grammar.{Derives}
-use Rattle.ir_grammar.specs.Texts.{BeginsText}
 use Rattle.ir_grammar.proofs.Heads.{map-append}
 use Rattle.ir_syntax.specs.ModuleText.{module_text}
-use Rattle.ir_parse.specs.declared.parse.ParseFault.{ParseFault}
-use Rattle.ir_parse.specs.declared.parse.ParseFault.TheVariants.{Grammar, Unsupported, NoMemory}
+use Rattle.ir_parse.specs.declared.parse.ParseFault.TheVariants.{Grammar, Unsupported}
 use Rattle.ir_parse.specs.Faults.{IsStrayBehind, place_of, is_unsupported, word_of, Faults}
 
 -- a front goes further than another one, over the first token behind it

@@ -59,6 +59,7 @@ smallest = record {
       ∷ [];
 }
 
+-- these tokens say that module
 smallest_text : Derives module_text smallest smallest_tokens
 unfolding digits insts block labelled body declared_tail defined_tail define declared declare element simple_init array_init struct_init packed_init deep_init init_at init binary compare cast select freeze counted alloca_tail alloca load index index_rows indices gep entry entry_rows entries phi call_word call_head callee function_attribute call_attribute call_tail call op store void_callee void_call named_inst void_inst debug_inst inst source_item target_item type_item global_tail global_item attributes_item metadata_item item group metadata attach attaches align_tail module_text pattr param params declared_param declared_params arg args target ret br case switch unreachable ending term itype simple_type array_type plain_struct packed_struct struct_type type_at ty fields_type rtype const_value plain_value place_index place fixed_value value bin_word cast_word pred_word flag link convention parameter_word function_word
 smallest_text = is_text module_text fine-module_text smallest smallest_tokens refl
@@ -116,6 +117,7 @@ small = record {
       ∷ [];
 }
 
+-- these tokens say that module
 small_text : Derives module_text small small_tokens
 unfolding digits insts block labelled body declared_tail defined_tail define declared declare element simple_init array_init struct_init packed_init deep_init init_at init binary compare cast select freeze counted alloca_tail alloca load index index_rows indices gep entry entry_rows entries phi call_word call_head callee function_attribute call_attribute call_tail call op store void_callee void_call named_inst void_inst debug_inst inst source_item target_item type_item global_tail global_item attributes_item metadata_item item group metadata attach attaches align_tail module_text pattr param params declared_param declared_params arg args target ret br case switch unreachable ending term itype simple_type array_type plain_struct packed_struct struct_type type_at ty fields_type rtype const_value plain_value place_index place fixed_value value bin_word cast_word pred_word flag link convention parameter_word function_word
 small_text = is_text module_text fine-module_text small small_tokens refl
