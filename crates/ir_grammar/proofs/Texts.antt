@@ -34,6 +34,7 @@ no_run other (b ∷ run) rest e k =
     let q : false ≡ true = subst (λ x. is_run_byte x ≡ true) same passes in
     absurd (cc)
 
+-- a name ends before a line feed
 name_before : (sigil : ℕ) (name bytes rest other : List ℕ) → SpellsName sigil name bytes rest → SpellsName sigil name bytes (10 ∷ other)
 name_before sigil name bytes rest other (inl (e, run, may)) = inl (e, run_before name rest other run, may)
 name_before sigil name bytes rest other (inr q) = inr q
@@ -59,14 +60,17 @@ pub record IsSpelled (t : TokenKind) : Type 0 where
   pub rest : List ℕ
   pub spells : Spells t bytes rest
 
+-- each of some tokens is spelled
 abbrev pub AreSpelled : List TokenKind → Type 0
 AreSpelled [] = Unit {0}
 AreSpelled (t ∷ ts) = IsSpelled t × AreSpelled ts
 
+-- two rows of such tokens are one
 spelled-append : (ts us : List TokenKind) → AreSpelled ts → AreSpelled us → AreSpelled (ts ++ us)
 spelled-append [] us a b = b
 spelled-append (t ∷ ts) us (s, a) b = (s, spelled-append ts us a b)
 
+-- the front of such tokens is spelled too
 spelled_left : (ts us : List TokenKind) → AreSpelled (ts ++ us) → AreSpelled ts
 spelled_left [] us a = tt
 spelled_left (t ∷ ts) us (s, a) = (s, spelled_left ts us a)
@@ -84,11 +88,13 @@ abbrev pub respelled : (ts : List TokenKind) → AreSpelled ts → List Piece
 respelled [] a = []
 respelled (t ∷ ts) (s, a) = token t s.bytes ∷ separator 10 ∷ respelled ts a
 
+-- these pieces are a text's
 respelled_row : (ts : List TokenKind) (a : AreSpelled ts) → IsRow (respelled ts a) []
 unfolding is_separator
 respelled_row [] a = tt
 respelled_row (t ∷ ts) (s, a) = (respell t s.bytes s.rest (row_bytes (respelled ts a) ++ []) s.spells, (refl, respelled_row ts a))
 
+-- their tokens are the ones that were spelled
 respelled_kinds : (place : ℕ) (ts : List TokenKind) (a : AreSpelled ts) → kinds (tokens_from place (respelled ts a)) ≡ ts
 respelled_kinds place [] a = refl
 respelled_kinds place (t ∷ ts) (s, a) = ap (λ us. t ∷ us) (respelled_kinds (place + length s.bytes + 1) ts a)
@@ -98,6 +104,7 @@ word_byte_run : (b : ℕ) → is_word_byte b ≡ true → is_run_byte b ≡ true
 unfolding is_run_byte
 word_byte_run b e = grind (arith, nat_tests)
 
+-- so are small letters
 small_run : (b : ℕ) → is_ascii_lowercase b ≡ true → is_run_byte b ≡ true
 unfolding is_run_byte
 small_run b e = grind (arith, nat_tests)
@@ -106,6 +113,7 @@ small_run b e = grind (arith, nat_tests)
 small_digit : (b : ℕ) → is_ascii_lowercase b ≡ true → is_ascii_digit b ≡ true → ⊥
 small_digit b e f = grind (arith, nat_tests)
 
+-- and rows of them
 word_bytes_run : (bs : List ℕ) → list_all is_word_byte bs ≡ true → AllPass is_run_byte bs
 word_bytes_run [] e = All-nil (λ x. is_run_byte x ≡ true)
 word_bytes_run (b ∷ bs) e =
@@ -144,6 +152,7 @@ run_of b bs rest e stop quote =
 one_digit : (d : ℕ) → is_ascii_digit d ≡ true → AreDigits (d ∷ [])
 one_digit d e = record { filled = omega arith; few = omega arith; bytes = All-cons (λ x. is_ascii_digit x ≡ true) d [] e (All-nil (λ x. is_ascii_digit x ≡ true)) }
 
+-- a mark that can be spelled is punctuation
 mark_is : (m : ℕ) → is_spellable (mark m) ≡ true → IsTrue (is_mark m)
 unfolding is_mark
 mark_is m e = e
@@ -166,6 +175,7 @@ example_spelled meta_number e = record { bytes = codes "!0"; rest = 10 ∷ []; s
 example_spelled hash e = record { bytes = codes "#0"; rest = 10 ∷ []; spells = (refl, run_of 48 [] (10 ∷ []) refl refl refl) }
 example_spelled debug_hash e = record { bytes = codes "#dbg_a"; rest = 10 ∷ []; spells = (refl, plain_run (codes "dbg_a") refl) }
 
+-- rows of such examples
 examples_spelled : (ss : List Sort) → list_all is_spellable ss ≡ true → AreSpelled (map example ss)
 examples_spelled [] e = tt
 examples_spelled (s ∷ ss) e =

@@ -20,6 +20,7 @@ null (many g) = true
 null (nest o c) = false
 null (loop s g h) = true
 
+-- the sorts, where something may be empty
 abbrev pub where_null : Bool → List Sort → List Sort
 where_null true sorts = sorts
 where_null false sorts = []
@@ -44,10 +45,12 @@ next (many g) = next g ++ first g
 next (nest o c) = []
 next (loop s g h) = first s ++ (next g ++ next h)
 
+-- whether two lists have no sort in common
 abbrev pub apart : List Sort → List Sort → Bool
 apart [] ss = true
 apart (r ∷ rs) ss = not (has ss r) && apart rs ss
 
+-- whether a bracket closes a pair
 abbrev pub is_closing : Shape → Bool
 is_closing (Opens c) = false
 is_closing (Closes c) = true
@@ -78,6 +81,7 @@ abbrev pub ◌>>=◌ : {A B : Type 0} → Read A → (A → List TokenKind → R
 done a ts >>= f = f a ts
 fault n >>= f = fault n
 
+-- one token of these sorts, with its value
 abbrev pub read_one : {A : Type 0} → List Sort → (TokenKind → A) → List TokenKind → Read A
 read_one sorts f [] = fault 0
 read_one sorts f (t ∷ ts) = if has sorts (sort_of t) then done (f t) ts else fault (length (t ∷ ts))
@@ -111,21 +115,24 @@ read_rounds zero sorts r ts = done ([], None) ts
 read_rounds (suc n) sorts r ts =
     if starts sorts ts then (r ts >>= λ x us. unless_last x (λ vs. read_rounds n sorts r vs) us >>= λ y vs. done (with_round x y) vs) else done ([], None) ts
 
--- to the end of the groups that are open, with these closing marks
+-- what a token does to the brackets that are open: it opens one more, closes the last one, or neither
 abbrev pub by_shape : Shape → ℕ → List ℕ → ℕ → (List ℕ → Read (Unit {0})) → Read (Unit {0})
 by_shape (Opens d) c cs left go = go (d ∷ c ∷ cs)
 by_shape (Closes d) c cs left go = if d == c then go cs else fault left
 by_shape Plain c cs left go = go (c ∷ cs)
 
+-- to the end of the groups that are open, with these closing marks
 abbrev pub scan : List TokenKind → List ℕ → Read (Unit {0})
 scan ts [] = done tt ts
 scan [] (c ∷ cs) = fault 0
 scan (t ∷ ts) (c ∷ cs) = by_shape (shape_of t) c cs (length (t ∷ ts)) (λ marks. scan ts marks)
 
+-- a group with these two brackets
 abbrev pub read_nest : ℕ → ℕ → List TokenKind → Read (Unit {0})
 read_nest o c [] = fault 0
 read_nest o c (t ∷ ts) = if same_sort (mark o) (sort_of t) then scan ts (c ∷ []) else fault (length (t ∷ ts))
 
+-- what is read of tokens by a grammar
 abbrev pub read : {A : Type 0} → Grammar A → List TokenKind → Read A
 read (give a) ts = done a ts
 read (token s ss f) ts = read_one (s ∷ ss) f ts
@@ -145,6 +152,7 @@ ending (many g) = []
 ending (nest o c) = mark o ∷ mark c ∷ []
 ending (loop s g h) = []
 
+-- its value
 abbrev pub ending_value : {A : Type 0} → Grammar A → A
 ending_value (give a) = a
 ending_value (token s ss f) = f (example s)

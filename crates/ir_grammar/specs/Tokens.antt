@@ -31,6 +31,7 @@ abbrev pub is_count : ℤ → Bool
 is_count (pos n) = nat_lt n 4294967296
 is_count (negsuc n) = false
 
+-- whether a list begins with another one
 abbrev pub begins_with : List ℕ → List ℕ → Bool
 begins_with [] ys = true
 begins_with (x ∷ xs) [] = false
@@ -41,10 +42,12 @@ abbrev pub is_digits : List ℕ → Bool
 is_digits [] = false
 is_digits (b ∷ bs) = list_all is_ascii_digit (b ∷ bs)
 
+-- one of two sorts
 abbrev pub chosen : Bool → Sort → Sort → Sort
 chosen true s r = s
 chosen false s r = r
 
+-- the sort that a token is of
 abbrev pub sort_of : TokenKind → Sort
 sort_of (kind.Label name) = label
 sort_of (kind.CStr bytes) = cstr
@@ -74,9 +77,11 @@ example meta_number = kind.Meta (codes "0")
 example hash = kind.Hash (codes "0")
 example debug_hash = kind.Hash (codes "dbg_a")
 
+-- whether two words are one
 abbrev pub same_word : List ℕ → List ℕ → Bool
 same_word = pointwise ◌==◌
 
+-- whether two sorts are one
 abbrev pub same_sort : Sort → Sort → Bool
 same_sort (word v) (word w) = same_word v w
 same_sort (mark m) (mark n) = m == n
@@ -94,6 +99,7 @@ same_sort hash hash = true
 same_sort debug_hash debug_hash = true
 same_sort _ _ = false
 
+-- what tokens are, without their places
 abbrev pub kinds : List Token → List TokenKind
 kinds ts = map (λ t. t.kind) ts
 

@@ -4,6 +4,7 @@ use Rattle.ir_lex.specs.declared.token.Token.{Token}
 use Rattle.ir_lex.specs.Tokens.{Piece, separator, comment, token, row_bytes, IsRow, tokens_from}
 use Rattle.ir_lex.proofs.Rows.{ReadTo, token_filled}
 
+-- no more tokens than bytes of a row
 few_in_row : (place : ℕ) (pieces : List Piece) (rest : List ℕ) → IsRow pieces rest → length (tokens_from place pieces) ≤ length (row_bytes pieces)
 few_in_row place [] rest k = omega arith
 few_in_row place (separator b ∷ ps) rest (p, k) = let few = few_in_row (place + 1) ps rest k in omega arith

@@ -21,6 +21,7 @@ use Rattle.ir_syntax.specs.ModuleText.{types_in, globals_in, externs_in, functio
 use Rattle.ir_syntax.proofs.FineModule.{known-item, item-item}
 use Rattle.ir_parse.specs.Joined.{joined, put_items}
 
+-- what the items begin with, one kind after another
 pub first_source : first source_item ≡ word (codes "source_filename") ∷ []
 unfolding source_item
 first_source = refl
@@ -67,15 +68,19 @@ item_starts ts =
     (starts-append (local ∷ []) (globals ++ (ws ++ metas)) ts
     ∙ ap (λ b. starts (local ∷ []) ts || b) (starts-append globals (ws ++ metas) ts ∙ ap (λ b. starts globals ts || b) (starts-append ws metas ts))))
 
+-- one part more, behind others
 behind_parts : {A : Type 0} (xs ys zs : List A) → xs ++ (ys ++ zs) ≡ (xs ++ (ys ++ [])) ++ zs
 behind_parts xs ys zs = rw (append-nil ys) (sym (append_assoc xs ys zs))
 
+-- a module of its parts
 abbrev of_parts : List NamedTy → List GlobalVar → List Extern → List Function → Module
 of_parts types globals externs functions = record { types = types; globals = globals; externs = externs; functions = functions }
 
+-- modules with equal parts are equal
 same_module : (a b : List NamedTy) (c d : List GlobalVar) (e f : List Extern) (g h : List Function) → a ≡ b → c ≡ d → e ≡ f → g ≡ h → of_parts a c e g ≡ of_parts b d f h
 same_module a b c d e f g h p q r s = cc
 
+-- an item in front of a row is one behind the module
 items_step : (m : Module) (i : Item) (r : Read (List Item)) → put_items m (put_before (i ∷ []) r) ≡ put_items (joined m (module_of (i ∷ []))) r
 items_step m i (done is ts) =
     ap (λ (x : Module). done x ts)

@@ -1,8 +1,9 @@
 pub mod Calls
 pub mod Carried
+pub mod Cuts
 pub mod Firsts
-pub mod Loops
-pub mod Tails
-pub mod Present
 pub mod ItemRows
+pub mod Loops
+pub mod Present
+pub mod Tails
 pub mod Whole

@@ -23,6 +23,7 @@ inst_starts ts =
     ∙ (starts-append (local ∷ []) (words_from [] (codes "store tail notail call") ++ debug_hash ∷ []) ts
     ∙ ap (λ b. starts (local ∷ []) ts || b) (starts-append (words_from [] (codes "store tail notail call")) (debug_hash ∷ []) ts))
 
+-- one in front of a row is one behind those that were read
 present_step : (all : List Inst) (v : Option Inst) (r : Read (List (Option Inst))) → put_present all (put_before (v ∷ []) r) ≡ put_present (all ++ option_to_list v) r
 present_step all None (done is ts) = rw append-nil refl
 present_step all (Some i) (done is ts) = ap (λ (x : List Inst). done x ts) (sym (append_assoc all (i ∷ []) (flat_map option_to_list is)))

@@ -29,6 +29,7 @@ pub stray_behind_text : (m : Module) (ts : List TokenKind) (rest : List Token) �
 stray_behind_text m ts [] e some = absurd (some refl)
 stray_behind_text m ts (t ∷ rest) e some = subst (Stray module_text ts) (length-kinds (t ∷ rest)) (stray_behind module_text fine-module_text ts m t.kind (kinds rest) e)
 
+-- tokens are one module's at most
 pub one_module : (a b : Module) (ts : List TokenKind) → Derives module_text a ts → Derives module_text b ts → a ≡ b
 one_module a b ts d e = one_text module_text fine-module_text a b ts d e
 
@@ -46,6 +47,7 @@ record Cut (tokens : List Token) (front rest : List TokenKind) : Type 0 where
   right_is : kinds right ≡ rest
   dropped : drop (length front) tokens ≡ right
 
+-- each cut of the kinds is one of the tokens
 cut_of : (tokens : List Token) (front rest : List TokenKind) → kinds tokens ≡ front ++ rest → Cut tokens front rest
 cut_of tokens [] rest e = record { left = []; right = tokens; whole = refl; left_is = refl; right_is = e; dropped = refl }
 cut_of [] (k ∷ front) rest e = absurd (cc)

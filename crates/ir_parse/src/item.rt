@@ -91,7 +91,8 @@ fn global_tails<'a>(alloc: Global, tokens: &'a [Token]) -> Result<&'a [Token], S
 /// Whether a global is constant, and the tokens behind the word that says so.
 fn mutability<'a>(tokens: &'a [Token]) -> Result<(bool, &'a [Token]), Stop>
     ensures { Gives (λ x. done x.0 (kinds x.1.now)) result
-        (read (by_word (codes "global", false) ((codes "constant", true) ∷ [])) (kinds tokens.now)) }
+        (read (by_word (codes "global", false) ((codes "constant", true) ∷ []))
+        (kinds tokens.now)) }
 {
     if at_word(tokens, b"global") {
         let rest = word(tokens, b"global")?;

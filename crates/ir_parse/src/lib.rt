@@ -13,6 +13,9 @@ pub mod function;
 pub mod inst;
 pub mod instruction;
 pub mod item;
+pub mod laws;
 pub mod module;
 pub mod parse;
 pub mod terminator;
+#[cfg(test)]
+mod tests;

@@ -28,6 +28,7 @@ simple_level (suc n) ts s = rw s refl
 pub deep_level : (d n : ℕ) (ts : List TokenKind) → d ≡ n + 1 → starts (first simple_init) ts ≡ false → read (init_at d) ts ≡ read (deep_init (init_at n)) ts
 deep_level d n ts e s = level d n ts (omega arith) ∙ rw s refl
 
+-- four tests in a row
 or_four : (a b c d : Bool) → (a || b) || (c || d) ≡ a || (b || (c || d))
 or_four true b c d = refl
 or_four false b c d = refl

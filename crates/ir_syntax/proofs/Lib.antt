@@ -8,3 +8,4 @@ pub mod Skips
 pub mod Attributes
 pub mod Firsts
 pub mod NamedRows
+pub mod Worked

@@ -15,6 +15,7 @@ use Rattle.ir_syntax.specs.Parameters.{param, is_numbered, name_or, named_from, 
 use Rattle.ir_syntax.specs.Naming.{named_behind, with_one}
 use Rattle.ir_syntax.proofs.FineValues.{item-param}
 
+-- one in front of a row is one behind those that were named
 named_step : (all : List Param) (n : ℕ) (p : Written) (r : Read (List Written))
     → named_behind all n (put_before (p ∷ []) r) ≡ named_behind (with_one (record { named = all; numbered = n }) p).named (with_one (record { named = all; numbered = n }) p).numbered r
 named_step all n p (done ps ts) =
@@ -30,6 +31,7 @@ more_named ps p ts us one =
     sym (ap (named_behind ps.named ps.numbered) (sym (row ∙ put_none (read (many (behind_comma param)) (kinds ts))))
     ∙ named_step ps.named ps.numbered p (read (many (behind_comma param)) (kinds us)))
 
+-- one more at most
 few_by : (b : Bool) (n m : ℕ) → n ≤ m → (if b then suc n else n) ≤ suc m
 few_by true n m h = omega arith
 few_by false n m h = omega arith

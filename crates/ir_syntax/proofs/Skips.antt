@@ -7,6 +7,7 @@ use Rattle.ir_grammar.specs.Parts.{skip}
 use Rattle.ir_grammar.specs.Reading.{Read, done, fault, ◌>>=◌, read}
 use Rattle.ir_syntax.specs.Words.{one_of}
 
+-- values of a row that are let go
 forget : {A B : Type 0} (v : A) (b : B) (r : Read (List A)) → ((r >>= λ ws rest. done (v ∷ ws) rest) >>= λ _ rest. done b rest) ≡ (r >>= λ _ rest. done b rest)
 forget v b (done ws rest) = refl
 forget v b (fault left) = refl

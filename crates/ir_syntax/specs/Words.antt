@@ -35,6 +35,7 @@ by_word p (q ∷ ps) = either (token (word p.0) [] (λ _. p.1)) (by_word q ps)
 abbrev pub maybe : Grammar (Unit {0}) → Grammar (Unit {0})
 maybe g = either g (give tt)
 
+-- ","
 abbrev pub a_comma : Grammar (Unit {0})
 a_comma = the_mark 44
 
