@@ -40,7 +40,7 @@ is_fixed (r ∷ rs) [] = false
 is_fixed run (b ∷ bs) = if is_run_byte b then is_fixed (run ++ b ∷ []) bs else (begins_word run && (stands_alone b && is_fixed [] bs))
 
 -- what begins as a word is no number
-no_number : (b : ℕ) (bs : List ℕ) → begins_word (b ∷ bs) ≡ true → (n : ℤ) → ¬ (SpellsNumber n (b ∷ bs))
+pub no_number : (b : ℕ) (bs : List ℕ) → begins_word (b ∷ bs) ≡ true → (n : ℤ) → ¬ (SpellsNumber n (b ∷ bs))
 no_number b bs h n (digits, d, inl (e, v)) =
     let parts = and_parts (not (is_ascii_digit b)) (not (b == 45)) h in
     let first : is_ascii_digit b ≡ true = subst (λ (xs : List ℕ). (i d : ℕ) → i < length xs → is_ascii_digit (get_or xs i d) ≡ true) (sym e) d.bytes 0 0 (omega arith) in

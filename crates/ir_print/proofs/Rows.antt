@@ -1,0 +1,86 @@
+-- Rows of texts that read back: one behind another, behind commas, and in brackets.
+use Rattle.std.proofs.Common.{◌≡◌, ℕ, true, List, [], ◌∷◌, ◌++◌, refl, sym, ap, ◌∙◌, subst, map, append_assoc, Option, None, inl, inr, flat_map}
+use Rattle.std.specs.Prelude.{codes}
+use Rattle.ir_lex.specs.declared.token.TokenKind.{TokenKind}
+use Rattle.ir_lex.specs.declared.token.TokenKind.TheVariants.{Mark}
+use Rattle.ir_lex.specs.Tokens.{is_run_byte}
+use Rattle.ir_print.specs.Names.{after_commas, with_commas}
+use Rattle.ir_print.proofs.Scanning.{IsApart, Open, Parts, nothing, opened, closed_closed, closed_open, open_open}
+use Rattle.ir_print.proofs.Derivations.{Reads, Shut, Tight, Trails, given, value_open, value_trails, word_shut, word_tight, left_shut, right_shut, comma}
+use Rattle.ir_grammar.specs.Grammar.{Grammar, give, many, loop, Row, Derives, ◌▸◌, ◌▹◌}
+use Rattle.ir_grammar.specs.Parts.{the_mark, behind_comma, listed}
+
+-- each of several
+abbrev pub AllRead : {A : Type 0} → Grammar A → (A → List ℕ) → List A → Type 0
+AllRead g T [] = Unit {0}
+AllRead g T (x ∷ xs) = Reads g x (T x) × AllRead g T xs
+
+abbrev pub AllShut : {A : Type 0} → Grammar A → (A → List ℕ) → List A → Type 0
+AllShut g T [] = Unit {0}
+AllShut g T (x ∷ xs) = Shut g x (T x) × AllShut g T xs
+
+-- a comma is apart
+comma_parts : (f rest : List ℕ) → IsApart ((codes ", " ++ f) ++ rest)
+unfolding is_run_byte
+comma_parts f rest = record { run = refl; colon = refl; quote = refl }
+
+module _ {A : Type 0} (g : Grammar A) (T : A → List ℕ) where
+  -- one behind another
+  pub row_shut : (xs : List A) → AllShut g T xs → Shut (many g) xs (flat_map T xs)
+  row_shut [] all = record { ks = []; scan = nothing; derives = refl }
+  row_shut (x ∷ xs) all =
+      let more = row_shut xs all.1 in
+      record { ks = all.0.ks ++ more.ks; scan = closed_closed (T x) (flat_map T xs) all.0.ks more.ks all.0.scan more.scan; derives = (all.0.ks, more.ks, refl, all.0.derives, more.derives) }
+
+  -- behind commas
+  pub behind_commas : (xs : List A) → AllRead g T xs → Trails (many (behind_comma g)) xs (after_commas T xs)
+  unfolding after_commas
+  behind_commas [] all = record { reads = record { ks = []; scan = opened [] [] nothing; derives = refl }; parts = λ rest apart. apart }
+  behind_commas (x ∷ xs) all =
+      let more = behind_commas xs all.1 in
+      let first : Reads (behind_comma g) x (codes ", " ++ T x) = value_open (word_shut (given (λ (y : A). y)) comma.shut) all.0 in
+      record {
+        reads = record {
+          ks = first.ks ++ more.reads.ks;
+          scan = open_open (codes ", " ++ T x) (after_commas T xs) first.ks more.reads.ks first.scan more.parts more.reads.scan;
+          derives = (first.ks, more.reads.ks, refl, first.derives, more.reads.derives);
+        };
+        parts = λ rest apart. subst IsApart (sym (append_assoc (codes ", " ++ T x) (after_commas T xs) rest)) (comma_parts (T x) (after_commas T xs ++ rest));
+      }
+
+  -- the same, where something else may end them
+  pub behind_commas_alone : {B : Type 0} (h : Grammar B) (xs : List A) → AllRead g T xs → Trails (loop (the_mark 44) g h) (xs, None) (after_commas T xs)
+  unfolding after_commas
+  behind_commas_alone h [] all = record { reads = record { ks = []; scan = opened [] [] nothing; derives = ([], [], refl, refl, refl) }; parts = λ rest apart. apart }
+  behind_commas_alone h (x ∷ xs) all =
+      let more = behind_commas_alone h xs all.1 in
+      let a = comma.shut in
+      let first : Open (codes ", " ++ T x) (a.ks ++ all.0.ks) = closed_open (codes ", ") (T x) a.ks all.0.ks a.scan all.0.scan in
+      let d = more.reads.derives in
+      record {
+        reads = record {
+          ks = (a.ks ++ all.0.ks) ++ more.reads.ks;
+          scan = open_open (codes ", " ++ T x) (after_commas T xs) (a.ks ++ all.0.ks) more.reads.ks first more.parts more.reads.scan;
+          derives = ((a.ks ++ all.0.ks) ++ d.0, d.1, ap (λ k. (a.ks ++ all.0.ks) ++ k) d.2 ∙ sym (append_assoc (a.ks ++ all.0.ks) d.0 d.1), (a.ks ++ all.0.ks, d.0, refl, (a.ks, all.0.ks, refl, a.derives, all.0.derives), d.3), d.4);
+        };
+        parts = λ rest apart. subst IsApart (sym (append_assoc (codes ", " ++ T x) (after_commas T xs) rest)) (comma_parts (T x) (after_commas T xs ++ rest));
+      }
+
+  -- none, and a mark behind
+  pub listed_none : (close : ℕ) (t : List ℕ) → Shut (the_mark close) tt t → Shut (listed close g) [] t
+  listed_none close t x = left_shut (word_shut (given []) x)
+
+  -- some with commas between, and a mark behind
+  pub listed_some : (close : ℕ) (t : List ℕ) (x : A) (xs : List A) → AllRead g T (x ∷ xs) → Tight (the_mark close) tt t → Shut (listed close g) (x ∷ xs) (with_commas T (x ∷ xs) ++ t)
+  listed_some close t x xs all end = right_shut (word_tight (value_trails (value_open (given (λ (y : A) (ys : List A). y ∷ ys)) all.0) (behind_commas xs all.1)) end)
+
+  -- none or some, where the mark's text is the same for both
+  pub listed_any : (close : ℕ) (t : List ℕ) (xs : List A) → AllRead g T xs → Tight (the_mark close) tt t → Shut (listed close g) xs (with_commas T xs ++ t)
+  listed_any close t [] all end = listed_none close t end.shut
+  listed_any close t (x ∷ xs) all end = listed_some close t x xs all end
+
+-- the same of texts that stand in a list
+pub commas-map : {A : Type 0} (T : A → List ℕ) (xs : List A) → after_commas (λ (t : List ℕ). t) (map T xs) ≡ after_commas T xs
+unfolding after_commas
+commas-map T [] = refl
+commas-map T (x ∷ xs) = ap (λ t. (codes ", " ++ T x) ++ t) (commas-map T xs)
