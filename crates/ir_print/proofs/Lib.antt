@@ -4,4 +4,6 @@ mod Folds
 mod Literals
 mod Rows
 mod Scanning
+mod Singles
 mod Spelled
+mod TypesRead
