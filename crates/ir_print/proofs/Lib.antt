@@ -2,6 +2,7 @@ mod Commas
 mod Derivations
 mod Folds
 mod Literals
+mod Operands
 mod Rows
 mod Scanning
 mod Singles

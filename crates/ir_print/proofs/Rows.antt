@@ -1,6 +1,9 @@
 -- Rows of texts that read back: one behind another, behind commas, and in brackets.
-use Rattle.std.proofs.Common.{◌≡◌, ℕ, true, List, [], ◌∷◌, ◌++◌, refl, sym, ap, ◌∙◌, subst, map, append_assoc, Option, None, inl, inr, flat_map}
-use Rattle.std.specs.Prelude.{codes}
+use Rattle.std.proofs.Common.{◌≡◌, ℕ, ◌^◌, Bool, true, length, List, [], ◌∷◌, ◌++◌, refl, sym, ap, ◌∙◌, subst, map, append_assoc, Option, None, inl, inr, flat_map}
+use Rattle.std.specs.Prelude.{codes, nat_lt}
+use Rattle.std.specs.List.{list_all}
+use Rattle.std.proofs.lemmas.Bool.{and_parts}
+use Rattle.ir_core.specs.Built.{built_all}
 use Rattle.ir_lex.specs.declared.token.TokenKind.{TokenKind}
 use Rattle.ir_lex.specs.declared.token.TokenKind.TheVariants.{Mark}
 use Rattle.ir_lex.specs.Tokens.{is_run_byte}
@@ -23,6 +26,19 @@ AllShut g T (x ∷ xs) = Shut g x (T x) × AllShut g T xs
 comma_parts : (f rest : List ℕ) → IsApart ((codes ", " ++ f) ++ rest)
 unfolding is_run_byte
 comma_parts f rest = record { run = refl; colon = refl; quote = refl }
+
+-- each of those that pass
+pub all_reads : {A : Type 0} (g : Grammar A) (T : A → List ℕ) (test : A → Bool) → ((x : A) → test x ≡ true → Reads g x (T x)) → (xs : List A) → list_all test xs ≡ true → AllRead g T xs
+all_reads g T test go [] h = tt
+all_reads g T test go (x ∷ xs) h = let parts = and_parts (test x) (list_all test xs) h in (go x parts.0, all_reads g T test go xs parts.1)
+
+pub all_shut : {A : Type 0} (g : Grammar A) (T : A → List ℕ) (test : A → Bool) → ((x : A) → test x ≡ true → Shut g x (T x)) → (xs : List A) → list_all test xs ≡ true → AllShut g T xs
+all_shut g T test go [] h = tt
+all_shut g T test go (x ∷ xs) h = let parts = and_parts (test x) (list_all test xs) h in (go x parts.0, all_shut g T test go xs parts.1)
+
+-- the parts of what is built are built
+pub each_built : {A : Type 0} (test : A → Bool) (xs : List A) → built_all test xs ≡ true → list_all test xs ≡ true
+each_built test xs h = (and_parts (nat_lt (length xs) (2 ^ 32)) (list_all test xs) h).1
 
 module _ {A : Type 0} (g : Grammar A) (T : A → List ℕ) where
   -- one behind another

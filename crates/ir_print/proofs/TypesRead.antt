@@ -161,3 +161,53 @@ any_type = ind-Ty ReadsType (λ x y e. subst (λ z. ReadsType (roll-Ty z)) e (al
 pub type_reads : (t : Ty) → type_built t ≡ true → Reads ty t (type_text t)
 unfolding ty type_built
 type_reads t h = let parts = and_parts (parts_built t) (nat_le (text_depth t) MAX_NESTING) h in any_type t 64 (omega arith) parts.0 (leb-true (text_depth t) 64 parts.1)
+
+-- several types
+all_types : (n : ℕ) (ts : List Ty) → n ≤ 64 → list_all (λ b. b) (map parts_built ts) ≡ true → deepest (map text_depth ts) ≤ n → AllRead (type_at n) type_text ts
+all_types n [] low h d = tt
+all_types n (t ∷ ts) low h d =
+    let parts = and_parts (parts_built t) (list_all (λ b. b) (map parts_built ts)) h in
+    (any_type t n low parts.0 (omega arith), all_types n ts low parts.1 (omega arith))
+
+-- what a function gives may be void
+void_reads : Reads rtype Void (type_text Void)
+unfolding rtype is_run_byte
+void_reads =
+    same_open (sym (fold-roll-Ty (List ℕ) type_level Ty-F.Void) ∙ ap type_text rolls-Void)
+    (left_open (word_open (given Void) (read_word (codes "void") refl (at_word (codes "void") tt refl))))
+
+pub result_reads : (t : Ty) → result_built t ≡ true → Reads rtype t (type_text t)
+unfolding rtype
+result_reads t h = by (out-Ty t) refl h
+  where
+    by : (z : Ty-F Ty) → out-Ty t ≡ z → (is_void_at z || type_built t) ≡ true → Reads rtype t (type_text t)
+    by Ty-F.Void e k = subst (λ v. Reads rtype v (type_text v)) (sym rolls-Void ∙ ap roll-Ty (sym e) ∙ roll-out-Ty t) void_reads
+    by other e k = right_open (type_reads t k)
+
+-- the struct of a named type
+pub fields_reads : (t : Ty) → is_struct_at (out-Ty t) ≡ true → type_built t ≡ true → Shut fields_type t (type_text t)
+unfolding fields_type type_built
+fields_reads t struct h =
+    let parts = and_parts (parts_built t) (nat_le (text_depth t) MAX_NESTING) h in by (out-Ty t) (roll-out-Ty t) struct parts.0 (leb-true (text_depth t) 64 parts.1)
+  where
+    by : (z : Ty-F Ty) → roll-Ty z ≡ t → is_struct_at z ≡ true → parts_built t ≡ true → text_depth t ≤ 64 → Shut (struct_type (type_at 63)) t (type_text t)
+    by (Ty-F.Struct fs) e s b d =
+        let same : Struct fs ≡ t = sym (rolls-Struct fs) ∙ e in
+        let built : parts_built (roll-Ty (Ty-F.Struct fs)) ≡ true = ap parts_built e ∙ b in
+        let deep : text_depth (roll-Ty (Ty-F.Struct fs)) ≤ 64 = subst (λ v. text_depth v ≤ 64) (sym e) d in
+        let level = and_parts (nat_lt (length (map parts_built fs)) (2 ^ 32)) (list_all (λ b. b) (map parts_built fs)) (sym (fold-roll-Ty Bool parts_built_at (Ty-F.Struct fs)) ∙ built) in
+        let low : deeper (deepest (map text_depth fs)) ≤ 64 = subst (λ k. k ≤ 64) (fold-roll-Ty ℕ text_depth_at (Ty-F.Struct fs)) deep in
+        let text : braced (map type_text fs) ≡ type_text t = sym (fold-roll-Ty (List ℕ) type_level (Ty-F.Struct fs)) ∙ ap type_text e in
+        subst (λ v. Shut (struct_type (type_at 63)) v (type_text t)) same
+        (same_shut text (plain_at (type_at 63) (Struct fs) (braced (map type_text fs)) (plain_reads (type_at 63) fs (all_types 63 fs (omega arith) level.1 (omega arith)))))
+    by (Ty-F.Packed fs) e s b d =
+        let same : Packed fs ≡ t = sym (rolls-Packed fs) ∙ e in
+        let built : parts_built (roll-Ty (Ty-F.Packed fs)) ≡ true = ap parts_built e ∙ b in
+        let deep : text_depth (roll-Ty (Ty-F.Packed fs)) ≤ 64 = subst (λ v. text_depth v ≤ 64) (sym e) d in
+        let level = and_parts (nat_lt (length (map parts_built fs)) (2 ^ 32)) (list_all (λ b. b) (map parts_built fs)) (sym (fold-roll-Ty Bool parts_built_at (Ty-F.Packed fs)) ∙ built) in
+        let low : deeper (deepest (map text_depth fs)) ≤ 64 = subst (λ k. k ≤ 64) (fold-roll-Ty ℕ text_depth_at (Ty-F.Packed fs)) deep in
+        let whole : List ℕ = codes "<" ++ braced (map type_text fs) ++ codes ">" in
+        let text : whole ≡ type_text t = sym (fold-roll-Ty (List ℕ) type_level (Ty-F.Packed fs)) ∙ ap type_text e in
+        subst (λ v. Shut (struct_type (type_at 63)) v (type_text t)) same
+        (same_shut text (packed_at (type_at 63) (Packed fs) whole (packed_reads (type_at 63) fs (all_types 63 fs (omega arith) level.1 (omega arith)))))
+    by other e s b d = absurd (let f : false ≡ true = s in cc)
