@@ -1,6 +1,7 @@
 mod Commas
 mod Derivations
 mod Folds
+mod InitsRead
 mod Literals
 mod Operands
 mod Rows
