@@ -1,11 +1,16 @@
+mod BlocksRead
 mod Commas
 mod Derivations
+mod EndsRead
 mod Folds
 mod InitsRead
+mod InstsRead
 mod Literals
 mod Operands
+mod OpsRead
 mod Rows
 mod Scanning
 mod Singles
 mod Spelled
 mod TypesRead
+mod WordsRead

@@ -21,7 +21,7 @@ use Rattle.ir_print.specs.Names.{local_text, global_text, with_commas}
 use Rattle.ir_print.specs.Types.{type_text}
 use Rattle.ir_print.specs.Values.{literal_index_text, literal_indices_text, place_text, operand_text}
 use Rattle.ir_print.specs.Instructions.{typed_text, argument_text}
-use Rattle.ir_print.proofs.Derivations.{Reads, Shut, given, loose, value_open, value_shut, value_trails, word_shut, word_tight, skip_shut, left_open, right_open, same_shut, spaced, read_word, shut_word, shut_mark, tight, comma}
+use Rattle.ir_print.proofs.Derivations.{Reads, Tight, given, loose, value_open, value_shut, value_trails, word_shut, word_tight, skip_shut, left_open, right_open, same_shut, spaced, read_word, shut_word, shut_mark, tight, comma}
 use Rattle.ir_print.proofs.Rows.{all_reads, each_built, behind_commas, listed_any}
 use Rattle.ir_print.proofs.Singles.{at_word, local_reads, global_reads, int_reads}
 use Rattle.ir_print.proofs.TypesRead.{type_reads}
@@ -136,8 +136,9 @@ index_reads a h =
     value_open (spaced (value_open (given make_arg) (type_reads a.ty parts.0))) (operand_reads a.value parts.1)
 
 -- arguments in brackets
-pub args_read : (vs : List Arg) → built_all arg_built vs ≡ true → Shut args vs (codes "(" ++ (with_commas argument_text vs ++ codes ")"))
+pub args_read : (vs : List Arg) → built_all arg_built vs ≡ true → Tight args vs (codes "(" ++ (with_commas argument_text vs ++ codes ")"))
 unfolding args is_run_byte is_separator is_mark
 args_read vs h =
-    value_shut (word_shut (given (λ (xs : List Arg). xs)) (shut_mark 40 (codes "(") refl refl refl))
-    (listed_any arg argument_text 41 (codes ")") vs (all_reads arg argument_text arg_built arg_reads vs (each_built arg_built vs h)) (tight refl (shut_mark 41 (codes ")") refl refl refl)))
+    tight refl
+    (value_shut (word_shut (given (λ (xs : List Arg). xs)) (shut_mark 40 (codes "(") refl refl refl))
+    (listed_any arg argument_text 41 (codes ")") vs (all_reads arg argument_text arg_built arg_reads vs (each_built arg_built vs h)) (tight refl (shut_mark 41 (codes ")") refl refl refl))))

@@ -36,6 +36,24 @@ pub all_shut : {A : Type 0} (g : Grammar A) (T : A → List ℕ) (test : A → B
 all_shut g T test go [] h = tt
 all_shut g T test go (x ∷ xs) h = let parts = and_parts (test x) (list_all test xs) h in (go x parts.0, all_shut g T test go xs parts.1)
 
+-- a row of values that are made of those that pass
+pub row_made : {A B : Type 0} (g : Grammar A) (make : B → A) (T : B → List ℕ) (test : B → Bool) → ((y : B) → test y ≡ true → Shut g (make y) (T y)) → (ys : List B) → list_all test ys ≡ true → Shut (many g) (map make ys) (flat_map T ys)
+row_made g make T test go [] h = record { ks = []; scan = nothing; derives = refl }
+row_made g make T test go (y ∷ ys) h =
+    let parts = and_parts (test y) (list_all test ys) h in
+    let first = go y parts.0 in
+    let more = row_made g make T test go ys parts.1 in
+    record { ks = first.ks ++ more.ks; scan = closed_closed (T y) (flat_map T ys) first.ks more.ks first.scan more.scan; derives = (first.ks, more.ks, refl, first.derives, more.derives) }
+
+-- a row behind a row
+rows_derive : {A : Type 0} (g : Grammar A) (xs ys : List A) (us vs : List TokenKind) → Derives (many g) xs us → Derives (many g) ys vs → Derives (many g) (xs ++ ys) (us ++ vs)
+rows_derive g [] ys us vs d e = subst (λ (t : List TokenKind). Derives (many g) ys (t ++ vs)) (sym d) e
+rows_derive g (x ∷ xs) ys us vs d e = (d.0, d.1 ++ vs, ap (λ (t : List TokenKind). t ++ vs) d.2 ∙ append_assoc d.0 d.1 vs, d.3, rows_derive g xs ys d.1 vs d.4 e)
+
+pub rows_shut : {A : Type 0} {g : Grammar A} {xs ys : List A} {s t : List ℕ} → Shut (many g) xs s → Shut (many g) ys t → Shut (many g) (xs ++ ys) (s ++ t)
+rows_shut {g = g} {xs = xs} {ys = ys} {s = s} {t = t} x y =
+    record { ks = x.ks ++ y.ks; scan = closed_closed s t x.ks y.ks x.scan y.scan; derives = rows_derive g xs ys x.ks y.ks x.derives y.derives }
+
 -- the parts of what is built are built
 pub each_built : {A : Type 0} (test : A → Bool) (xs : List A) → built_all test xs ≡ true → list_all test xs ≡ true
 each_built test xs h = (and_parts (nat_lt (length xs) (2 ^ 32)) (list_all test xs) h).1
