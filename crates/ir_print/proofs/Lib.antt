@@ -5,6 +5,7 @@ mod EndsRead
 mod Folds
 mod InitsRead
 mod InstsRead
+mod ItemsRead
 mod Literals
 mod Operands
 mod OpsRead
@@ -13,4 +14,5 @@ mod Scanning
 mod Singles
 mod Spelled
 mod TypesRead
+mod Whole
 mod WordsRead
