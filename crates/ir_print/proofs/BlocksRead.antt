@@ -1,5 +1,5 @@
 -- Blocks, parameters, functions and declarations read back.
-use Rattle.std.proofs.Common.{◌≡◌, ℕ, suc, ◌^◌, Bool, true, false, List, [], ◌∷◌, ◌++◌, Option, Some, None, refl, sym, ap, ◌∙◌, subst, append_assoc, map, flat_map, length, inr}
+use Rattle.std.proofs.Common.{◌≡◌, ℕ, suc, true, false, List, [], ◌∷◌, ◌++◌, Option, Some, None, refl, sym, ap, ◌∙◌, subst, append_assoc, map, flat_map, inr}
 use Rattle.std.specs.Prelude.{codes, decimal, not, ◌&&◌, option_to_list, if◌then◌else◌}
 use Rattle.std.specs.List.{list_all}
 use Rattle.std.proofs.lemmas.Bool.{and_parts}
@@ -12,27 +12,25 @@ use Rattle.ir_core.specs.declared.module.Function.{Function}
 use Rattle.ir_core.specs.declared.module.Extern.{Extern}
 use Rattle.ir_core.specs.Built.{name_built, type_built, result_built, built_all, is_debug_name, inst_built, end_built, block_built, blocks_built, param_built, function_built, extern_built}
 use Rattle.ir_lex.specs.Tokens.{is_run_byte, is_separator, is_mark}
-use Rattle.ir_grammar.specs.Grammar.{Grammar, give, many, optional, Derives, ◌▸◌}
+use Rattle.ir_grammar.specs.Grammar.{optional, Derives}
 use Rattle.ir_grammar.specs.Tokens.{local, is_digits}
-use Rattle.ir_grammar.specs.Parts.{skip, a_label}
+use Rattle.ir_grammar.specs.Parts.{a_label}
 use Rattle.ir_syntax.specs.declared.item.Item.{Item}
 use Rattle.ir_syntax.specs.declared.item.Item.TheVariants as item_of
 use Rattle.ir_syntax.specs.declared.parameter.Written.{Written}
 use Rattle.ir_syntax.specs.declared.parameter.NamedParams.{NamedParams}
 use Rattle.ir_syntax.specs.Words.{link, maybe, one_of}
-use Rattle.ir_syntax.specs.Types.{ty}
 use Rattle.ir_syntax.specs.Metadata.{attach}
-use Rattle.ir_syntax.specs.Parameters.{pattr, param, params, declared_param, declared_params, naming, named_from, is_numbered, name_or}
+use Rattle.ir_syntax.specs.Parameters.{pattr, param, params, declared_param, declared_params, naming, named_from, name_or}
 use Rattle.ir_syntax.specs.Instructions.{inst}
-use Rattle.ir_syntax.specs.Terminators.{term}
 use Rattle.ir_syntax.specs.Functions.{insts, block, labelled, body, declared_tail, defined_tail, define, declared, declare}
 use Rattle.ir_print.specs.Names.{local_text, global_text, label_text, after_commas, with_commas}
 use Rattle.ir_print.specs.Types.{type_text}
 use Rattle.ir_print.specs.Instructions.{inst_text}
 use Rattle.ir_print.specs.Terminators.{end_text}
 use Rattle.ir_print.specs.Canonical.{parameter_text, block_text, function_text, extern_text}
-use Rattle.ir_print.proofs.Derivations.{Reads, Shut, Tight, given, loose, value_open, value_shut, value_tight, word_shut, word_tight, none_open, skip_open, skip_shut, left_open, right_open, left_shut, right_shut, same_open, same_shut, gap_shut, spaced, shut_word, shut_mark, tight}
-use Rattle.ir_print.proofs.Rows.{AllRead, AllShut, all_reads, all_shut, each_built, row_shut, row_made, listed_any}
+use Rattle.ir_print.proofs.Derivations.{Reads, Shut, Tight, given, value_open, value_shut, value_tight, word_shut, none_open, skip_open, skip_shut, left_open, left_shut, right_shut, same_shut, gap_shut, spaced, shut_word, shut_mark, tight}
+use Rattle.ir_print.proofs.Rows.{AllRead, all_reads, all_shut, each_built, row_shut, row_made, listed_any}
 use Rattle.ir_print.proofs.Singles.{local_reads, label_reads, global_reads, plain_global_reads}
 use Rattle.ir_print.proofs.TypesRead.{type_reads, result_reads}
 use Rattle.ir_print.proofs.InstsRead.{inst_reads, call_groups}

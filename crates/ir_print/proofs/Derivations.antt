@@ -1,5 +1,5 @@
 -- Texts that read back, part behind part: a text with the tokens that derive its value.
-use Rattle.std.proofs.Common.{◌≡◌, ℕ, ◌<◌, Bool, true, false, List, [], ◌∷◌, ◌++◌, length, refl, sym, ap, ◌∙◌, subst, map, append_assoc, Option, Some, None, inl, inr, arith, flat_map}
+use Rattle.std.proofs.Common.{◌≡◌, ℕ, Bool, true, false, List, [], ◌∷◌, ◌++◌, refl, sym, subst, inl, inr, arith}
 use Rattle.std.proofs.lemmas.Bool.{and_parts}
 use Rattle.std.proofs.lemmas.List.{append-nil}
 use Rattle.std.proofs.lemmas.List.Sums.{AllPass-from_list_all}
@@ -11,7 +11,7 @@ use Rattle.ir_lex.specs.Tokens.{is_run_byte, is_separator, is_mark, token as pie
 use Rattle.ir_grammar.specs.Tokens.{mark, word, has}
 use Rattle.ir_print.proofs.Scanning.{kinds_in, IsApart, Open, Closed, Parts, nothing, opened, closed_closed, closed_open, open_open, open_closed}
 use Rattle.ir_print.proofs.Literals.{fixed, is_fixed, split, begins_word, no_number}
-use Rattle.ir_grammar.specs.Grammar.{Grammar, give, token, both, either, many, Derives, ◌▸◌, ◌▹◌}
+use Rattle.ir_grammar.specs.Grammar.{Grammar, give, both, either, Derives, ◌▸◌, ◌▹◌}
 use Rattle.ir_grammar.specs.Parts.{the_word, the_mark, skip}
 
 -- the text is the value's, whatever is apart behind it

@@ -1,5 +1,5 @@
 -- Terminators read back.
-use Rattle.std.proofs.Common.{◌≡◌, ℕ, Bool, true, false, List, [], ◌∷◌, ◌++◌, refl, sym, ap, ◌∙◌, append_assoc, flat_map}
+use Rattle.std.proofs.Common.{◌≡◌, ℕ, true, List, ◌++◌, refl}
 use Rattle.std.specs.Prelude.{codes, ◌&&◌}
 use Rattle.std.proofs.lemmas.Bool.{and_parts}
 use Rattle.ir_core.specs.declared.ty.Ty.{Ty}
@@ -9,15 +9,12 @@ use Rattle.ir_core.specs.declared.instruction.Term.TheVariants.{Ret, RetValue, B
 use Rattle.ir_core.specs.declared.instruction.Case.{Case}
 use Rattle.ir_core.specs.Built.{name_built, type_built, built_all, operand_built, typed_built, case_value_built, case_built, end_built}
 use Rattle.ir_lex.specs.Tokens.{is_run_byte, is_separator, is_mark}
-use Rattle.ir_grammar.specs.Grammar.{many}
 use Rattle.ir_syntax.specs.Metadata.{attaches}
 use Rattle.ir_syntax.specs.Terminators.{target, ret, br, case, switch, unreachable, ending, term}
-use Rattle.ir_print.specs.Names.{local_text}
-use Rattle.ir_print.specs.Types.{type_text}
 use Rattle.ir_print.specs.Values.{operand_text}
 use Rattle.ir_print.specs.Instructions.{typed_text}
 use Rattle.ir_print.specs.Terminators.{target_text, case_text, term_text, end_text}
-use Rattle.ir_print.proofs.Derivations.{Reads, Shut, given, loose, value_open, value_shut, word_open, word_shut, word_tight, none_open, left_open, right_open, same_open, spaced, lined, indented, read_word, shut_word, shut_mark, tight, comma}
+use Rattle.ir_print.proofs.Derivations.{Reads, Shut, given, loose, value_open, value_shut, word_open, word_shut, word_tight, none_open, left_open, right_open, spaced, lined, indented, read_word, shut_word, shut_mark, tight, comma}
 use Rattle.ir_print.proofs.Rows.{all_shut, each_built, row_shut}
 use Rattle.ir_print.proofs.Singles.{at_word, local_reads}
 use Rattle.ir_print.proofs.TypesRead.{type_reads}

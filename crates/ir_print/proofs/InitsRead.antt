@@ -1,6 +1,6 @@
 -- Initialisers read back at every level that holds them.
-use Rattle.std.proofs.Common.{◌≡◌, ℕ, zero, suc, ◌+◌, ◌<◌, ◌≤◌, ◌^◌, Bool, true, false, List, [], ◌∷◌, ◌++◌, length, map, refl, sym, ap, ◌∙◌, subst, arith}
-use Rattle.std.specs.Prelude.{codes, nat_lt, nat_le, ◌&&◌, max}
+use Rattle.std.proofs.Common.{◌≡◌, ℕ, zero, suc, ◌≤◌, ◌^◌, Bool, true, List, [], ◌∷◌, ◌++◌, length, map, refl, sym, ap, ◌∙◌, subst, arith}
+use Rattle.std.specs.Prelude.{codes, nat_lt, nat_le, ◌&&◌}
 use Rattle.std.specs.List.{list_all}
 use Rattle.std.proofs.lemmas.Bool.{and_parts, leb-true}
 use denote.Hole.Holds.{Such}
@@ -13,7 +13,7 @@ use Rattle.ir_core.specs.declared.init.Init.TheBlock.{the_family, member-Init, m
 use Rattle.ir_core.specs.declared.init.Init.TheFolds.{claims, map-Init, map-Elem}
 use Rattle.ir_core.specs.declared.init.Elem.{Elem, fold-Elem, roll-Elem, fold-roll-Elem}
 use Rattle.ir_core.specs.declared.limit.TheConstants.{MAX_NESTING}
-use Rattle.ir_core.specs.Counts.{deeper, deepest}
+use Rattle.ir_core.specs.Counts.{deepest}
 use Rattle.ir_core.specs.Built.{type_built, value_built, init_built_at, init_depth_at, init_built}
 use Rattle.ir_lex.specs.Tokens.{is_run_byte, is_separator, is_mark}
 use Rattle.ir_grammar.specs.Grammar.{Grammar}

@@ -1,6 +1,6 @@
 -- Instructions read back, a line each.
-use Rattle.std.proofs.Common.{◌≡◌, ℕ, Bool, true, false, List, [], ◌∷◌, ◌++◌, Option, Some, None, refl, sym, ap, ◌∙◌, append_assoc, map, flat_map}
-use Rattle.std.specs.Prelude.{codes, not, ◌&&◌, option_to_list}
+use Rattle.std.proofs.Common.{◌≡◌, ℕ, Bool, true, false, List, [], ◌++◌, Option, Some, None, refl, sym, ◌∙◌, append_assoc}
+use Rattle.std.specs.Prelude.{codes, not, ◌&&◌}
 use Rattle.std.proofs.lemmas.Bool.{and_parts}
 use Rattle.ir_core.specs.declared.ty.Ty.{Ty}
 use Rattle.ir_core.specs.declared.operand.Operand.{Operand}
@@ -20,7 +20,7 @@ use Rattle.ir_print.specs.Names.{local_text, with_commas}
 use Rattle.ir_print.specs.Types.{type_text}
 use Rattle.ir_print.specs.Values.{operand_text}
 use Rattle.ir_print.specs.Instructions.{argument_text, op_text, result_text, inst_text}
-use Rattle.ir_print.proofs.Derivations.{Reads, Shut, given, loose, value_open, value_shut, value_tight, word_shut, word_tight, none_shut, skipped_none, skip_shut, left_open, right_open, left_shut, right_shut, same_open, same_shut, spaced, lined, indented, shut_word, shut_mark, tight}
+use Rattle.ir_print.proofs.Derivations.{Reads, Shut, given, loose, value_open, value_shut, value_tight, word_shut, word_tight, none_shut, skipped_none, skip_shut, left_open, right_open, right_shut, same_shut, spaced, lined, indented, shut_word, shut_mark, tight}
 use Rattle.ir_print.proofs.Singles.{local_reads, plain_global_reads}
 use Rattle.ir_print.proofs.TypesRead.{result_reads}
 use Rattle.ir_print.proofs.Operands.{args_read}

@@ -1,5 +1,5 @@
 -- The lines and functions of a module read back, each as an item.
-use Rattle.std.proofs.Common.{◌≡◌, ℕ, Bool, true, false, List, [], ◌∷◌, ◌++◌, refl, sym, ap, ◌∙◌, append_assoc, inl, inr}
+use Rattle.std.proofs.Common.{◌≡◌, ℕ, Bool, true, false, List, [], ◌∷◌, ◌++◌, refl, sym, ap, append_assoc, inl, inr}
 use Rattle.std.specs.Prelude.{codes, ◌&&◌}
 use Rattle.std.proofs.lemmas.Bool.{and_parts}
 use Rattle.ir_core.specs.declared.ty.Ty.{Ty, out-Ty}

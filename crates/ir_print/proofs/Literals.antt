@@ -1,13 +1,12 @@
 -- The fixed words of a text: letters, spaces, line feeds and punctuation.
-use Rattle.std.proofs.Common.{◌≡◌, ℕ, ◌<◌, Bool, true, false, List, [], ◌∷◌, ◌++◌, length, get_or, refl, sym, ap, ◌∙◌, subst, append_assoc, arith, ℤ, cond, ◌⊎◌, inl, inr}
+use Rattle.std.proofs.Common.{◌≡◌, ℕ, ◌<◌, Bool, true, false, List, [], ◌∷◌, ◌++◌, length, get_or, refl, sym, ap, ◌∙◌, subst, append_assoc, arith, ℤ, inl, inr}
 use Rattle.std.specs.Prelude.{◌&&◌, ◌||◌, not, ◌==◌, if◌then◌else◌, codes}
 use Rattle.std.specs.List.{list_all}
 use Rattle.std.specs.Char.{is_ascii_digit}
 use Rattle.std.proofs.lemmas.Bool.{and_parts, and_from}
 use Rattle.std.proofs.lemmas.List.Sums.{AllPass-from_list_all}
-use Rattle.ir_lex.specs.declared.token.TokenKind.{TokenKind}
 use Rattle.ir_lex.specs.declared.token.TokenKind.TheVariants.{Word, Mark}
-use Rattle.ir_lex.specs.Tokens.{is_run_byte, is_separator, is_mark, begins, starts, IsRun, SpellsNumber, Piece, separator, token, piece_bytes, row_bytes, IsPiece, IsRow}
+use Rattle.ir_lex.specs.Tokens.{is_run_byte, is_separator, is_mark, SpellsNumber, Piece, separator, token, piece_bytes, row_bytes, IsPiece, IsRow}
 use Rattle.ir_print.proofs.Scanning.{kinds_in, Closed}
 
 -- the first byte is neither a digit nor a `-`, so it is no number

@@ -1,5 +1,5 @@
 -- Operands read back, and types with operands behind them.
-use Rattle.std.proofs.Common.{◌≡◌, ℕ, Bool as Truth, true, false, List, [], ◌∷◌, ◌++◌, refl, sym, ap, ◌∙◌, append_assoc, inl, inr, ℤ}
+use Rattle.std.proofs.Common.{◌≡◌, ℕ, true, false, List, ◌++◌, refl, ap, append_assoc, inl, inr, ℤ}
 use Rattle.std.specs.Prelude.{codes, ◌&&◌}
 use Rattle.std.specs.Fmt.{signed_decimal}
 use Rattle.std.proofs.lemmas.Bool.{and_parts}
@@ -9,15 +9,13 @@ use Rattle.ir_core.specs.declared.operand.Operand.TheVariants.{Int, Bool, Null, 
 use Rattle.ir_core.specs.declared.operand.Place0.{Place0}
 use Rattle.ir_core.specs.declared.operand.Index0.{Index0}
 use Rattle.ir_core.specs.declared.instruction.Arg.{Arg}
-use Rattle.ir_core.specs.Built.{name_built, int_built, type_built, built_all, index_built, operand_built, value_built, case_value_built, typed_built, arg_built}
+use Rattle.ir_core.specs.Built.{name_built, int_built, type_built, built_all, index_built, operand_built, value_built, case_value_built, arg_built}
 use Rattle.ir_lex.specs.Tokens.{is_run_byte, is_separator, is_mark}
-use Rattle.ir_grammar.specs.Grammar.{Grammar}
-use Rattle.ir_syntax.specs.Types.{ty}
 use Rattle.ir_syntax.specs.Words.{flag}
 use Rattle.ir_syntax.specs.Values.{const_value, plain_value, place_index, place, fixed_value, value}
 use Rattle.ir_syntax.specs.Parameters.{pattr, arg, args}
 use Rattle.ir_syntax.specs.Instructions.{index}
-use Rattle.ir_print.specs.Names.{local_text, global_text, with_commas}
+use Rattle.ir_print.specs.Names.{global_text, with_commas}
 use Rattle.ir_print.specs.Types.{type_text}
 use Rattle.ir_print.specs.Values.{literal_index_text, literal_indices_text, place_text, operand_text}
 use Rattle.ir_print.specs.Instructions.{typed_text, argument_text}

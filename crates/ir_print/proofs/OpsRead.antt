@@ -1,40 +1,37 @@
 -- Operations read back.
-use Rattle.std.proofs.Common.{◌≡◌, ℕ, ◌^◌, Bool, true, false, List, [], ◌∷◌, ◌++◌, Option, None, refl, sym, ap, ◌∙◌, append_assoc, inl, inr}
-use Rattle.std.specs.Prelude.{codes, decimal, nat_lt, not, ◌&&◌}
+use Rattle.std.proofs.Common.{◌≡◌, ℕ, ◌^◌, true, false, List, [], ◌∷◌, ◌++◌, Option, refl, sym, ap, ◌∙◌, append_assoc, inl, inr}
+use Rattle.std.specs.Prelude.{codes, decimal, nat_lt, ◌&&◌}
 use Rattle.std.proofs.lemmas.Bool.{and_parts}
 use Rattle.rd_num.specs.declared.width.Width.TheVariants.{W32}
 use Rattle.ir_core.specs.declared.ty.Ty.{Ty}
 use Rattle.ir_core.specs.declared.ty.Ty.TheVariants as type_of
 use Rattle.ir_core.specs.declared.operand.Operand.{Operand}
-use Rattle.ir_core.specs.declared.operand.Operand.TheVariants as operand
 use Rattle.ir_core.specs.declared.instruction.BinOp.{BinOp}
 use Rattle.ir_core.specs.declared.instruction.Pred.{Pred}
 use Rattle.ir_core.specs.declared.instruction.CastOp.{CastOp}
-use Rattle.ir_core.specs.declared.instruction.Op.{Op}
-use Rattle.ir_core.specs.declared.instruction.Op.TheVariants.{Bin, Compare, Cast, Select, Freeze, Alloca, Load, Store, Gep, Phi, Call}
+use Rattle.ir_core.specs.declared.instruction.Op.TheVariants.{Bin, Compare, Cast, Select, Freeze, Alloca, Load, Store, Gep, Phi}
 use Rattle.ir_core.specs.declared.instruction.Arg.{Arg}
 use Rattle.ir_core.specs.declared.instruction.Entry.{Entry}
-use Rattle.ir_core.specs.Built.{name_built, type_built, result_built, built_all, operand_built, typed_built, arg_built, entry_built, entries_built, callee_built, is_debug_name, op_built}
+use Rattle.ir_core.specs.Built.{name_built, type_built, built_all, operand_built, typed_built, arg_built, entry_built, entries_built, op_built}
 use Rattle.ir_lex.specs.declared.token.TokenKind.TheVariants.{Word}
 use Rattle.ir_lex.specs.Tokens.{is_run_byte, is_separator, is_mark}
 use Rattle.std.specs.List.{list_all}
-use Rattle.ir_grammar.specs.Grammar.{Grammar, give, Derives, ◌▸◌, ◌▹◌}
+use Rattle.ir_grammar.specs.Grammar.{Grammar, Derives, ◌▸◌, ◌▹◌}
 use Rattle.ir_grammar.specs.Parts.{the_word, the_mark, behind_comma}
-use Rattle.ir_syntax.specs.Words.{flag, convention, bin_word, maybe}
-use Rattle.ir_syntax.specs.Types.{ty, itype, rtype}
+use Rattle.ir_syntax.specs.Words.{flag, maybe}
+use Rattle.ir_syntax.specs.Types.{ty, itype}
 use Rattle.ir_syntax.specs.Values.{value}
 use Rattle.ir_syntax.specs.Metadata.{attach, attaches, align_tail}
-use Rattle.ir_syntax.specs.Parameters.{pattr}
-use Rattle.ir_syntax.specs.Instructions.{binary, compare, cast, select, freeze, counted, alloca_tail, alloca, load, index, index_rows, indices, gep, entry, entry_rows, entries, phi, call_word, call_head, callee, call_attribute, call_tail, call, store}
-use Rattle.ir_print.specs.Names.{local_text, with_commas}
+use Rattle.ir_syntax.specs.Instructions.{binary, compare, cast, select, freeze, counted, alloca_tail, alloca, load, index, index_rows, indices, gep, entry, entry_rows, entries, phi, store}
+use Rattle.ir_print.specs.Names.{with_commas}
 use Rattle.ir_print.specs.Types.{type_text}
 use Rattle.ir_print.specs.Values.{operand_text}
-use Rattle.ir_print.specs.Instructions.{operation_word, predicate_word, cast_word, typed_text, argument_text, indices_text, entry_text, pair_text, access_text, op_text}
-use Rattle.ir_print.proofs.Derivations.{Reads, Shut, Trails, given, loose, value_open, value_shut, value_tight, value_trails, word_open, word_shut, word_tight, none_open, none_shut, skipped_none, skip_open, skip_shut, left_open, right_open, left_shut, right_shut, same_open, same_shut, spaced, shut_word, shut_mark, one_shut, tight, comma}
+use Rattle.ir_print.specs.Instructions.{operation_word, predicate_word, typed_text, argument_text, indices_text, entry_text, pair_text, access_text, op_text}
+use Rattle.ir_print.proofs.Derivations.{Reads, Shut, Trails, given, loose, value_open, value_shut, value_trails, word_shut, word_tight, none_open, none_shut, skipped_none, skip_shut, left_open, same_open, spaced, shut_word, shut_mark, one_shut, tight, comma}
 use Rattle.ir_print.proofs.Rows.{all_reads, each_built, behind_commas_alone}
-use Rattle.ir_print.proofs.Singles.{at_word, local_reads, plain_global_reads, count_reads}
-use Rattle.ir_print.proofs.TypesRead.{type_reads, result_reads}
-use Rattle.ir_print.proofs.Operands.{operand_reads, index_reads, args_read}
+use Rattle.ir_print.proofs.Singles.{at_word, local_reads, count_reads}
+use Rattle.ir_print.proofs.TypesRead.{type_reads}
+use Rattle.ir_print.proofs.Operands.{operand_reads, index_reads}
 use Rattle.ir_print.proofs.WordsRead.{bin_reads, pred_reads, cast_reads}
 
 -- nothing stands behind

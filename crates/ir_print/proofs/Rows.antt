@@ -1,16 +1,15 @@
 -- Rows of texts that read back: one behind another, behind commas, and in brackets.
-use Rattle.std.proofs.Common.{◌≡◌, ℕ, ◌^◌, Bool, true, length, List, [], ◌∷◌, ◌++◌, refl, sym, ap, ◌∙◌, subst, map, append_assoc, Option, None, inl, inr, flat_map}
+use Rattle.std.proofs.Common.{◌≡◌, ℕ, ◌^◌, Bool, true, length, List, [], ◌∷◌, ◌++◌, refl, sym, ap, ◌∙◌, subst, map, append_assoc, None, flat_map}
 use Rattle.std.specs.Prelude.{codes, nat_lt}
 use Rattle.std.specs.List.{list_all}
 use Rattle.std.proofs.lemmas.Bool.{and_parts}
 use Rattle.ir_core.specs.Built.{built_all}
 use Rattle.ir_lex.specs.declared.token.TokenKind.{TokenKind}
-use Rattle.ir_lex.specs.declared.token.TokenKind.TheVariants.{Mark}
 use Rattle.ir_lex.specs.Tokens.{is_run_byte}
 use Rattle.ir_print.specs.Names.{after_commas, with_commas}
-use Rattle.ir_print.proofs.Scanning.{IsApart, Open, Parts, nothing, opened, closed_closed, closed_open, open_open}
+use Rattle.ir_print.proofs.Scanning.{IsApart, Open, nothing, opened, closed_closed, closed_open, open_open}
 use Rattle.ir_print.proofs.Derivations.{Reads, Shut, Tight, Trails, given, value_open, value_trails, word_shut, word_tight, left_shut, right_shut, comma}
-use Rattle.ir_grammar.specs.Grammar.{Grammar, give, many, loop, Row, Derives, ◌▸◌, ◌▹◌}
+use Rattle.ir_grammar.specs.Grammar.{Grammar, many, loop, Derives}
 use Rattle.ir_grammar.specs.Parts.{the_mark, behind_comma, listed}
 
 -- each of several

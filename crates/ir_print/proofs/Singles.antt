@@ -1,15 +1,13 @@
 -- Names, numbers and words with the values that they read back to.
-use Rattle.std.proofs.Common.{◌≡◌, ℕ, ◌<◌, ◌^◌, Bool, true, false, List, [], ◌∷◌, ◌++◌, length, refl, sym, ap, ◌∙◌, subst, arith, ℤ, pos, negsuc, take}
+use Rattle.std.proofs.Common.{◌≡◌, ℕ, ◌<◌, ◌^◌, Bool, true, false, List, [], ◌∷◌, refl, ap, ◌∙◌, arith, ℤ, pos}
 use Rattle.std.specs.Prelude.{codes, decimal, nat_lt, nat_eq, not, ◌==◌, ◌&&◌}
 use Rattle.std.specs.Fmt.{signed_decimal}
 use Rattle.std.specs.List.{list_all, starts_with}
-use Rattle.std.specs.Cmp.Lexicographic.{pointwise}
 use Rattle.std.proofs.lemmas.Bool.{ltb-true, lt-ltb}
-use Rattle.ir_core.specs.Built.{name_built, int_built, built_all, is_debug_name}
-use Rattle.ir_lex.specs.declared.token.TokenKind.{TokenKind}
+use Rattle.ir_core.specs.Built.{name_built, int_built, is_debug_name}
 use Rattle.ir_lex.specs.declared.token.TokenKind.TheVariants.{Word, Local, Global, Int, Label, CStr}
-use Rattle.ir_grammar.specs.Tokens.{Sort, word, count, number, global, debug_global, chosen, has, begins_with, is_count, sort_of}
-use Rattle.ir_grammar.specs.Grammar.{Grammar, token, Derives}
+use Rattle.ir_grammar.specs.Tokens.{word, count, number, global, debug_global, chosen, has, begins_with, is_count}
+use Rattle.ir_grammar.specs.Grammar.{token, Derives}
 use Rattle.ir_grammar.specs.Parts.{a_count, a_local, a_global, a_label}
 use Rattle.ir_syntax.specs.Words.{plain_global, an_int, a_cstr}
 use Rattle.ir_print.specs.Names.{local_text, global_text, label_text, string_text}

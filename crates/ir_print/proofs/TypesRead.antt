@@ -1,6 +1,6 @@
 -- Types read back at every level that holds them.
-use Rattle.std.proofs.Common.{◌≡◌, ℕ, zero, suc, ◌+◌, ◌<◌, ◌≤◌, ◌^◌, Bool, true, false, List, [], ◌∷◌, ◌++◌, length, map, refl, sym, ap, ◌∙◌, subst, arith, inl, inr}
-use Rattle.std.specs.Prelude.{codes, decimal, nat_lt, nat_le, ◌&&◌, ◌||◌, max}
+use Rattle.std.proofs.Common.{◌≡◌, ℕ, zero, suc, ◌≤◌, ◌^◌, Bool, true, false, List, [], ◌∷◌, ◌++◌, length, map, refl, sym, ap, ◌∙◌, subst, arith, inl, inr}
+use Rattle.std.specs.Prelude.{codes, decimal, nat_lt, nat_le, ◌||◌}
 use Rattle.std.specs.List.{list_all}
 use Rattle.std.proofs.lemmas.Bool.{and_parts, leb-true}
 use denote.Hole.Holds.{Such}
@@ -14,13 +14,13 @@ use Rattle.ir_core.specs.declared.ty.Ty.TheFolds.{claims, map-Ty}
 use Rattle.ir_core.specs.declared.limit.TheConstants.{MAX_NESTING}
 use Rattle.ir_core.specs.Counts.{deeper, deepest}
 use Rattle.ir_core.specs.Typing.{is_void_at}
-use Rattle.ir_core.specs.Built.{parts_built_at, text_depth_at, type_built, result_built, built_all, name_built, is_struct_at}
+use Rattle.ir_core.specs.Built.{parts_built_at, text_depth_at, type_built, result_built, name_built, is_struct_at}
 use Rattle.ir_lex.specs.Tokens.{is_run_byte, is_separator, is_mark}
 use Rattle.ir_grammar.specs.Grammar.{Grammar}
-use Rattle.ir_syntax.specs.Types.{itype, simple_type, array_type, plain_struct, packed_struct, struct_type, type_at, ty, fields_type, rtype}
-use Rattle.ir_print.specs.Names.{with_commas, local_text}
+use Rattle.ir_syntax.specs.Types.{simple_type, array_type, plain_struct, packed_struct, struct_type, type_at, ty, fields_type, rtype}
+use Rattle.ir_print.specs.Names.{local_text}
 use Rattle.ir_print.specs.Types.{width_text, braced, type_level, type_text}
-use Rattle.ir_print.proofs.Derivations.{Reads, Shut, given, loose, value_open, value_shut, value_tight, word_open, word_shut, word_tight, left_open, right_open, left_shut, right_shut, same_open, same_shut, read_word, shut_word, shut_mark, tight}
+use Rattle.ir_print.proofs.Derivations.{Reads, Shut, given, loose, value_open, value_shut, word_open, word_shut, word_tight, left_open, right_open, left_shut, right_shut, same_open, same_shut, read_word, shut_word, shut_mark, tight}
 use Rattle.ir_print.proofs.Rows.{AllRead, listed_none, listed_some, commas-map}
 use Rattle.ir_print.proofs.Singles.{at_word, local_reads, count_reads}
 

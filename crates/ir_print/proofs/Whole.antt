@@ -1,17 +1,19 @@
 -- The text of a built module reads back to the module.
-use Rattle.std.proofs.Common.{◌≡◌, ℕ, ◌^◌, Bool, true, List, [], ◌∷◌, ◌++◌, refl, sym, ap, ◌∙◌, subst, map, flat_map, length}
+use Rattle.std.proofs.Common.{◌≡◌, ℕ, List, [], ◌∷◌, ◌++◌, refl, sym, ap, ◌∙◌, subst, map, flat_map}
 use Rattle.std.specs.Prelude.{◌&&◌}
 use Rattle.std.proofs.lemmas.Bool.{and_parts}
 use Rattle.std.proofs.lemmas.List.{append-nil}
 use Rattle.std.proofs.lemmas.Grind.{flat_map-append}
+use Rattle.std.proofs.Math.Logic.{∥∥₁_elim}
+use Rattle.std.proofs.Props.{props}
+use Rattle.ir_core.specs.Refusals.{IsValid}
 use Rattle.ir_core.specs.declared.ty.NamedTy.{NamedTy}
 use Rattle.ir_core.specs.declared.module.GlobalVar.{GlobalVar}
 use Rattle.ir_core.specs.declared.module.Extern.{Extern}
 use Rattle.ir_core.specs.declared.module.Function.{Function}
 use Rattle.ir_core.specs.declared.module.Module.{Module}
 use Rattle.ir_core.specs.Built.{built_all, named_built, global_built, extern_built, function_built, IsBuilt}
-use Rattle.ir_lex.specs.declared.token.TokenKind.{TokenKind}
-use Rattle.ir_grammar.specs.Grammar.{many, Derives}
+use Rattle.ir_grammar.specs.Grammar.{Derives}
 use Rattle.ir_syntax.specs.declared.item.Item.{Item}
 use Rattle.ir_syntax.specs.declared.item.Item.TheVariants as item_of
 use Rattle.ir_syntax.specs.Items.{item}
@@ -102,8 +104,12 @@ module_shut m h =
     let d = row_made item item_of.Function function_text function_built function_item_reads m.functions (each_built function_built m.functions back.1) in
     subst (λ v. Shut module_text v (canonical_text m)) (same_module m) (value_shut (given module_of) (rows_shut (rows_shut (rows_shut a b) c) d))
 
-pub reads_back : (m : Module) → IsBuilt m → ReadsBack m
+pub reads_back : (m : Module) → IsBuilt m → ReadsBack (canonical_text m) m
 reads_back m h =
     let s = module_shut m h in
     let t = whole (canonical_text m) s.ks s.scan in
     record { tokens = t.tokens; scanned = t.scans; derived = subst (λ ks. Derives module_text m ks) (sym t.kinds) s.derives }
+
+-- that of a valid module, which is known to be valid and no more
+pub valid_reads_back : (m : Module) (text : List ℕ) → ∥ IsValid m ∥₁ → text ≡ canonical_text m → ReadsBack text m
+valid_reads_back m text known is = subst (λ t. ReadsBack t m) (sym is) (reads_back m (∥∥₁_elim known (hlevel props) (λ v. v.built)))

@@ -10,9 +10,11 @@
 #![tactic(auto)]
 
 ghost use Rattle.std.specs.Prelude.{◌≡◌, IfOk, OnOk, ◌++◌, flat_map};
+ghost use Rattle.ir_print.specs.ReadsBack.{ReadsBack};
 ghost use Rattle.ir_print.specs.Canonical.{canonical_text, named_type_text, global_line, extern_text, function_text};
 
 use ir_core::module::Module;
+use ir_core::valid::Valid;
 use rd_num::list::List;
 use rd_num::width::NoMemory;
 use std::alloc::Global;
@@ -21,10 +23,20 @@ mod function;
 mod global;
 mod initialiser;
 mod instruction;
+pub mod law;
 mod names;
 mod terminator;
 mod types;
 mod values;
+
+/// The canonical text of a valid module, which reads back to that module. Only memory can be wanting.
+#[tactic(auto, using(crate::proofs::Whole::valid_reads_back))]
+pub fn print(alloc: Global, valid: &Valid) -> Result<List<u8>, NoMemory>
+    ensures text { IfOk result (λ text. text ≡ canonical_text valid.now.kept) }
+    ensures back { IfOk result (λ text. ReadsBack text valid.now.kept) }
+{
+    module_text(alloc, valid.module())
+}
 
 /// The canonical text of a module. Only memory can be wanting.
 pub fn module_text(alloc: Global, module: &Module) -> Result<List<u8>, NoMemory>
