@@ -114,12 +114,3 @@ fixed_row run (b ∷ bs) rest all fixed = by (λ r. fixed_row r bs rest) (is_run
 -- fixed words are closed
 pub fixed : (bytes : List ℕ) → is_fixed [] bytes ≡ true → Closed bytes (kinds_in (split [] bytes))
 fixed bytes h rest = record { pieces = split [] bytes; bytes = fixed_bytes [] bytes; row = fixed_row [] bytes rest refl h; kinds = refl }
-
--- an example
-comma : Closed (codes ", ") (Mark 44 ∷ [])
-unfolding is_run_byte is_separator is_mark
-comma = fixed (codes ", ") refl
-
-gep_words : Closed (codes "getelementptr (") (Word (codes "getelementptr") ∷ Mark 40 ∷ [])
-unfolding is_run_byte is_separator is_mark
-gep_words = fixed (codes "getelementptr (") refl

@@ -40,7 +40,7 @@ pub fn print(alloc: Global, valid: &Valid) -> Result<List<u8>, NoMemory>
 
 /// The canonical text of a module. Only memory can be wanting.
 pub fn module_text(alloc: Global, module: &Module) -> Result<List<u8>, NoMemory>
-    ensures { IfOk result (λ text. text ≡ canonical_text module.now) }
+    ensures { IfOk result (λ text. text ≡ canonical_text «module».now) }
 {
     let mut text = List::new(alloc);
     put_types(&mut text, module)?;
@@ -51,7 +51,7 @@ pub fn module_text(alloc: Global, module: &Module) -> Result<List<u8>, NoMemory>
 }
 
 fn put_types(text: &mut List<u8>, module: &Module) -> Result<(), NoMemory>
-    ensures { OnOk result (text.new ≡ text.old ++ flat_map named_type_text module.now.types) }
+    ensures { OnOk result (text.new ≡ text.old ++ flat_map named_type_text «module».now.types) }
 {
     for named in module.types.as_slice() {
         global::put_named_type(text, named)?;
@@ -60,7 +60,7 @@ fn put_types(text: &mut List<u8>, module: &Module) -> Result<(), NoMemory>
 }
 
 fn put_globals(text: &mut List<u8>, module: &Module) -> Result<(), NoMemory>
-    ensures { OnOk result (text.new ≡ text.old ++ flat_map global_line module.now.globals) }
+    ensures { OnOk result (text.new ≡ text.old ++ flat_map global_line «module».now.globals) }
 {
     for variable in module.globals.as_slice() {
         global::put_global(text, variable)?;
@@ -69,7 +69,7 @@ fn put_globals(text: &mut List<u8>, module: &Module) -> Result<(), NoMemory>
 }
 
 fn put_externs(text: &mut List<u8>, module: &Module) -> Result<(), NoMemory>
-    ensures { OnOk result (text.new ≡ text.old ++ flat_map extern_text module.now.externs) }
+    ensures { OnOk result (text.new ≡ text.old ++ flat_map extern_text «module».now.externs) }
 {
     for declared in module.externs.as_slice() {
         function::put_extern(text, declared)?;
@@ -78,7 +78,7 @@ fn put_externs(text: &mut List<u8>, module: &Module) -> Result<(), NoMemory>
 }
 
 fn put_functions(text: &mut List<u8>, module: &Module) -> Result<(), NoMemory>
-    ensures { OnOk result (text.new ≡ text.old ++ flat_map function_text module.now.functions) }
+    ensures { OnOk result (text.new ≡ text.old ++ flat_map function_text «module».now.functions) }
 {
     for function in module.functions.as_slice() {
         function::put_function(text, function)?;
