@@ -1,13 +1,12 @@
 -- The fixed words of a text: letters, spaces, line feeds and punctuation.
-use Rattle.std.proofs.Common.{◌≡◌, ℕ, ◌<◌, Bool, true, false, List, [], ◌∷◌, ◌++◌, length, get_or, refl, sym, ap, ◌∙◌, subst, append_assoc, arith, ℤ, cond, ◌⊎◌, inl, inr}
-use Rattle.std.specs.Prelude.{◌&&◌, ◌||◌, not, ◌==◌, if◌then◌else◌, codes}
+use Rattle.std.proofs.Common.{◌≡◌, ℕ, ◌<◌, Bool, true, false, List, [], ◌∷◌, ◌++◌, length, get_or, refl, sym, ap, ◌∙◌, subst, append_assoc, arith, ℤ, inl, inr}
+use Rattle.std.specs.Prelude.{◌&&◌, ◌||◌, not, ◌==◌, if◌then◌else◌}
 use Rattle.std.specs.List.{list_all}
 use Rattle.std.specs.Char.{is_ascii_digit}
 use Rattle.std.proofs.lemmas.Bool.{and_parts, and_from}
 use Rattle.std.proofs.lemmas.List.Sums.{AllPass-from_list_all}
-use Rattle.ir_lex.specs.declared.token.TokenKind.{TokenKind}
 use Rattle.ir_lex.specs.declared.token.TokenKind.TheVariants.{Word, Mark}
-use Rattle.ir_lex.specs.Tokens.{is_run_byte, is_separator, is_mark, begins, starts, IsRun, SpellsNumber, Piece, separator, token, piece_bytes, row_bytes, IsPiece, IsRow}
+use Rattle.ir_lex.specs.Tokens.{is_run_byte, is_separator, is_mark, SpellsNumber, Piece, separator, token, piece_bytes, row_bytes, IsPiece, IsRow}
 use Rattle.ir_print.proofs.Scanning.{kinds_in, Closed}
 
 -- the first byte is neither a digit nor a `-`, so it is no number
@@ -40,7 +39,7 @@ is_fixed (r ∷ rs) [] = false
 is_fixed run (b ∷ bs) = if is_run_byte b then is_fixed (run ++ b ∷ []) bs else (begins_word run && (stands_alone b && is_fixed [] bs))
 
 -- what begins as a word is no number
-no_number : (b : ℕ) (bs : List ℕ) → begins_word (b ∷ bs) ≡ true → (n : ℤ) → ¬ (SpellsNumber n (b ∷ bs))
+pub no_number : (b : ℕ) (bs : List ℕ) → begins_word (b ∷ bs) ≡ true → (n : ℤ) → ¬ (SpellsNumber n (b ∷ bs))
 no_number b bs h n (digits, d, inl (e, v)) =
     let parts = and_parts (not (is_ascii_digit b)) (not (b == 45)) h in
     let first : is_ascii_digit b ≡ true = subst (λ (xs : List ℕ). (i d : ℕ) → i < length xs → is_ascii_digit (get_or xs i d) ≡ true) (sym e) d.bytes 0 0 (omega arith) in
@@ -115,12 +114,3 @@ fixed_row run (b ∷ bs) rest all fixed = by (λ r. fixed_row r bs rest) (is_run
 -- fixed words are closed
 pub fixed : (bytes : List ℕ) → is_fixed [] bytes ≡ true → Closed bytes (kinds_in (split [] bytes))
 fixed bytes h rest = record { pieces = split [] bytes; bytes = fixed_bytes [] bytes; row = fixed_row [] bytes rest refl h; kinds = refl }
-
--- an example
-comma : Closed (codes ", ") (Mark 44 ∷ [])
-unfolding is_run_byte is_separator is_mark
-comma = fixed (codes ", ") refl
-
-gep_words : Closed (codes "getelementptr (") (Word (codes "getelementptr") ∷ Mark 40 ∷ [])
-unfolding is_run_byte is_separator is_mark
-gep_words = fixed (codes "getelementptr (") refl

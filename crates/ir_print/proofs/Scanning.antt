@@ -1,9 +1,8 @@
 -- Texts as rows of pieces, one behind another.
-use Rattle.std.proofs.Common.{◌≡◌, ℕ, ◌+◌, Bool, true, false, List, [], ◌∷◌, ◌++◌, length, map, refl, sym, ap, ◌∙◌, subst, append_assoc, flat_map}
-use Rattle.std.proofs.lemmas.List.{append-nil}
+use Rattle.std.proofs.Common.{◌≡◌, ℕ, ◌+◌, false, List, [], ◌∷◌, ◌++◌, length, map, refl, sym, ap, ◌∙◌, subst, append_assoc}
 use Rattle.ir_lex.specs.declared.token.Token.{Token}
 use Rattle.ir_lex.specs.declared.token.TokenKind.{TokenKind}
-use Rattle.ir_lex.specs.Tokens.{is_run_byte, begins, starts, Piece, separator, comment, token, piece_bytes, IsPiece, row_bytes, IsRow, tokens_from, Scans, Spells}
+use Rattle.ir_lex.specs.Tokens.{is_run_byte, begins, starts, Piece, separator, comment, token, piece_bytes, IsPiece, row_bytes, IsRow, tokens_from, Scans}
 
 -- the kinds of the tokens among pieces
 abbrev pub kinds_in : List Piece → List TokenKind

@@ -1,11 +1,11 @@
 -- Names, numbers and the bytes of strings, each a token in front of what is apart.
-use Rattle.std.proofs.Common.{◌≡◌, ℕ, zero, suc, ◌+◌, ◌-◌, ◌*◌, ◌/◌, ◌%◌, ◌^◌, ◌<◌, ◌≤◌, Bool, true, false, List, [], ◌∷◌, ◌++◌, length, get_or, refl, sym, ap, ◌∙◌, subst, append_assoc, arith, lit<, ℤ, pos, negsuc, neg_ℤ, ◌⊎◌, inl, inr, flat_map}
-use Rattle.std.specs.Prelude.{◌&&◌, ◌||◌, not, ◌==◌, nat_le, nat_lt, nat_eq, if◌then◌else◌, codes, decimal, IsTrue, ltb}
+use Rattle.std.proofs.Common.{◌≡◌, ℕ, zero, suc, ◌+◌, ◌*◌, ◌/◌, ◌%◌, ◌^◌, ◌<◌, ◌≤◌, Bool, true, false, List, [], ◌∷◌, ◌++◌, length, refl, sym, ap, ◌∙◌, arith, ℤ, pos, negsuc, neg_ℤ, ◌⊎◌, inl, inr, flat_map}
+use Rattle.std.specs.Prelude.{◌&&◌, ◌||◌, not, ◌==◌, nat_le, nat_lt, nat_eq, if◌then◌else◌, decimal, IsTrue}
 use Rattle.std.specs.Fmt.{signed_decimal}
-use Rattle.std.specs.List.{list_all, AllPass}
+use Rattle.std.specs.List.{list_all}
 use Rattle.std.specs.Char.{is_ascii_digit, is_ascii_hexdigit, digit_value}
-use Rattle.std.specs.Str.Parse.{digits_value, AllDigits, IsNumeral}
-use Rattle.std.proofs.lemmas.Bool.{and_parts, and_from, ltb-true, leb-true, cases_Bool}
+use Rattle.std.specs.Str.Parse.{digits_value, AllDigits}
+use Rattle.std.proofs.lemmas.Bool.{and_parts, and_from, ltb-true, leb-true}
 use Rattle.std.proofs.lemmas.Bool.Decides.{nat_tests}
 use Rattle.std.proofs.lemmas.List.Sums.{AllPass-from_list_all}
 use Rattle.std.proofs.lemmas.List.{append-nil}
@@ -14,7 +14,7 @@ use Rattle.ir_core.specs.Built.{name_built, built_all, int_built}
 use Rattle.ir_core.specs.Built as built
 use Rattle.ir_lex.specs.declared.token.TokenKind.{TokenKind}
 use Rattle.ir_lex.specs.declared.token.TokenKind.TheVariants.{Int, Local, Global, Label, CStr}
-use Rattle.ir_lex.specs.Tokens.{is_run_byte, is_name_byte, begins, starts, quoted, IsRun, IsQuoted, MayName, SpellsName, AreDigits, SpellsNumber, SpellsByte, SpellsBytes, Piece, token, row_bytes, IsPiece}
+use Rattle.ir_lex.specs.Tokens.{is_run_byte, is_name_byte, begins, starts, quoted, IsRun, IsQuoted, MayName, SpellsName, AreDigits, SpellsByte, SpellsBytes, token, IsPiece}
 use Rattle.ir_print.specs.Names.{is_plain, name_text, local_text, global_text, label_text, hex_digit, escaped, string_text}
 use Rattle.ir_print.proofs.Scanning.{IsApart, IsScanned, Closed, Open}
 

@@ -5,3 +5,4 @@ pub mod Initialisers
 pub mod Instructions
 pub mod Terminators
 pub mod Canonical
+pub mod ReadsBack
