@@ -108,7 +108,7 @@ fn words_have_these_statuses(rt: HostRuntime) -> Result<(), Fail> {
         (&["compile"], 2),
         (&["compose", "m", "--slot-seed", "1", "--reg-seed", "2"], 2),
         (&["compile", "-m", "--slot-seed", "1", "--reg-seed", "2"], 2),
-        (&["compile", "m", "--reg-seed", "1", "--slot-seed", "2"], 2),
+        (&["compile", "--reg-seed=1", "m", "--slot-seed", "2"], 0),
         (&["compile", "m", "--slot-seed", "", "--reg-seed", "2"], 2),
         (&["compile", "m", "--slot-seed", "+1", "--reg-seed", "2"], 2),
         (
