@@ -1,10 +1,10 @@
 -- What is read of words is exactly what they ask for.
-use Rattle.std.proofs.Common.{◌≡◌, ℕ, ◌+◌, ◌≤◌, Bool, true, false, List, [], ◌∷◌, ◌++◌, length, Option, Some, None, refl, sym, ◌∙◌, ap, subst, arith}
+use Rattle.std.proofs.Common.{◌≡◌, ℕ, ◌+◌, Bool, true, false, List, [], ◌∷◌, length, Option, Some, None, refl, sym, ◌∙◌, ap, subst, arith}
 use Rattle.std.specs.Prelude.{if◌then◌else◌, nat_eq, codes}
 use Rattle.std.specs.Cmp.Lexicographic.{same_text}
 use Rattle.std.proofs.lemmas.Bool.{eqb-true}
 use Rattle.std.proofs.lemmas.Bool.Decides.{nat_tests}
-use Rattle.rd_words.specs.Arguments.{Argument, File, Given, same, files, values, AreArguments, IsLine}
+use Rattle.rd_words.specs.Arguments.{Argument, File, Given, same, files, values, IsLine}
 use Rattle.rd_words.specs.Words.{Reading, Compile, Build, Lay, Run, Show, Watch, number_of, IsReading, IsReadingOf}
 use Rattle.rd_words.specs.Read.{arguments_of, only, file_behind, value_behind, count_behind, if_number, are, FileNumber, with_one, with_two, with_three, with_file, compile_of, build_of, file_and_number, ask, watch_of, by_command, reading_of}
 use Rattle.rd_words.proofs.Parts.{arguments_are, arguments_back}

@@ -1,10 +1,10 @@
 -- One argument more of the words that are read.
-use Rattle.std.proofs.Common.{◌≡◌, ℕ, ◌+◌, Bool, true, false, List, [], ◌∷◌, ◌++◌, length, Option, Some, None, refl, sym, ◌∙◌, ap, arith}
+use Rattle.std.proofs.Common.{◌≡◌, ℕ, ◌+◌, Bool, true, false, List, [], ◌∷◌, length, Option, Some, None, refl, sym, ◌∙◌, ap, arith}
 use Rattle.std.specs.Prelude.{if◌then◌else◌, nat_eq, map}
 use Rattle.std.proofs.lemmas.Bool.{eqb-true}
 use Rattle.std.specs.Option.{option_to_list}
 use Rattle.rd_words.specs.Arguments.{Argument, File, Given, same, is_plain}
-use Rattle.rd_words.specs.Read.{Next, next_of, has_dashes, has_equals, with_equals, put, arguments_of, only, file_behind, value_behind, count_behind, FileGoesOn, ValueGoesOn}
+use Rattle.rd_words.specs.Read.{Next, next_of, has_dashes, has_equals, with_equals, put, arguments_of, file_behind, value_behind, count_behind, FileGoesOn, ValueGoesOn}
 
 -- what an argument and the words behind it are
 abbrev all_from : Next → Option (List Argument)

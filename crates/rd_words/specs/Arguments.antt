@@ -1,5 +1,5 @@
 -- The arguments of a command line: one FILE, and options with their values, in any order.
-use Rattle.std.specs.Prelude.{◌≡◌, ℕ, ◌⊎◌, Bool, true, false, not, nat_eq, if◌then◌else◌, List, [], ◌∷◌, ◌++◌, length, All, ◌≢◌}
+use Rattle.std.specs.Prelude.{◌≡◌, ℕ, ◌⊎◌, Bool, true, false, not, nat_eq, List, [], ◌∷◌, ◌++◌, length, All, ◌≢◌}
 use Rattle.std.specs.Cmp.Lexicographic.{pointwise}
 
 -- a file, or an option with its value; an option has its two dashes

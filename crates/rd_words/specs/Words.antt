@@ -1,7 +1,7 @@
 -- What the words of a command line ask for.
 use Rattle.std.specs.Prelude.{◌≡◌, ℕ, ◌^◌, List, [], ◌∷◌, Option, Some, None, codes}
 use Rattle.rd_num.specs.Numeral.{numeral}
-use Rattle.rd_words.specs.Arguments.{Argument, File, Given, IsLine}
+use Rattle.rd_words.specs.Arguments.{File, Given, IsLine}
 
 -- a command with its values
 pub data Reading : Type 0 where

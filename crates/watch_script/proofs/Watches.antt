@@ -22,7 +22,7 @@ use Rattle.watch_script.specs.declared.report.Reply.{Reply}
 use Rattle.watch_script.specs.declared.report.Report.{Report}
 use Rattle.watch_script.specs.Events.{are_in_order, last_after}
 use Rattle.watch_script.specs.Report.{reply_of, replies_of, capped, IsReport}
-use Rattle.watch_script.specs.Watching.{run_to, seen_at, TakesByte, Within, Halted, InputCharged}
+use Rattle.watch_script.specs.Watching.{run_to, seen_at, TakesByte, Within, Halted}
 use Rattle.watch_script.proofs.Grown.{grown, steps_on}
 
 -- a read is answered by the segments that may be read

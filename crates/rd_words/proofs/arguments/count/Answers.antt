@@ -1,4 +1,4 @@
-use Rattle.std.proofs.Common.{◌∙◌, sym, ap, arith, string_bytes, ◌≡◌, ◌≤◌, ◌+◌, length}
+use Rattle.std.proofs.Common.{◌∙◌, sym, ap, arith, string_bytes}
 use Rattle.rd_words.specs.Read.{count_behind, arguments_of}
 use Rattle.rd_words.proofs.Steps.{count_stuck, count_more, count_end, left, none_left}
 use Rattle.rd_words.proofs.arguments.count.Goals as goal

@@ -1,4 +1,4 @@
-use Rattle.std.proofs.Common.{◌≡◌, ℕ, ◌+◌, ◌≤◌, length, map, string_bytes}
+use Rattle.std.proofs.Common.{◌≡◌, ◌+◌, ◌≤◌, length, map, string_bytes}
 use Rattle.rd_words.specs.Read.{arguments_of, count_behind}
 use Rattle.rd_words.proofs.arguments.count.Given as goal
 

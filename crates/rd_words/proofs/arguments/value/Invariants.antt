@@ -1,4 +1,4 @@
-use Rattle.std.proofs.Common.{◌≡◌, ℕ, length, map, string_bytes}
+use Rattle.std.proofs.Common.{◌≡◌, length, map, string_bytes}
 use Rattle.std.specs.Option.{option_copied, option_to_list}
 use Rattle.rd_words.specs.Read.{arguments_of, value_behind, value_of}
 use Rattle.rd_words.proofs.arguments.value.Given as goal
