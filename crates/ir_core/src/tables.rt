@@ -7,7 +7,7 @@ ghost use Rattle.std.specs.Prelude.{◌≡◌, [], map, IfOk, is_some};
 ghost use Rattle.std.specs.Option.{option_copied};
 ghost use Rattle.ir_core.specs.Definitions.{doubled};
 ghost use Rattle.ir_core.specs.Names.{same_name, first_where};
-ghost use Rattle.ir_core.specs.Operands.{global_number};
+ghost use Rattle.ir_core.specs.Operands.{global_number, function_number};
 
 use crate::module::{Extern, Function, Module};
 use crate::names::{NameSet, Named, names_of};
@@ -98,6 +98,13 @@ impl<'a> Tables<'a> {
         ensures { result ≡ is_some (global_number self.now name.now) }
     {
         self.variables.number(name).is_some()
+    }
+
+    /// Whether a name is that of a defined function. Takes no memory.
+    pub fn has_function(&self, name: &Name) -> bool
+        ensures { result ≡ is_some (function_number self.now name.now) }
+    {
+        self.functions.number(name).is_some()
     }
 
     /// The declaration of a name. Takes no memory.

@@ -6,9 +6,10 @@ use Rattle.ir_core.specs.declared.ty.Ty.TheOpen.{Ty-F}
 use Rattle.ir_core.specs.declared.ty.NamedTy.{NamedTy}
 use Rattle.ir_core.specs.declared.operand.Index0.{Index0}
 use Rattle.ir_core.specs.declared.instruction.Arg.{Arg}
+use Rattle.ir_core.specs.declared.instruction.Entry.{Entry}
 use Rattle.ir_core.specs.declared.module.Module.{Module}
 use Rattle.ir_core.specs.Names.{same_name, first_where}
-use Rattle.ir_core.specs.Kinds.{kind_of}
+use Rattle.ir_core.specs.Kinds.{Kind, kind_of}
 use Rattle.ir_core.specs.Typing.{Env, Leads, leads_at, leads_named, is_index, int_fits, operand_fits}
 
 -- no local is known
@@ -60,3 +61,7 @@ literals_fit indices = list_all (λ (i : Index0). is_index (kind_of i.ty) && int
 -- so are those of an instruction
 abbrev pub indices_fit : Module → Env → List Arg → Bool
 indices_fit m env indices = list_all (λ (a : Arg). is_index (kind_of a.ty) && operand_fits m env (kind_of a.ty) a.value) indices
+
+-- the operands of entries fit
+abbrev pub entries_typed : Module → Env → Kind → List Entry → Bool
+entries_typed m env kind entries = list_all (λ (e : Entry). operand_fits m env kind e.value) entries

@@ -1,6 +1,9 @@
 //! The rules of types for whole modules: a module in, the first place where a rule fails out.
 #![tactic(auto)]
 
+pub mod call;
 pub mod kinds;
-
+pub mod op;
+pub mod operand;
 pub mod parts;
+pub mod same;
