@@ -1,19 +1,15 @@
 -- Where indices lead, one index after another.
-use Rattle.std.proofs.Common.{◌≡◌, ℕ, zero, suc, ◌+◌, ◌-◌, ◌<◌, arith, Bool, true, false, List, [], ◌∷◌, length, get_or, drop, ◌≤◌, map, Option, Some, None, refl, ap, sym, ◌∙◌, subst}
+use Rattle.std.proofs.Common.{◌≡◌, ℕ, zero, suc, ◌+◌, ◌-◌, ◌<◌, arith, Bool, true, false, List, [], ◌∷◌, length, get_or, drop, ◌≤◌, map, Option, Some, None, refl, ap, sym, ◌∙◌}
 use Rattle.std.specs.Prelude.{slice_get, option_map}
-use Rattle.std.specs.Option.{option_map_or}
 use Rattle.std.proofs.Math.Seq.{drop-nil}
 use Rattle.ir_core.proofs.LoopLaws.{drop_item}
-use Rattle.rd_num.specs.declared.width.Width.{Width}
 use Rattle.ir_core.specs.declared.ty.Ty.{Ty, fold-Ty, roll-Ty, out-Ty, roll-out-Ty, fold-roll-Ty}
-use Rattle.ir_core.specs.declared.ty.Ty.TheVariants.{Void, Int, Ptr, Array, Struct, Packed, Named, rolls-Void, rolls-Int, rolls-Ptr, rolls-Array, rolls-Struct, rolls-Packed, rolls-Named}
 use Rattle.ir_core.specs.declared.ty.Ty.TheOpen.{Ty-F}
-use Rattle.ir_core.specs.declared.ty.Ty.TheBlock.{the_family, member-Ty}
-use Rattle.ir_core.specs.declared.ty.Ty.TheFolds.{claims, map-Ty}
+use Rattle.ir_core.specs.declared.ty.Ty.TheFolds.{map-Ty}
 use Rattle.ir_core.specs.declared.ty.NamedTy.{NamedTy}
 use Rattle.ir_core.specs.declared.limit.TheConstants.{MAX_NESTING}
 use Rattle.ir_core.specs.Names.{same_name, first_where}
-use Rattle.ir_core.specs.Typing.{Leads, leads_whole, leads_array, leads_field, leads_struct, leads_at, leads_or_none, leads_named, leads_into}
+use Rattle.ir_core.specs.Typing.{Leads, leads_field, leads_struct, leads_at, leads_or_none, leads_named, leads_into}
 use Rattle.ir_types.specs.Fitting.{leads_within, Part, field_part, part_at, part_or_none, part_named, part_in}
 
 -- a type by its outermost word

@@ -1,1 +1,3 @@
 pub mod LeadLaws
+pub mod SameLaws
+pub mod RowLaws

@@ -1,5 +1,5 @@
 -- Words for parts of the rules of types, as the functions that decide them share them.
-use Rattle.std.specs.Prelude.{ℕ, zero, suc, List, [], ◌∷◌, Bool, true, false, ◌&&◌, map, slice_get, option_map, Option, Some, None}
+use Rattle.std.specs.Prelude.{ℕ, zero, suc, List, Bool, ◌&&◌, slice_get, option_map, Option, Some, None}
 use Rattle.std.specs.List.{list_all}
 use Rattle.ir_core.specs.declared.ty.Ty.{Ty, out-Ty, fold-Ty}
 use Rattle.ir_core.specs.declared.ty.Ty.TheOpen.{Ty-F}
@@ -9,7 +9,8 @@ use Rattle.ir_core.specs.declared.instruction.Arg.{Arg}
 use Rattle.ir_core.specs.declared.instruction.Entry.{Entry}
 use Rattle.ir_core.specs.declared.module.Module.{Module}
 use Rattle.ir_core.specs.Names.{same_name, first_where}
-use Rattle.ir_core.specs.Kinds.{Kind, kind_of}
+use Rattle.ir_core.specs.declared.kind.Kind.{Kind}
+use Rattle.ir_core.specs.Kinds.{kind_of}
 use Rattle.ir_core.specs.Typing.{Env, Leads, leads_at, leads_named, is_index, int_fits, operand_fits}
 
 -- no local is known

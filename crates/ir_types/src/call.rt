@@ -1,8 +1,7 @@
 //! The rules of types for calls: of functions, of declarations, and through locals.
 
-ghost use Rattle.std.specs.Prelude.{◌≡◌, ◌∷◌, ◌||◌, [], map};
-ghost use Rattle.rd_num.specs.declared.width.Width.TheVariants.{W1, W8, W32, W64};
-ghost use Rattle.ir_core.specs.Kinds.{kind_of, same_kind, Number as NumberKind, Pointer as PointerKind};
+ghost use Rattle.std.specs.Prelude.{◌≡◌, map};
+ghost use Rattle.ir_core.specs.Kinds.{kind_of};
 ghost use Rattle.ir_core.specs.Calls.{same_kinds};
 ghost use Rattle.ir_core.specs.Names.{same_name, first_where};
 ghost use Rattle.ir_core.specs.Typing.{outer_fits};
@@ -23,13 +22,6 @@ use ir_core::tables::Tables;
 use ir_core::ty::{Name, Ty};
 use rd_num::width::Width;
 
-/// Whether a type is of a kind. Takes no memory.
-fn is_of(ty: &Ty, kind: Kind) -> bool
-    ensures { result ≡ same_kind (kind_of ty.now) kind }
-{
-    are_same(Kind::of(ty), kind)
-}
-
 /// Whether a declaration has the type of the outside function of its name.
 pub fn fits_outside(e: &Extern) -> bool
     ensures { result ≡ extern_fits e.now }
@@ -39,68 +31,54 @@ pub fn fits_outside(e: &Extern) -> bool
     outside_takes(Outer::of(&e.name), ret, params) && can_result(&e.ret)
 }
 
+/// A number of 32 bits.
+const WORD: Kind = Kind::Number(Width::W32);
+
+/// A length, and whether a copy or a fill is volatile.
+const LENGTH: Kind = Kind::Number(Width::W64);
+
+const VOLATILE: Kind = Kind::Number(Width::W1);
+
+/// Whether types are of kinds, one for each.
+fn are_of(types: &[Ty], kinds: &[Kind]) -> bool
+    ensures { result ≡ same_kinds (map kind_of types.now) kinds.now }
+{
+    if types.len() != kinds.len() {
+        return false;
+    }
+    for i in 0..types.len() {
+        if !are_same(Kind::of(&types[i]), kinds[i]) {
+            return false;
+        }
+    }
+    true
+}
+
 /// Whether an outside function gives a kind and takes types.
 fn outside_takes(outer: Outer, ret: Kind, params: &[Ty]) -> bool
     ensures { result ≡ outer_fits outer ret (map kind_of params.now) }
 {
     match outer {
-        Outer::Putchar => are_same(ret, Kind::Number(Width::W32)) && takes_number(params),
-        Outer::Getchar => are_same(ret, Kind::Number(Width::W32)) && params.is_empty(),
-        Outer::Exit => are_same(ret, Kind::NoValue) && takes_number(params),
-        Outer::Memcpy => are_same(ret, Kind::NoValue) && takes_copy(params),
-        Outer::Memset => are_same(ret, Kind::NoValue) && takes_fill(params),
-        Outer::TrapNow => are_same(ret, Kind::NoValue) && params.is_empty(),
-        Outer::Lifetime => are_same(ret, Kind::NoValue) && takes_life(params),
+        Outer::Putchar => are_same(ret, WORD) && are_of(params, &[WORD]),
+        Outer::Getchar => are_same(ret, WORD) && are_of(params, &[]),
+        Outer::Exit => are_same(ret, Kind::NoValue) && are_of(params, &[WORD]),
+        Outer::Memcpy => {
+            are_same(ret, Kind::NoValue)
+                && are_of(params, &[Kind::Pointer, Kind::Pointer, LENGTH, VOLATILE])
+        }
+        Outer::Memset => {
+            are_same(ret, Kind::NoValue)
+                && are_of(
+                    params,
+                    &[Kind::Pointer, Kind::Number(Width::W8), LENGTH, VOLATILE],
+                )
+        }
+        Outer::TrapNow => are_same(ret, Kind::NoValue) && are_of(params, &[]),
+        Outer::Lifetime => {
+            are_same(ret, Kind::NoValue)
+                && (are_of(params, &[Kind::Pointer]) || are_of(params, &[LENGTH, Kind::Pointer]))
+        }
         Outer::NoOuter => false,
-    }
-}
-
-/// One number of 32 bits.
-fn takes_number(params: &[Ty]) -> bool
-    ensures { result ≡ same_kinds (map kind_of params.now) (NumberKind W32 ∷ []) }
-{
-    match params {
-        [a] => is_of(a, Kind::Number(Width::W32)),
-        _ => false,
-    }
-}
-
-/// A target, a source, a length, and whether the copy is volatile.
-fn takes_copy(params: &[Ty]) -> bool
-    ensures { result ≡ same_kinds (map kind_of params.now) (PointerKind ∷ PointerKind ∷ NumberKind W64 ∷ NumberKind W1 ∷ []) }
-{
-    match params {
-        [a, b, c, d] => {
-            is_of(a, Kind::Pointer)
-                && (is_of(b, Kind::Pointer)
-                    && (is_of(c, Kind::Number(Width::W64)) && is_of(d, Kind::Number(Width::W1))))
-        }
-        _ => false,
-    }
-}
-
-/// A target, a byte, a length, and whether the fill is volatile.
-fn takes_fill(params: &[Ty]) -> bool
-    ensures { result ≡ same_kinds (map kind_of params.now) (PointerKind ∷ NumberKind W8 ∷ NumberKind W64 ∷ NumberKind W1 ∷ []) }
-{
-    match params {
-        [a, b, c, d] => {
-            is_of(a, Kind::Pointer)
-                && (is_of(b, Kind::Number(Width::W8))
-                    && (is_of(c, Kind::Number(Width::W64)) && is_of(d, Kind::Number(Width::W1))))
-        }
-        _ => false,
-    }
-}
-
-/// A place, or a length and a place.
-fn takes_life(params: &[Ty]) -> bool
-    ensures { result ≡ (same_kinds (map kind_of params.now) (PointerKind ∷ []) || same_kinds (map kind_of params.now) (NumberKind W64 ∷ PointerKind ∷ [])) }
-{
-    match params {
-        [a] => is_of(a, Kind::Pointer),
-        [a, b] => is_of(a, Kind::Number(Width::W64)) && is_of(b, Kind::Pointer),
-        _ => false,
     }
 }
 

@@ -104,7 +104,8 @@ pub fn is_literal(kind: Kind, n: i128) -> bool
         Kind::Number(Width::W8) => -128 <= n && n < 256,
         Kind::Number(Width::W16) => -32_768 <= n && n < 65_536,
         Kind::Number(Width::W32) => -2_147_483_648 <= n && n < 4_294_967_296,
-        Kind::Number(Width::W64) => -9_223_372_036_854_775_808 <= n && n < 18_446_744_073_709_551_616,
+        Kind::Number(Width::W64) => -9_223_372_036_854_775_808 <= n
+            && n < 18_446_744_073_709_551_616,
         Kind::NoValue | Kind::Pointer => false,
     }
 }

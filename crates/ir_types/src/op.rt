@@ -115,8 +115,7 @@ pub fn fits_term(tables: &Tables, scope: &Scope, ret: Kind, end: &Term) -> bool
     match end {
         Term::Ret => gives_nothing(ret),
         Term::RetValue(ty, a) => {
-            has_values(ret)
-                && (are_same(Kind::of(ty), ret) && fits_operand(tables, scope, ret, a))
+            has_values(ret) && (are_same(Kind::of(ty), ret) && fits_operand(tables, scope, ret, a))
         }
         Term::Br(_) | Term::Unreachable => true,
         Term::BrIf(condition, _, _) => {

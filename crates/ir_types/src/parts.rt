@@ -25,11 +25,19 @@ struct Stand<'a> {
 }
 
 /// Into one more part: the field of a known number, or an element of an array.
-fn into_part<'a>(tables: &Tables<'a>, ty: &'a Ty, names: u32, known: Option<u32>) -> Option<Stand<'a>>
+fn into_part<'a>(
+    tables: &Tables<'a>,
+    ty: &'a Ty,
+    names: u32,
+    known: Option<u32>,
+) -> Option<Stand<'a>>
     ensures { option_map stood result ≡ part_in tables.now.types known names ty.now }
 {
     match ty {
-        Ty::Array(_, of) => Some(Stand { ty: of.get(), names }),
+        Ty::Array(_, of) => Some(Stand {
+            ty: of.get(),
+            names,
+        }),
         Ty::Struct(fields) => into_field(fields, names, known),
         Ty::Packed(fields) => into_field(fields, names, known),
         Ty::Named(name) => {
@@ -62,7 +70,10 @@ fn into_field<'a>(fields: &'a List<Ty>, names: u32, known: Option<u32>) -> Optio
 fn lead_on<'a, T: Index>(tables: &Tables<'a>, ty: &'a Ty, rest: &[T]) -> bool
     ensures { result ≡ leads_into tables.now.types ty.now (map T.known_of rest.now) }
 {
-    let mut at = Stand { ty, names: MAX_NESTING };
+    let mut at = Stand {
+        ty,
+        names: MAX_NESTING,
+    };
     for index in rest {
         match into_part(tables, at.ty, at.names, index.known()) {
             Some(next) => at = next,

@@ -1,7 +1,6 @@
 -- what is left decides
-use Rattle.std.proofs.Common.{◌≡◌, drop, map}
+use Rattle.std.proofs.Common.{◌≡◌, drop}
 use Rattle.ir_core.specs.Valid.{all_two, same_ty, types_of}
-use Rattle.ir_core.specs.declared.module.Param.{Param}
 use Rattle.ir_types.proofs.call.types_fit.Given as goal
 
 abbrev pub invariant-loop-i : goal.invariant-loop-i

@@ -1,4 +1,4 @@
-use Rattle.std.proofs.Common.{◌≡◌, ◌∙◌, ◌-◌, ◌<◌, ap, sym, arith}
+use Rattle.std.proofs.Common.{◌∙◌, ◌-◌, ◌<◌, ap, sym, arith}
 use denote.Hole.Carrier.{out}
 use Rattle.ir_core.specs.declared.ty.Ty.{out-Ty}
 use Rattle.ir_types.specs.Fitting.{part_at, part_or_none, part_named, part_in}

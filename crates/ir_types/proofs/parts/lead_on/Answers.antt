@@ -1,4 +1,4 @@
-use Rattle.std.proofs.Common.{◌≡◌, ◌∙◌, ap, sym, map}
+use Rattle.std.proofs.Common.{◌∙◌, ap, sym, map}
 use Rattle.ir_types.specs.Fitting.{part_in}
 use Rattle.ir_types.specs.Standing.{stood}
 use Rattle.ir_types.proofs.LeadLaws.{lead_step, lead_stop, lead_end, leads-all}
