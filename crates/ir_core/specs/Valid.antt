@@ -27,6 +27,7 @@ use Rattle.ir_core.specs.declared.module.Function.{Function}
 use Rattle.ir_core.specs.declared.module.GlobalVar.{GlobalVar}
 use Rattle.ir_core.specs.declared.module.Module.{Module}
 use Rattle.ir_core.specs.Names.{same_name, first_where}
+use Rattle.ir_core.specs.Definitions.{is_among}
 use Rattle.ir_core.specs.Kinds.{Kind, Number, Pointer, kind_of, same_kind, literal}
 use Rattle.ir_core.specs.Calls.{outer_of}
 use Rattle.ir_core.specs.Typing.{Env, is_value, has_kind, operand_fits, outer_fits, arg_fits, op_fits, kind_given, is_result, labels_of, term_fits}
@@ -137,15 +138,15 @@ names_value None kind = true
 abbrev pub leads_to : List ℕ → Block → Bool
 leads_to label p = list_any (λ to. same_name to label) (labels_of p.end)
 
--- the blocks of a function that lead to a label
-abbrev pub predecessors : List Block → List ℕ → List Block
-predecessors blocks label = filter (leads_to label) blocks
+-- the labels of the blocks that lead to a label
+abbrev pub predecessors : List Block → List ℕ → List (List ℕ)
+predecessors blocks label = map (λ (p : Block). p.label) (filter (leads_to label) blocks)
 
 -- each predecessor has an entry, and each entry is for a predecessor
-abbrev pub entries_fit : List Block → List Entry → Bool
+abbrev pub entries_fit : List (List ℕ) → List Entry → Bool
 entries_fit from entries =
-    list_all (λ (p : Block). list_any (λ (e : Entry). same_name e.from p.label) entries) from
-    && list_all (λ (e : Entry). list_any (λ (p : Block). same_name p.label e.from) from) entries
+    list_all (λ (l : List ℕ). list_any (λ (e : Entry). same_name e.from l) entries) from
+    && list_all (λ (e : Entry). is_among from e.from) entries
 
 -- whole numbers that are the same
 abbrev pub same_int : ℤ → ℤ → Bool
@@ -189,7 +190,7 @@ is_phi (Phi ty entries) = true
 is_phi other = false
 
 -- a phi of a block stands behind phis alone, and its entries are those of the edges to the block
-abbrev pub phi_fits : List Block → List Inst → Op → Bool
+abbrev pub phi_fits : List (List ℕ) → List Inst → Op → Bool
 phi_fits from before (Phi ty entries) = list_all (λ (i : Inst). is_phi i.op) before && (entries_fit from entries && entries_agree entries)
 phi_fits from before other = true
 

@@ -1,3 +1,4 @@
 pub mod LeadLaws
 pub mod SameLaws
 pub mod RowLaws
+pub mod FlowLaws

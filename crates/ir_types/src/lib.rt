@@ -2,6 +2,7 @@
 #![tactic(auto)]
 
 pub mod call;
+pub mod flow;
 pub mod kinds;
 pub mod op;
 pub mod operand;
