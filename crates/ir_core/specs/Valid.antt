@@ -211,14 +211,14 @@ case_number (Number w) (Int n) = literal w n
 case_number kind (Truth true) = 1
 case_number kind other = 0
 
--- no number stands twice
-abbrev pub all_apart : List ℕ → Bool
-all_apart [] = true
-all_apart (n ∷ ns) = not (list_any (nat_eq n) ns) && all_apart ns
+-- no number stands behind itself, in a row or in one in front of it
+abbrev pub none_repeats : List ℕ → List ℕ → Bool
+none_repeats before [] = true
+none_repeats before (n ∷ ns) = not (list_any (nat_eq n) before) && none_repeats (before ++ n ∷ []) ns
 
 -- the cases of a switch differ modulo its width
 abbrev pub cases_differ : Term → Bool
-cases_differ (Switch ty a default cases) = all_apart (map (λ (c : Case). case_number (kind_of ty) c.value) cases)
+cases_differ (Switch ty a default cases) = none_repeats [] (map (λ (c : Case). case_number (kind_of ty) c.value) cases)
 cases_differ other = true
 
 -- whether a label is that of the entry block

@@ -66,6 +66,13 @@ impl<'a> NameSet<'a> {
         self.kept.get_index_of(&name)
     }
 
+    /// Whether a name is in the set. Takes no memory.
+    pub fn has(&self, name: &Name) -> bool
+        ensures { result ≡ list_any (same_name name.now) self.now }
+    {
+        self.kept.contains(&name)
+    }
+
     /// The name of a number, or `None` past the last one. Takes no memory.
     pub fn get(&self, k: usize) -> Option<&'a Name>
         ensures { option_copied result ≡ slice_get self.now k }

@@ -99,7 +99,7 @@ noted_length labels rows e = of_option (label_number labels e.to)
     of_option (Some t) = set_length rows t (with_name (row_at rows (Some t)) e.from)
 
 -- what passes among names where one of them does
-among_any : (p : List ℕ → Bool) (set : List (List ℕ)) (n : List ℕ) → is_among set n ≡ true → p n ≡ true → list_any p set ≡ true
+pub among_any : (p : List ℕ → Bool) (set : List (List ℕ)) (n : List ℕ) → is_among set n ≡ true → p n ≡ true → list_any p set ≡ true
 among_any p [] n e passes = absurd (cc)
 among_any p (x ∷ xs) n e passes = of_bool (same_name n x) refl e (λ rest. among_any p xs n rest passes)
   where
@@ -112,7 +112,7 @@ among_any p (x ∷ xs) n e passes = of_bool (same_name n x) refl e (λ rest. amo
     of_bool false same e go = ap (λ b. p x || b) (go e) ∙ or_true (p x)
 
 -- a test of a set with one more name
-with_any : (p : List ℕ → Bool) (set : List (List ℕ)) (n : List ℕ) → list_any p (with_name set n) ≡ (list_any p set || p n)
+pub with_any : (p : List ℕ → Bool) (set : List (List ℕ)) (n : List ℕ) → list_any p (with_name set n) ≡ (list_any p set || p n)
 with_any p set n = of_bool (is_among set n) refl
   where
     last : (b : Bool) → (b || false) ≡ b
@@ -212,7 +212,7 @@ all_not_any p (x ∷ xs) = ap (λ b. p x && b) (all_not_any p xs) ∙ of_bool (p
     of_bool false = refl
 
 -- tests that agree
-all_agree : {X : Type 0} (p r : X → Bool) (xs : List X) → ((x : X) → p x ≡ r x) → list_all p xs ≡ list_all r xs
+pub all_agree : {X : Type 0} (p r : X → Bool) (xs : List X) → ((x : X) → p x ≡ r x) → list_all p xs ≡ list_all r xs
 all_agree p r [] same = refl
 all_agree p r (x ∷ xs) same = ap (λ b. b && list_all p xs) (same x) ∙ ap (λ b. r x && b) (all_agree p r xs same)
 

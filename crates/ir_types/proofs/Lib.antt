@@ -2,3 +2,4 @@ pub mod LeadLaws
 pub mod SameLaws
 pub mod RowLaws
 pub mod FlowLaws
+pub mod EntryLaws

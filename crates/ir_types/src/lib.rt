@@ -2,9 +2,11 @@
 #![tactic(auto)]
 
 pub mod call;
+pub mod end;
 pub mod flow;
 pub mod kinds;
 pub mod op;
 pub mod operand;
 pub mod parts;
+pub mod phi;
 pub mod same;

@@ -2,11 +2,12 @@
 
 ghost use Rattle.std.specs.Prelude.{◌≡◌};
 ghost use Rattle.ir_core.specs.Names.{same_name};
-ghost use Rattle.ir_core.specs.Valid.{same_ty, all_two, same_index, same_operand};
+ghost use Rattle.ir_core.specs.declared.operand.Operand.TheVariants.{Const};
+ghost use Rattle.ir_core.specs.Valid.{same_ty, all_two, same_int, same_index, same_operand};
 
 use crate::kinds::are_same;
 use ir_core::kind::Kind;
-use ir_core::operand::{Index0, Operand};
+use ir_core::operand::{Index0, Operand, Place0};
 use ir_core::ty::{Name, Ty};
 
 /// Whether two names are the same. Takes no memory.
@@ -67,4 +68,59 @@ fn are_same_tys(a: &[Ty], b: &[Ty]) -> bool
         }
     }
     true
+}
+
+/// Whether two numbers are the same. Takes no memory.
+fn is_same_int(a: i128, b: i128) -> bool
+    ensures { result ≡ same_int a b }
+{
+    a == b
+}
+
+/// Whether two indices are the same. Takes no memory.
+fn is_same_index(a: &Index0, b: &Index0) -> bool
+    ensures { result ≡ same_index a.now b.now }
+{
+    is_same_ty(&a.ty, &b.ty) && is_same_int(a.value, b.value)
+}
+
+/// Whether rows of indices are the same.
+fn are_same_indices(a: &[Index0], b: &[Index0]) -> bool
+    ensures { result ≡ all_two same_index a.now b.now }
+{
+    if a.len() != b.len() {
+        return false;
+    }
+    for i in 0..a.len() {
+        if !is_same_index(&a[i], &b[i]) {
+            return false;
+        }
+    }
+    true
+}
+
+/// Whether two constant places are the same.
+fn is_same_place(a: &Place0, b: &Place0) -> bool
+    ensures { result ≡ same_operand (Const a.now) (Const b.now) }
+{
+    is_same_ty(&a.source, &b.source)
+        && (is_same_name(&a.base, &b.base)
+            && are_same_indices(a.indices.as_slice(), b.indices.as_slice()))
+}
+
+/// Whether two operands are the same.
+pub fn is_same_operand(a: &Operand, b: &Operand) -> bool
+    ensures { result ≡ same_operand a.now b.now }
+{
+    match (a, b) {
+        (Operand::Int(m), Operand::Int(n)) => is_same_int(*m, *n),
+        (Operand::Bool(s), Operand::Bool(t)) => *s == *t,
+        (Operand::Null, Operand::Null) => true,
+        (Operand::Undef, Operand::Undef) => true,
+        (Operand::Poison, Operand::Poison) => true,
+        (Operand::Local(m), Operand::Local(n)) => is_same_name(m, n),
+        (Operand::Global(m), Operand::Global(n)) => is_same_name(m, n),
+        (Operand::Const(p), Operand::Const(q)) => is_same_place(p, q),
+        _ => false,
+    }
 }
