@@ -12,6 +12,7 @@ use Rattle.ir_core.specs.declared.operand.Operand.TheVariants.{Int, Bool as Trut
 use Rattle.ir_core.specs.declared.operand.Index0.{Index0}
 use Rattle.ir_core.specs.declared.init.Init.{Init, fold-Init}
 use Rattle.ir_core.specs.declared.init.Init.TheOpen.{Init-F, Elem-F}
+use Rattle.ir_core.specs.declared.init.Elem.{Elem}
 use Rattle.ir_core.specs.declared.instruction.Case.{Case}
 use Rattle.ir_core.specs.declared.instruction.Term.{Term}
 use Rattle.ir_core.specs.declared.instruction.Term.TheVariants.{Switch}
@@ -295,6 +296,10 @@ init_fits_at m (Init-F.Packed es) ty = struct_fits true es (opened m.types (out-
 -- an initialiser fits a type
 abbrev pub init_fits : Module → Init → Ty → Bool
 init_fits m = fold-Init (Ty → Bool) Fitted (init_fits_at m) (λ (e : Elem-F (Ty → Bool) Fitted). record { ty = e.ty; fits = e.init e.ty })
+
+-- an element against its own type
+abbrev pub fitted : Module → Elem → Fitted
+fitted m e = record { ty = e.ty; fits = init_fits m e.init e.ty }
 
 -- a place where a rule fails
 abbrev pub unless : Bool → Spot → List Spot

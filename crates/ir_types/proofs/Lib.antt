@@ -3,3 +3,4 @@ pub mod SameLaws
 pub mod RowLaws
 pub mod FlowLaws
 pub mod EntryLaws
+pub mod ArrayLaws

@@ -1,16 +1,18 @@
 -- Words for parts of the rules of types, as the functions that decide them share them.
-use Rattle.std.specs.Prelude.{ℕ, zero, suc, List, Bool, ◌&&◌, slice_get, option_map, Option, Some, None}
+use Rattle.std.specs.Prelude.{ℕ, zero, suc, List, Bool, ◌&&◌, map, slice_get, option_map, Option, Some, None}
 use Rattle.std.specs.List.{list_all}
 use Rattle.ir_core.specs.declared.ty.Ty.{Ty, out-Ty, fold-Ty}
 use Rattle.ir_core.specs.declared.ty.Ty.TheOpen.{Ty-F}
 use Rattle.ir_core.specs.declared.ty.NamedTy.{NamedTy}
 use Rattle.ir_core.specs.declared.operand.Index0.{Index0}
+use Rattle.ir_core.specs.declared.init.Elem.{Elem}
 use Rattle.ir_core.specs.declared.instruction.Arg.{Arg}
 use Rattle.ir_core.specs.declared.instruction.Entry.{Entry}
 use Rattle.ir_core.specs.declared.module.Module.{Module}
 use Rattle.ir_core.specs.Names.{same_name, first_where}
 use Rattle.ir_core.specs.declared.kind.Kind.{Kind}
 use Rattle.ir_core.specs.Kinds.{kind_of}
+use Rattle.ir_core.specs.Valid.{Fitted, same_ty, fitted}
 use Rattle.ir_core.specs.Typing.{Env, Leads, leads_at, leads_named, is_index, int_fits, operand_fits}
 
 -- no local is known
@@ -66,3 +68,7 @@ indices_fit m env indices = list_all (λ (a : Arg). is_index (kind_of a.ty) && o
 -- the operands of entries fit
 abbrev pub entries_typed : Module → Env → Kind → List Entry → Bool
 entries_typed m env kind entries = list_all (λ (e : Entry). operand_fits m env kind e.value) entries
+
+-- elements are of one type, and fit it
+abbrev pub elements_fit : Module → Ty → List Elem → Bool
+elements_fit m of es = list_all (λ (e : Fitted). same_ty e.ty of && e.fits) (map (fitted m) es)

@@ -4,6 +4,7 @@
 pub mod call;
 pub mod end;
 pub mod flow;
+pub mod init;
 pub mod kinds;
 pub mod op;
 pub mod operand;
