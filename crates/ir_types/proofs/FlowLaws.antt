@@ -10,7 +10,7 @@ use Rattle.ir_core.specs.Names.{same_name, number_where}
 use Rattle.ir_core.specs.Definitions.{is_among}
 use Rattle.ir_core.specs.Typing.{labels_of}
 use Rattle.ir_core.specs.Valid.{leads_to, predecessors, entries_fit}
-use Rattle.ir_types.specs.Flow.{Edge, Rows, edges_to, edges_of, with_name, row_at, noted_at, label_number, noted, noted_all}
+use Rattle.ir_types.specs.Flow.{Edge, Rows, edges_to, edges_of, with_name, row_at, noted_at, label_number, noted, noted_all, rows_of}
 
 -- names that are the same are one name
 pub name_is : (a b : List ℕ) → same_name a b ≡ true → a ≡ b
@@ -215,10 +215,6 @@ all_not_any p (x ∷ xs) = ap (λ b. p x && b) (all_not_any p xs) ∙ of_bool (p
 pub all_agree : {X : Type 0} (p r : X → Bool) (xs : List X) → ((x : X) → p x ≡ r x) → list_all p xs ≡ list_all r xs
 all_agree p r [] same = refl
 all_agree p r (x ∷ xs) same = ap (λ b. b && list_all p xs) (same x) ∙ ap (λ b. r x && b) (all_agree p r xs same)
-
--- the rows of a function
-abbrev pub rows_of : List Block → Rows
-rows_of bs = noted_all (map (λ (b : Block). b.label) bs) (replicate (length bs) []) (flat_map edges_of bs)
 
 -- entries fit the row of a label where they fit its predecessors
 pub row_fits : (bs : List Block) (q : List ℕ) (t : ℕ) (entries : List Entry) → label_number (map (λ (b : Block). b.label) bs) q ≡ Some t → entries_fit (row_at (rows_of bs) (Some t)) entries ≡ entries_fit (predecessors bs q) entries

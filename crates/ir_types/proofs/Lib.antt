@@ -4,3 +4,4 @@ pub mod RowLaws
 pub mod FlowLaws
 pub mod EntryLaws
 pub mod ArrayLaws
+pub mod FirstLaws

@@ -1,5 +1,5 @@
 -- Edges of a function, one after another, and rows of labels from which they lead.
-use Rattle.std.specs.Prelude.{ℕ, List, [], ◌∷◌, ◌++◌, map, fold, slice_get, slice_set, unwrap_or, Option, Some, None, if◌then◌else◌}
+use Rattle.std.specs.Prelude.{ℕ, List, length, replicate, [], ◌∷◌, ◌++◌, map, fold, slice_get, slice_set, unwrap_or, Option, Some, None, if◌then◌else◌}
 use Rattle.std.specs.List.{flat_map}
 use Rattle.ir_core.specs.declared.instruction.Term.{Term}
 use Rattle.ir_core.specs.declared.module.Block.{Block}
@@ -49,3 +49,7 @@ noted labels rows e = noted_at rows e.from (label_number labels e.to)
 -- rows with more edges
 abbrev pub noted_all : List (List ℕ) → Rows → List Edge → Rows
 noted_all labels rows edges = fold (noted labels) rows edges
+
+-- the rows of a function
+abbrev pub rows_of : List Block → Rows
+rows_of bs = noted_all (map (λ (b : Block). b.label) bs) (replicate (length bs) []) (flat_map edges_of bs)

@@ -2,3 +2,4 @@ pub mod Fitting
 pub mod Standing
 pub mod Flow
 pub mod Entries
+pub mod Spots

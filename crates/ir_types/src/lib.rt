@@ -11,3 +11,4 @@ pub mod operand;
 pub mod parts;
 pub mod phi;
 pub mod same;
+pub mod spots;
