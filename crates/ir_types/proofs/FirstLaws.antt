@@ -48,7 +48,7 @@ unless_true b s e = sym (ap (λ c. slice_get (unless c s) 0) e)
 
 -- one more item that passes or doesn't
 pub all_more : {X : Type 0} (test : X → Bool) (xs : List X) (k : ℕ) (x : X) → k < length xs → x ≡ get_or xs k x → list_all test (take (k + 1) xs) ≡ (list_all test (take k xs) && test x)
-all_more test xs k x inside item = ap (list_all test) (take_item xs k x inside item) ∙ behind (take k xs)
+all_more {X = X} test xs k x inside item = ap (list_all test) (take_item xs k x inside item) ∙ behind (take k xs)
   where
     last : (b : Bool) → (b && true) ≡ b
     last true = refl

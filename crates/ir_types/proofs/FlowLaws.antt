@@ -230,7 +230,7 @@ row_fits bs q t entries known =
 -- the label of a block is that of one
 pub label_known : (bs : List Block) (j : ℕ) (d : Block) → j < length bs → label_number (map (λ (b : Block). b.label) bs) (get_or bs j d).label ≢ None
 label_known [] j d inside = absurd (omega arith)
-label_known (b ∷ bs) zero d inside = λ e. (let s = same_itself b.label in let f : Some 0 ≡ None = sym (ap (λ x. if x then Some 0 else option_map (λ n. suc n) (label_number (map (λ (c : Block). c.label) bs) b.label)) s) ∙ e in absurd (cc))
+label_known (b ∷ bs) zero d inside = λ e. (let s = same_itself b.label in let f : (let o : Option ℕ = Some 0 in o ≡ None) = sym (ap (λ x. if x then Some 0 else option_map (λ n. suc n) (label_number (map (λ (c : Block). c.label) bs) b.label)) s) ∙ e in absurd (cc))
 label_known (b ∷ bs) (suc j) d inside = λ e. label_known bs j d (omega arith) (of_bool (same_name b.label (get_or bs j d).label) (label_number (map (λ (c : Block). c.label) bs) (get_or bs j d).label) e)
   where
     of_bool : (x : Bool) (o : Option ℕ) → (if x then Some 0 else option_map (λ n. suc n) o) ≡ None → o ≡ None

@@ -5,3 +5,5 @@ pub mod FlowLaws
 pub mod EntryLaws
 pub mod ArrayLaws
 pub mod FirstLaws
+pub mod BlockLaws
+pub mod BuiltLaws

@@ -3,3 +3,4 @@ pub mod Standing
 pub mod Flow
 pub mod Entries
 pub mod Spots
+pub mod Answers

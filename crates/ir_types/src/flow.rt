@@ -8,7 +8,7 @@ ghost use Rattle.std.specs.List.{flat_map};
 ghost use Rattle.ir_core.specs.Typing.{labels_of};
 ghost use Rattle.ir_core.specs.Definitions.{label_names};
 ghost use Rattle.ir_core.specs.declared.instruction.Case.{Case as OneCase};
-ghost use Rattle.ir_types.specs.Flow.{Rows, edges_to, edges_of, noted, noted_all, row_at, label_number};
+ghost use Rattle.ir_types.specs.Flow.{Rows, edges_to, edges_of, noted, noted_all, row_at, label_number, rows_of};
 
 use ir_core::instruction::{Case, Term};
 use ir_core::module::Block;
@@ -96,11 +96,29 @@ fn empty_rows<'a>(alloc: Global, count: usize) -> Result<Vec<NameSet<'a>>, NoMem
 impl<'a> Flow<'a> {
     /// The labels that lead to each block of a function.
     pub fn new(alloc: Global, scope: &Scope, blocks: &'a [Block]) -> Result<Flow<'a>, NoMemory>
-        ensures { IfOk result (λ w. w.rows.items ≡ noted_all (label_names scope.now) (replicate (length blocks.now) []) (flat_map edges_of blocks.now)) }
+        requires { blocks.now ≡ scope.now.blocks }
+        ensures { IfOk result (λ w. w.rows.items ≡ rows_of blocks.now) }
     {
         let rows = empty_rows(alloc, blocks.len())?;
         let mut flow = Flow { rows };
         flow.note_blocks(scope, blocks)?;
         Ok(flow)
+    }
+
+    /// The row of a label, or else an empty one. Takes no memory.
+    pub fn row<'b>(&'b self, scope: &Scope, label: &Name, none: &'b NameSet<'a>) -> &'b NameSet<'a>
+        requires { none.now ≡ [] }
+        ensures { result.now ≡ row_at self.now.rows.items (label_number (label_names scope.now) label.now) }
+    {
+        match scope.block(label) {
+            Some(t) => {
+                if t < self.rows.len() {
+                    &self.rows[t]
+                } else {
+                    none
+                }
+            }
+            None => none,
+        }
     }
 }

@@ -3,16 +3,16 @@
 //! Globals come first, then declarations, then functions, each in front of what is in it; a block's
 //! terminator comes behind its instructions. Numbers count from 0.
 
-ghost use Rattle.std.specs.Prelude.{◌≡◌, ◌≢◌, ◌<◌, ◌^◌, [], None, length, IfOk, IsTrue};
+ghost use Rattle.std.specs.Prelude.{◌≡◌, ◌<◌, ◌^◌, [], length, IfOk, IsTrue};
 ghost use Rattle.std.specs.List.{list_all, flat_map, enumerate_from};
-ghost use Rattle.ir_core.specs.Built.{block_built, function_built};
-ghost use Rattle.ir_core.specs.Definitions.{repeated, local_names, label_names};
-ghost use Rattle.ir_core.specs.Valid.{is_phi, alloca_fits, end_fits, function_fits, declaration_fits, init_fits, faults_in_block, faults_in_function};
+ghost use Rattle.ir_core.specs.Built.{block_built, blocks_built, function_built};
+ghost use Rattle.ir_core.specs.Definitions.{repeated, local_names};
+ghost use Rattle.ir_core.specs.Valid.{is_phi, alloca_fits, unless, end_fits, function_fits, declaration_fits, init_fits, faults_in_block, faults_in_function};
 ghost use Rattle.ir_core.specs.declared.module.Param.{Param as OneParam};
 ghost use Rattle.ir_core.specs.Kinds.{kind_of};
 ghost use Rattle.ir_core.specs.Typing.{is_value};
-ghost use Rattle.ir_types.specs.Spots.{phi_placed, inst_placed, insts_faults, first_spot};
-ghost use Rattle.ir_types.specs.Flow.{label_number, row_at, rows_of};
+ghost use Rattle.ir_types.specs.Spots.{HasSources, phi_placed, inst_placed, insts_faults, first_spot};
+ghost use Rattle.ir_types.specs.Flow.{rows_of};
 
 use crate::end::{have_apart, leaves_entry};
 use crate::flow::Flow;
@@ -22,7 +22,7 @@ use crate::phi::fits_edges;
 use ir_core::instruction::{Inst, Op, Term};
 use ir_core::kind::Kind;
 use ir_core::limit::Spot;
-use ir_core::module::{Extern, Function, Param};
+use ir_core::module::{Block, Extern, Function, Param};
 use ir_core::names::NameSet;
 use ir_core::scope::{Scope, result_kind};
 use ir_core::tables::Tables;
@@ -67,10 +67,11 @@ fn fits_alloca(number: u32, op: &Op) -> bool
 }
 
 /// What is known of the block in which an instruction stands.
-struct Site<'b, 'a> {
-    tables: &'b Tables<'a>,
-    scope: &'b Scope<'a>,
-    row: &'b NameSet<'a>,
+#[derive(Clone, Copy)]
+struct Site<'b, 'm, 'f> {
+    tables: &'b Tables<'m>,
+    scope: &'b Scope<'f>,
+    row: &'b NameSet<'f>,
     function: u32,
     number: u32,
 }
@@ -146,4 +147,66 @@ pub fn fits_declaration(e: &Extern) -> bool
     ensures { result ≡ declaration_fits e.now }
 {
     can_result(&e.ret) && are_values(e.params.as_slice())
+}
+
+/// A place, unless what stands there fits. Takes no memory.
+fn spot_unless(fits: bool, at: Spot) -> Option<Spot>
+    ensures { result ≡ first_spot (unless fits at) }
+{
+    if fits { None } else { Some(at) }
+}
+
+/// The first place of a block that fails, where the rows are those of its function.
+fn first_in_block(alloc: Global, site: &Site, b: &Block) -> Result<Option<Spot>, NoMemory>
+    requires built { IsTrue (block_built b.now) }
+    requires sources { HasSources site.now.scope.now b.now site.now.row.now }
+    ensures { IfOk result (λ r. r ≡ first_spot (faults_in_block site.now.tables.now site.now.scope.now site.now.function (site.now.number, b.now))) }
+{
+    let in_insts = first_inst(alloc, site, b.insts.as_slice())?;
+    match in_insts {
+        Some(spot) => Ok(Some(spot)),
+        None => {
+            let fits = fits_end(alloc, site.tables, site.scope, &b.end)?;
+            let at = Spot::Inst(site.function, site.number, b.insts.len() as u32);
+            Ok(spot_unless(fits, at))
+        }
+    }
+}
+
+/// The first place of a function's blocks that fails.
+fn first_block<'b, 'm, 'f>(alloc: Global, tables: &'b Tables<'m>, scope: &'b Scope<'f>, flow: &'b Flow<'f>, number: u32) -> Result<Option<Spot>, NoMemory>
+    requires built { IsTrue (blocks_built scope.now.blocks) }
+    requires rows { flow.now.rows.items ≡ rows_of scope.now.blocks }
+    ensures { IfOk result (λ r. r ≡ first_spot (flat_map (faults_in_block tables.now scope.now number) (enumerate_from 0 scope.now.blocks))) }
+{
+    let none = NameSet::new(alloc);
+    let function = scope.function();
+    for (k, b) in function.blocks.as_slice().iter().enumerate() {
+        let site = Site {
+            tables: &*tables,
+            scope: &*scope,
+            row: (&*flow).row(&*scope, &b.label, &none),
+            function: number,
+            number: k as u32,
+        };
+        match first_in_block(alloc, &site, b)? {
+            Some(spot) => return Ok(Some(spot)),
+            None => {}
+        }
+    }
+    Ok(None)
+}
+
+/// The first place of a function that fails, its own types first.
+pub fn first_in_function(alloc: Global, tables: &Tables, number: u32, f: &Function) -> Result<Option<Spot>, NoMemory>
+    requires built { IsTrue (function_built f.now) }
+    requires apart { repeated [] (local_names f.now) ≡ [] }
+    ensures { IfOk result (λ r. r ≡ first_spot (faults_in_function tables.now (number, f.now))) }
+{
+    if !fits_function(f) {
+        return Ok(Some(Spot::Function(number)));
+    }
+    let scope = Scope::new(alloc, f)?;
+    let flow = Flow::new(alloc, &scope, f.blocks.as_slice())?;
+    first_block(alloc, tables, &scope, &flow, number)
 }
