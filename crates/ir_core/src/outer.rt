@@ -43,7 +43,9 @@ impl Outer {
             Outer::Memset
         } else if is_named(name, b"llvm.trap") {
             Outer::TrapNow
-        } else if is_named(name, b"llvm.lifetime.start.p0") || is_named(name, b"llvm.lifetime.end.p0") {
+        } else if is_named(name, b"llvm.lifetime.start.p0")
+            || is_named(name, b"llvm.lifetime.end.p0")
+        {
             Outer::Lifetime
         } else {
             Outer::NoOuter

@@ -1,6 +1,6 @@
 -- The places of a block over a row are those over its predecessors.
-use Rattle.std.proofs.Common.{◌≡◌, ℕ, Bool, true, List, [], ◌∷◌, ◌++◌, length, take, Option, refl, ap, sym, ◌∙◌}
-use Rattle.std.specs.Prelude.{◌&&◌, slice_get}
+use Rattle.std.proofs.Common.{◌≡◌, ℕ, List, [], ◌∷◌, ◌++◌, length, take, refl, ap, sym, ◌∙◌}
+use Rattle.std.specs.Prelude.{◌&&◌}
 use Rattle.std.specs.Option.{option_or}
 use Rattle.std.specs.List.{flat_map, enumerate_from}
 use Rattle.ir_core.specs.declared.limit.Spot.{Spot}
@@ -12,7 +12,7 @@ use Rattle.ir_core.specs.declared.module.Function.{Function}
 use Rattle.ir_core.specs.declared.module.Module.{Module}
 use Rattle.ir_core.specs.Typing.{kind_given}
 use Rattle.ir_core.specs.Valid.{env_of, op_rules, names_value, predecessors, entries_agree, phi_fits, alloca_fits, inst_fits, end_fits, unless, faults_in_block}
-use Rattle.ir_types.specs.Spots.{HasSources, phi_placed, are_phis, inst_placed, inst_faults, insts_faults, first_spot}
+use Rattle.ir_types.specs.Spots.{HasSources, phi_placed, are_phis, inst_faults, insts_faults, first_spot}
 use Rattle.ir_types.proofs.FirstLaws.{first-append}
 
 -- what two functions give where they agree

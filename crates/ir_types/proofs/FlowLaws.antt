@@ -1,12 +1,12 @@
 -- The row of a block has the labels of its predecessors.
-use Rattle.std.proofs.Common.{◌≡◌, ◌≢◌, ℕ, zero, suc, ◌+◌, ◌<◌, Bool, true, false, List, [], ◌∷◌, ◌++◌, length, get_or, replicate, map, fold, Option, Some, None, refl, ap, sym, ◌∙◌, subst, arith, if◌then◌else◌, cond}
-use Rattle.std.specs.Prelude.{◌&&◌, ◌||◌, not, nat_eq, option_map, slice_get, slice_set, unwrap_or, filter}
+use Rattle.std.proofs.Common.{◌≡◌, ◌≢◌, ℕ, zero, suc, ◌<◌, Bool, true, false, List, [], ◌∷◌, ◌++◌, length, get_or, replicate, map, Option, Some, None, refl, ap, sym, ◌∙◌, subst, arith, if◌then◌else◌, cond}
+use Rattle.std.specs.Prelude.{◌&&◌, ◌||◌, not, option_map, slice_set, filter}
 use Rattle.std.specs.List.{list_all, list_any, flat_map}
 use Rattle.std.proofs.lemmas.Bool.{and_parts, eqb-true, eq-eqb}
 use Rattle.std.proofs.lemmas.List.Folds.{list_any-append}
 use Rattle.ir_core.specs.declared.instruction.Entry.{Entry}
 use Rattle.ir_core.specs.declared.module.Block.{Block}
-use Rattle.ir_core.specs.Names.{same_name, number_where}
+use Rattle.ir_core.specs.Names.{same_name}
 use Rattle.ir_core.specs.Definitions.{is_among}
 use Rattle.ir_core.specs.Typing.{labels_of}
 use Rattle.ir_core.specs.Valid.{leads_to, predecessors, entries_fit}

@@ -1,7 +1,6 @@
 -- Edges of a function, one after another, and rows of labels from which they lead.
 use Rattle.std.specs.Prelude.{ℕ, List, length, replicate, [], ◌∷◌, ◌++◌, map, fold, slice_get, slice_set, unwrap_or, Option, Some, None, if◌then◌else◌}
 use Rattle.std.specs.List.{flat_map}
-use Rattle.ir_core.specs.declared.instruction.Term.{Term}
 use Rattle.ir_core.specs.declared.module.Block.{Block}
 use Rattle.ir_core.specs.Names.{same_name, number_where}
 use Rattle.ir_core.specs.Definitions.{is_among}

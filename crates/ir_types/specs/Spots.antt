@@ -1,5 +1,5 @@
 -- The places of a function where a rule of types fails, over rows of predecessors.
-use Rattle.std.specs.Prelude.{◌≡◌, ℕ, List, [], ◌∷◌, ◌++◌, Bool, true, ◌&&◌, length, take, slice_get, Option}
+use Rattle.std.specs.Prelude.{◌≡◌, ℕ, List, Bool, true, ◌&&◌, take, slice_get, Option}
 use Rattle.std.specs.List.{flat_map, list_all, enumerate_from}
 use Rattle.ir_core.specs.declared.limit.Spot.{Spot}
 use Rattle.ir_core.specs.declared.instruction.Op.{Op}

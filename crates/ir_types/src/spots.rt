@@ -174,7 +174,13 @@ fn first_in_block(alloc: Global, site: &Site, b: &Block) -> Result<Option<Spot>,
 }
 
 /// The first place of a function's blocks that fails.
-fn first_block<'b, 'm, 'f>(alloc: Global, tables: &'b Tables<'m>, scope: &'b Scope<'f>, flow: &'b Flow<'f>, number: u32) -> Result<Option<Spot>, NoMemory>
+fn first_block<'b, 'm, 'f>(
+    alloc: Global,
+    tables: &'b Tables<'m>,
+    scope: &'b Scope<'f>,
+    flow: &'b Flow<'f>,
+    number: u32,
+) -> Result<Option<Spot>, NoMemory>
     requires built { IsTrue (blocks_built scope.now.blocks) }
     requires rows { flow.now.rows.items ≡ rows_of scope.now.blocks }
     ensures { IfOk result (λ r. r ≡ first_spot (flat_map (faults_in_block tables.now scope.now number) (enumerate_from 0 scope.now.blocks))) }
@@ -198,7 +204,12 @@ fn first_block<'b, 'm, 'f>(alloc: Global, tables: &'b Tables<'m>, scope: &'b Sco
 }
 
 /// The first place of a function that fails, its own types first.
-pub fn first_in_function(alloc: Global, tables: &Tables, number: u32, f: &Function) -> Result<Option<Spot>, NoMemory>
+pub fn first_in_function(
+    alloc: Global,
+    tables: &Tables,
+    number: u32,
+    f: &Function,
+) -> Result<Option<Spot>, NoMemory>
     requires built { IsTrue (function_built f.now) }
     requires apart { repeated [] (local_names f.now) ≡ [] }
     ensures { IfOk result (λ r. r ≡ first_spot (faults_in_function tables.now (number, f.now))) }

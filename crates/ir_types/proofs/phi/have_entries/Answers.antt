@@ -1,4 +1,4 @@
-use Rattle.std.proofs.Common.{◌≡◌, ◌∙◌, ap}
+use Rattle.std.proofs.Common.{◌∙◌, ap}
 use Rattle.ir_types.specs.Entries.{entry_names}
 use Rattle.ir_types.proofs.EntryLaws.{row_among}
 use Rattle.ir_types.proofs.phi.have_entries.Goals as goal

@@ -1,4 +1,4 @@
-use Rattle.std.proofs.Common.{◌≡◌, ◌∙◌, ap, sym, length}
+use Rattle.std.proofs.Common.{◌∙◌, ap, sym, length}
 use Rattle.std.specs.Option.{option_or}
 use Rattle.ir_core.specs.declared.limit.Spot.{Spot}
 use Rattle.ir_core.specs.Valid.{end_fits, unless}

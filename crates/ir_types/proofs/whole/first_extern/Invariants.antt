@@ -2,10 +2,9 @@
 use Rattle.std.proofs.Common.{◌≡◌, ℕ, drop}
 use Rattle.std.specs.List.{flat_map, enumerate_from}
 use Rattle.ir_core.specs.declared.limit.Spot.{Spot}
-use Rattle.ir_core.specs.declared.module.GlobalVar.{GlobalVar}
 use Rattle.ir_core.specs.declared.module.Extern.{Extern}
-use Rattle.ir_core.specs.Valid.{unless, init_fits, declaration_fits, faults_in_function}
-use Rattle.ir_types.specs.Spots.{first_spot, global_faults, extern_faults, functions_faults}
+use Rattle.ir_core.specs.Valid.{unless, declaration_fits}
+use Rattle.ir_types.specs.Spots.{first_spot, extern_faults}
 use Rattle.ir_types.proofs.whole.first_extern.Given as goal
 
 abbrev pub invariant-loop-k : goal.invariant-loop-k

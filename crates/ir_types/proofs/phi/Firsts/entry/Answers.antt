@@ -1,7 +1,5 @@
-use Rattle.std.proofs.Common.{◌≡◌, ◌∙◌, ap, sym, Some, None, Bor}
-use Rattle.std.specs.Prelude.{option_map}
+use Rattle.std.proofs.Common.{◌∙◌, ap, sym, Some, None}
 use Rattle.std.specs.Option.{option_copied}
-use Rattle.ir_core.specs.declared.instruction.Entry.{Entry}
 use Rattle.ir_types.proofs.EntryLaws.{entry_found}
 use Rattle.ir_types.proofs.phi.Firsts.entry.Goals as goal
 
