@@ -5,7 +5,7 @@
 
 ghost use Rattle.std.specs.Prelude.{◌≡◌, [], map, IfOk, is_some};
 ghost use Rattle.std.specs.Option.{option_copied};
-ghost use Rattle.ir_core.specs.Definitions.{doubled};
+ghost use Rattle.ir_core.specs.Definitions.{doubled, variable_names, type_names as names_of_types, extern_names as names_of_externs, function_names as names_of_functions};
 ghost use Rattle.ir_core.specs.Names.{same_name, first_where};
 ghost use Rattle.ir_core.specs.Operands.{global_number, function_number};
 
@@ -83,6 +83,34 @@ impl<'a> Tables<'a> {
         ensures { result.now ≡ self.now }
     {
         self.whole
+    }
+
+    /// The names of types. Takes no memory.
+    pub fn type_names(&self) -> &NameSet<'a>
+        ensures { result.now ≡ names_of_types self.now }
+    {
+        &self.types
+    }
+
+    /// The names of globals. Takes no memory.
+    pub fn global_names(&self) -> &NameSet<'a>
+        ensures { result.now ≡ variable_names self.now }
+    {
+        &self.variables
+    }
+
+    /// The names of declarations. Takes no memory.
+    pub fn extern_names(&self) -> &NameSet<'a>
+        ensures { result.now ≡ names_of_externs self.now }
+    {
+        &self.externs
+    }
+
+    /// The names of defined functions. Takes no memory.
+    pub fn function_names(&self) -> &NameSet<'a>
+        ensures { result.now ≡ names_of_functions self.now }
+    {
+        &self.functions
     }
 
     /// The named type of a name. Takes no memory.
