@@ -9,7 +9,7 @@ use Rattle.ir_core.specs.declared.init.Init.TheOpen.{Init-F, Elem-F}
 use Rattle.ir_core.specs.declared.init.Elem.{Elem, fold-Elem, fold-roll-Elem}
 use Rattle.ir_core.specs.declared.module.Module.{Module}
 use Rattle.ir_core.specs.Mentions.{Mention, OfType, of_operand, of_init_at, of_init}
-use Rattle.ir_core.specs.Valid.{Fitted, value_fits, array_fits, text_fits, struct_fits, opened, init_fits_at, init_fits}
+use Rattle.ir_core.specs.Valid.{Fitted, value_fits, array_fits, text_fits, struct_fits, opened, init_fits_at, init_fits, fitted}
 
 -- an element's mentions, its type in front
 abbrev element_mentions : Elem-F (List Mention) (List Mention) → List Mention
@@ -51,10 +51,6 @@ mentions-packed es = ap of_init (sym (rolls-Packed es)) ∙ fold-roll-Init (List
 -- an element's fit, its type beside it
 abbrev element_fits : Elem-F (Ty → Bool) Fitted → Fitted
 element_fits e = record { ty = e.ty; fits = e.init e.ty }
-
--- an element against its own type
-abbrev pub fitted : Module → Elem → Fitted
-fitted m e = record { ty = e.ty; fits = init_fits m e.init e.ty }
 
 -- the elements, as a fold has them
 elements_fit : (m : Module) (es : List Elem) → map (fold-Elem (Ty → Bool) Fitted (init_fits_at m) element_fits) es ≡ map (fitted m) es

@@ -1,5 +1,7 @@
 -- Calls and returns, and the functions that stand outside of a module.
 use Rattle.std.specs.Prelude.{ℕ, ◌-◌, ◌%◌, ◌^◌, List, [], ◌∷◌, Bool, true, false, ◌&&◌, nat_le, length, map, slice_get, codes, Option, Some, None, Ok, Err, if◌then◌else◌}
+pub use Rattle.ir_core.specs.declared.outer.Outer.{Outer}
+pub use Rattle.ir_core.specs.declared.outer.Outer.TheVariants.{Putchar, Getchar, Exit, Memcpy, Memset, TrapNow, Lifetime, NoOuter}
 use Rattle.rd_num.specs.declared.width.Width.TheVariants.{W32}
 use Rattle.ir_core.specs.declared.TheConstants.{MAX_CALLS}
 use Rattle.ir_core.specs.declared.operand.Operand.{Operand}
@@ -16,17 +18,6 @@ use Rattle.ir_core.specs.Kinds.{Kind, same_kind, kind_of}
 use Rattle.ir_core.specs.Memory.{Memory, copied, filled, without}
 use Rattle.ir_core.specs.State.{Local, Frame, State, Exchange, Nothing, Print, Take, Turn, with_local}
 use Rattle.ir_core.specs.Operands.{local_value, function_number}
-
--- the functions that a module may declare
-pub data Outer : Type 0 where
-  Putchar : Outer
-  Getchar : Outer
-  Exit : Outer
-  Memcpy : Outer
-  Memset : Outer
-  TrapNow : Outer
-  Lifetime : Outer
-  NoOuter : Outer
 
 -- the function of that name
 abbrev pub outer_of : List ℕ → Outer

@@ -12,6 +12,7 @@ use Rattle.ir_core.specs.declared.operand.Operand.TheVariants.{Int, Bool as Trut
 use Rattle.ir_core.specs.declared.operand.Index0.{Index0}
 use Rattle.ir_core.specs.declared.init.Init.{Init, fold-Init}
 use Rattle.ir_core.specs.declared.init.Init.TheOpen.{Init-F, Elem-F}
+use Rattle.ir_core.specs.declared.init.Elem.{Elem}
 use Rattle.ir_core.specs.declared.instruction.Case.{Case}
 use Rattle.ir_core.specs.declared.instruction.Term.{Term}
 use Rattle.ir_core.specs.declared.instruction.Term.TheVariants.{Switch}
@@ -27,6 +28,7 @@ use Rattle.ir_core.specs.declared.module.Function.{Function}
 use Rattle.ir_core.specs.declared.module.GlobalVar.{GlobalVar}
 use Rattle.ir_core.specs.declared.module.Module.{Module}
 use Rattle.ir_core.specs.Names.{same_name, first_where}
+use Rattle.ir_core.specs.Definitions.{is_among}
 use Rattle.ir_core.specs.Kinds.{Kind, Number, Pointer, kind_of, same_kind, literal}
 use Rattle.ir_core.specs.Calls.{outer_of}
 use Rattle.ir_core.specs.Typing.{Env, is_value, has_kind, operand_fits, outer_fits, arg_fits, op_fits, kind_given, is_result, labels_of, term_fits}
@@ -137,15 +139,15 @@ names_value None kind = true
 abbrev pub leads_to : List ℕ → Block → Bool
 leads_to label p = list_any (λ to. same_name to label) (labels_of p.end)
 
--- the blocks of a function that lead to a label
-abbrev pub predecessors : List Block → List ℕ → List Block
-predecessors blocks label = filter (leads_to label) blocks
+-- the labels of the blocks that lead to a label
+abbrev pub predecessors : List Block → List ℕ → List (List ℕ)
+predecessors blocks label = map (λ (p : Block). p.label) (filter (leads_to label) blocks)
 
 -- each predecessor has an entry, and each entry is for a predecessor
-abbrev pub entries_fit : List Block → List Entry → Bool
+abbrev pub entries_fit : List (List ℕ) → List Entry → Bool
 entries_fit from entries =
-    list_all (λ (p : Block). list_any (λ (e : Entry). same_name e.from p.label) entries) from
-    && list_all (λ (e : Entry). list_any (λ (p : Block). same_name p.label e.from) from) entries
+    list_all (λ (l : List ℕ). list_any (λ (e : Entry). same_name e.from l) entries) from
+    && list_all (λ (e : Entry). is_among from e.from) entries
 
 -- whole numbers that are the same
 abbrev pub same_int : ℤ → ℤ → Bool
@@ -189,7 +191,7 @@ is_phi (Phi ty entries) = true
 is_phi other = false
 
 -- a phi of a block stands behind phis alone, and its entries are those of the edges to the block
-abbrev pub phi_fits : List Block → List Inst → Op → Bool
+abbrev pub phi_fits : List (List ℕ) → List Inst → Op → Bool
 phi_fits from before (Phi ty entries) = list_all (λ (i : Inst). is_phi i.op) before && (entries_fit from entries && entries_agree entries)
 phi_fits from before other = true
 
@@ -210,14 +212,14 @@ case_number (Number w) (Int n) = literal w n
 case_number kind (Truth true) = 1
 case_number kind other = 0
 
--- no number stands twice
-abbrev pub all_apart : List ℕ → Bool
-all_apart [] = true
-all_apart (n ∷ ns) = not (list_any (nat_eq n) ns) && all_apart ns
+-- no number stands behind itself, in a row or in one in front of it
+abbrev pub none_repeats : List ℕ → List ℕ → Bool
+none_repeats before [] = true
+none_repeats before (n ∷ ns) = not (list_any (nat_eq n) before) && none_repeats (before ++ n ∷ []) ns
 
 -- the cases of a switch differ modulo its width
 abbrev pub cases_differ : Term → Bool
-cases_differ (Switch ty a default cases) = all_apart (map (λ (c : Case). case_number (kind_of ty) c.value) cases)
+cases_differ (Switch ty a default cases) = none_repeats [] (map (λ (c : Case). case_number (kind_of ty) c.value) cases)
 cases_differ other = true
 
 -- whether a label is that of the entry block
@@ -294,6 +296,10 @@ init_fits_at m (Init-F.Packed es) ty = struct_fits true es (opened m.types (out-
 -- an initialiser fits a type
 abbrev pub init_fits : Module → Init → Ty → Bool
 init_fits m = fold-Init (Ty → Bool) Fitted (init_fits_at m) (λ (e : Elem-F (Ty → Bool) Fitted). record { ty = e.ty; fits = e.init e.ty })
+
+-- an element against its own type
+abbrev pub fitted : Module → Elem → Fitted
+fitted m e = record { ty = e.ty; fits = init_fits m e.init e.ty }
 
 -- a place where a rule fails
 abbrev pub unless : Bool → Spot → List Spot

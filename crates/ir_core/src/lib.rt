@@ -21,6 +21,7 @@ pub mod memory;
 pub mod module;
 pub mod names;
 pub mod operand;
+pub mod outer;
 pub mod scope;
 pub mod size;
 pub mod tables;

@@ -2,7 +2,7 @@
 //!
 //! Names are lent and never copied. Numbers count from 0. A lookup takes constant time.
 
-ghost use Rattle.std.specs.Prelude.{◌≡◌, ◌∷◌, ◌++◌, IfOk, List, ℕ, [], map, not, slice_get, if◌then◌else◌};
+ghost use Rattle.std.specs.Prelude.{◌≡◌, ◌∷◌, ◌++◌, IfOk, List, ℕ, [], length, map, not, slice_get, if◌then◌else◌};
 ghost use Rattle.std.specs.List.{list_any};
 ghost use Rattle.std.specs.Option.{option_copied};
 ghost use Rattle.ir_core.specs.Definitions.{repeated};
@@ -64,6 +64,27 @@ impl<'a> NameSet<'a> {
         ensures { result ≡ number_where (λ n. same_name n name.now) self.now }
     {
         self.kept.get_index_of(&name)
+    }
+
+    /// Whether a name is in the set. Takes no memory.
+    pub fn has(&self, name: &Name) -> bool
+        ensures { result ≡ list_any (same_name name.now) self.now }
+    {
+        self.kept.contains(&name)
+    }
+
+    /// The name of a number, or `None` past the last one. Takes no memory.
+    pub fn get(&self, k: usize) -> Option<&'a Name>
+        ensures { option_copied result ≡ slice_get self.now k }
+    {
+        self.kept.get_index(k).copied()
+    }
+
+    /// How many names there are. Takes no memory.
+    pub fn len(&self) -> usize
+        ensures { result ≡ length self.now }
+    {
+        self.kept.len()
     }
 
     /// Adds names until one is in the set already, and answers that one. Without one all are added.

@@ -177,6 +177,20 @@ impl<'a> Scope<'a> {
         self.function
     }
 
+    /// The labels of its blocks. Takes no memory.
+    pub fn labels(&self) -> &NameSet<'a>
+        ensures { result.now ≡ label_names self.now }
+    {
+        &self.labels
+    }
+
+    /// The names of its parameters and results. Takes no memory.
+    pub fn locals(&self) -> &NameSet<'a>
+        ensures { result.now ≡ named_locals (locals_of self.now) }
+    {
+        &self.locals.names
+    }
+
     /// The kind of a local, or `None` where no local has the name. Takes no memory.
     pub fn kind(&self, name: &Name) -> Option<Kind>
         ensures { result ≡ env_of self.now name.now }

@@ -5,9 +5,9 @@
 
 ghost use Rattle.std.specs.Prelude.{◌≡◌, [], map, IfOk, is_some};
 ghost use Rattle.std.specs.Option.{option_copied};
-ghost use Rattle.ir_core.specs.Definitions.{doubled};
+ghost use Rattle.ir_core.specs.Definitions.{doubled, variable_names, type_names as names_of_types, extern_names as names_of_externs, function_names as names_of_functions};
 ghost use Rattle.ir_core.specs.Names.{same_name, first_where};
-ghost use Rattle.ir_core.specs.Operands.{global_number};
+ghost use Rattle.ir_core.specs.Operands.{global_number, function_number};
 
 use crate::module::{Extern, Function, Module};
 use crate::names::{NameSet, Named, names_of};
@@ -85,6 +85,34 @@ impl<'a> Tables<'a> {
         self.whole
     }
 
+    /// The names of types. Takes no memory.
+    pub fn type_names(&self) -> &NameSet<'a>
+        ensures { result.now ≡ names_of_types self.now }
+    {
+        &self.types
+    }
+
+    /// The names of globals. Takes no memory.
+    pub fn global_names(&self) -> &NameSet<'a>
+        ensures { result.now ≡ variable_names self.now }
+    {
+        &self.variables
+    }
+
+    /// The names of declarations. Takes no memory.
+    pub fn extern_names(&self) -> &NameSet<'a>
+        ensures { result.now ≡ names_of_externs self.now }
+    {
+        &self.externs
+    }
+
+    /// The names of defined functions. Takes no memory.
+    pub fn function_names(&self) -> &NameSet<'a>
+        ensures { result.now ≡ names_of_functions self.now }
+    {
+        &self.functions
+    }
+
     /// The named type of a name. Takes no memory.
     pub fn named_type(&self, name: &Name) -> Option<&'a NamedTy>
         ensures { option_copied result ≡ first_where
@@ -98,6 +126,13 @@ impl<'a> Tables<'a> {
         ensures { result ≡ is_some (global_number self.now name.now) }
     {
         self.variables.number(name).is_some()
+    }
+
+    /// Whether a name is that of a defined function. Takes no memory.
+    pub fn has_function(&self, name: &Name) -> bool
+        ensures { result ≡ is_some (function_number self.now name.now) }
+    {
+        self.functions.number(name).is_some()
     }
 
     /// The declaration of a name. Takes no memory.

@@ -1,0 +1,6 @@
+-- the rows so far
+use Rattle.std.proofs.Common.{◌≡◌, [], replicate}
+use Rattle.ir_types.proofs.flow.empty_rows.Given as goal
+
+abbrev pub invariant-loop-row : goal.invariant-loop-row
+invariant-loop-row l = l.rows.items ≡ replicate l._row []
