@@ -165,9 +165,18 @@ fn texts_have_these_lines(rt: HostRuntime) -> Result<(), Fail> {
         (b"define i32 @main() {\tret i32 7 } ; seven", b""),
         (b"define i64 @main() { ret i64 7 }", b"later\n"),
         (b"define i32 @other() { ret i32 7 }", b"later\n"),
-        (b"define i32 @main() { %a = add nuw i32 1, 2 ret i32 %a }", b""),
-        (b"define i32 @main() { %a = sdiv i32 1, 2 ret i32 %a }", b"later\n"),
-        (b"define i32 @main() { %a = add i32 %a, 2 ret i32 %a }", b"later\n"),
+        (
+            b"define i32 @main() { %a = add nuw i32 1, 2 ret i32 %a }",
+            b"",
+        ),
+        (
+            b"define i32 @main() { %a = sdiv i32 1, 2 ret i32 %a }",
+            b"later\n",
+        ),
+        (
+            b"define i32 @main() { %a = add i32 %a, 2 ret i32 %a }",
+            b"later\n",
+        ),
         (
             b"define i32 @main() { %a = add i32 %b, 2 %b = add i32 1, 2 ret i32 %a }",
             b"later\n",
@@ -176,10 +185,16 @@ fn texts_have_these_lines(rt: HostRuntime) -> Result<(), Fail> {
             b"define i32 @main() { %a = add i32 1, 2 %a = add i32 1, 2 ret i32 %a }",
             b"later\n",
         ),
-        (b"define i32 @main() { %a = add i32 1, 2 ret i32 %b }", b"later\n"),
+        (
+            b"define i32 @main() { %a = add i32 1, 2 ret i32 %b }",
+            b"later\n",
+        ),
         (b"define i32 @main() { ret i32 7", b"grammar 30\n"),
-        (b"define i32 @main() { ret i32 7, }", b"grammar 30\n"),
-        (b"define double @main() { ret double 7 }", b"unsupported 7 double\n"),
+        (b"define i32 @main() { ret i32 7, }", b"grammar 32\n"),
+        (
+            b"define double @main() { ret double 7 }",
+            b"unsupported 7 double\n",
+        ),
         (b"define i32 @main() { ret i32 7 } ?", b"lex 33\n"),
     ];
     for (text, line) in rows {
