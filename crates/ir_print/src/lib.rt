@@ -26,6 +26,8 @@ mod instruction;
 pub mod law;
 mod names;
 mod terminator;
+#[cfg(test)]
+mod tests;
 mod types;
 mod values;
 
