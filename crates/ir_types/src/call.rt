@@ -99,7 +99,8 @@ fn types_fit(types: &[Ty], args: &[Arg]) -> bool
 
 /// Whether the types of parameters are those of arguments.
 fn params_fit(params: &[Param], args: &[Arg]) -> bool
-    ensures { result ≡ all_two same_ty (map (λ (p : OneParam). p.ty) params.now) (types_of args.now) }
+    ensures { result ≡ all_two same_ty (map (λ (p : OneParam). p.ty) params.now)
+        (types_of args.now) }
 {
     if params.len() != args.len() {
         return false;
@@ -114,7 +115,8 @@ fn params_fit(params: &[Param], args: &[Arg]) -> bool
 
 /// Whether a callee of a name has the types of a call.
 fn fits_named(tables: &Tables, name: &Name, ret: &Ty, args: &[Arg]) -> bool
-    ensures { result ≡ named_called tables.now name.now ret.now (types_of args.now) (first_where (λ f. same_name f.name name.now) tables.now.functions) }
+    ensures { result ≡ named_called tables.now name.now ret.now (types_of args.now)
+        (first_where (λ f. same_name f.name name.now) tables.now.functions) }
 {
     match tables.function(name) {
         Some(f) => is_same_ty(&f.ret, ret) && params_fit(f.params.as_slice(), args),
@@ -129,7 +131,8 @@ fn fits_named(tables: &Tables, name: &Name, ret: &Ty, args: &[Arg]) -> bool
 
 /// Whether a callee fits the types of a call.
 fn fits_callee(tables: &Tables, scope: &Scope, ret: &Ty, callee: &Operand, args: &[Arg]) -> bool
-    ensures { result ≡ callee_rules tables.now (env_of scope.now) ret.now (types_of args.now) callee.now }
+    ensures { result ≡ callee_rules tables.now (env_of scope.now) ret.now
+        (types_of args.now) callee.now }
 {
     match callee {
         Operand::Local(name) => is_kind(scope.kind(name), Kind::Pointer),

@@ -56,7 +56,8 @@ fn case_value(kind: Kind, value: &Operand) -> u64
 
 /// Whether no two cases of a switch on a kind stand for one number.
 fn all_differ(alloc: Global, kind: Kind, cases: &[Case]) -> Result<bool, NoMemory>
-    ensures { IfOk result (λ r. r ≡ none_repeats [] (map (λ (c : OneCase). case_number kind c.value) cases.now)) }
+    ensures { IfOk result (λ r. r ≡ none_repeats []
+        (map (λ (c : OneCase). case_number kind c.value) cases.now)) }
 {
     let mut numbers: IndexSet<u64> = IndexSet::new(alloc);
     for c in cases {

@@ -27,7 +27,9 @@ pub struct Flow<'a> {
 impl<'a> Flow<'a> {
     /// One more edge; a label that is no block's is left aside.
     fn note(&mut self, scope: &Scope, to: &Name, from: &'a Name) -> Result<(), NoMemory>
-        ensures { OnOk result (self.new.rows.items ≡ noted (label_names scope.now) self.old.rows.items (record { to = to.now; from = from.now })) }
+        ensures { OnOk result (self.new.rows.items ≡
+            noted (label_names scope.now) self.old.rows.items
+            (record { to = to.now; from = from.now })) }
     {
         match scope.block(to) {
             Some(t) => {
@@ -42,7 +44,9 @@ impl<'a> Flow<'a> {
 
     /// The edges to the labels of cases.
     fn note_cases(&mut self, scope: &Scope, cases: &[Case], from: &'a Name) -> Result<(), NoMemory>
-        ensures { OnOk result (self.new.rows.items ≡ noted_all (label_names scope.now) self.old.rows.items (edges_to from.now (map (λ (c : OneCase). c.to) cases.now))) }
+        ensures { OnOk result (self.new.rows.items ≡
+            noted_all (label_names scope.now) self.old.rows.items
+            (edges_to from.now (map (λ (c : OneCase). c.to) cases.now))) }
     {
         for c in cases {
             self.note(scope, &c.to, from)?;
@@ -52,7 +56,9 @@ impl<'a> Flow<'a> {
 
     /// The edges of a terminator.
     fn note_end(&mut self, scope: &Scope, end: &Term, from: &'a Name) -> Result<(), NoMemory>
-        ensures { OnOk result (self.new.rows.items ≡ noted_all (label_names scope.now) self.old.rows.items (edges_to from.now (labels_of end.now))) }
+        ensures { OnOk result (self.new.rows.items ≡
+            noted_all (label_names scope.now) self.old.rows.items
+            (edges_to from.now (labels_of end.now))) }
     {
         match end {
             Term::Ret | Term::RetValue(_, _) | Term::Unreachable => Ok(()),
@@ -70,7 +76,8 @@ impl<'a> Flow<'a> {
 
     /// The edges of blocks.
     fn note_blocks(&mut self, scope: &Scope, blocks: &'a [Block]) -> Result<(), NoMemory>
-        ensures { OnOk result (self.new.rows.items ≡ noted_all (label_names scope.now) self.old.rows.items (flat_map edges_of blocks.now)) }
+        ensures { OnOk result (self.new.rows.items ≡
+            noted_all (label_names scope.now) self.old.rows.items (flat_map edges_of blocks.now)) }
     {
         for b in blocks {
             self.note_end(scope, &b.end, &b.label)?;
@@ -108,7 +115,8 @@ impl<'a> Flow<'a> {
     /// The row of a label, or else an empty one. Takes no memory.
     pub fn row<'b>(&'b self, scope: &Scope, label: &Name, none: &'b NameSet<'a>) -> &'b NameSet<'a>
         requires { none.now ≡ [] }
-        ensures { result.now ≡ row_at self.now.rows.items (label_number (label_names scope.now) label.now) }
+        ensures { result.now ≡ row_at self.now.rows.items
+            (label_number (label_names scope.now) label.now) }
     {
         match scope.block(label) {
             Some(t) => {

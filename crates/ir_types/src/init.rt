@@ -80,7 +80,8 @@ fn fits_array(tables: &Tables, es: &[Elem], ty: &Ty) -> bool
 /// Whether elements are a struct, or a packed one, of a type; a name stands for its type.
 #[cycle(init)]
 fn fits_struct(tables: &Tables, packed: bool, es: &[Elem], ty: &Ty) -> bool
-    ensures { result ≡ struct_fits packed (map (fitted tables.now) es.now) (opened tables.now.types (out-Ty ty.now)) }
+    ensures { result ≡ struct_fits packed (map (fitted tables.now) es.now)
+        (opened tables.now.types (out-Ty ty.now)) }
 {
     match ty {
         Ty::Named(name) => match tables.named_type(name) {

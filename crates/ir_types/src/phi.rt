@@ -46,7 +46,8 @@ impl<'a> Firsts<'a> {
     /// The first entry for a block. Takes no memory.
     fn entry(&self, block: &Name) -> Option<&'a Entry>
         requires { self.now.names ≡ entry_names (map (λ r. r.now) self.now.entries) }
-        ensures { option_copied result ≡ first_where (λ (g : OneEntry). same_name g.from block.now) (map (λ r. r.now) self.now.entries) }
+        ensures { option_copied result ≡ first_where (λ (g : OneEntry). same_name g.from block.now)
+            (map (λ r. r.now) self.now.entries) }
     {
         match self.names.number(block) {
             Some(k) => self.entries.get(k).copied(),
@@ -69,7 +70,8 @@ fn agrees(e: &Entry, first: Option<&Entry>) -> bool
 fn agrees_in(firsts: &Firsts, entries: &[Entry], e: &Entry) -> bool
     requires firsts { map (λ r. r.now) firsts.now.entries ≡ firsts_in entries.now }
     requires named { firsts.now.names ≡ entry_names (map (λ r. r.now) firsts.now.entries) }
-    ensures { result ≡ agrees_with e.now (first_where (λ (g : OneEntry). same_name g.from e.now.from) entries.now) }
+    ensures { result ≡ agrees_with e.now (first_where
+        (λ (g : OneEntry). same_name g.from e.now.from) entries.now) }
 {
     agrees(e, firsts.entry(&e.from))
 }
@@ -127,7 +129,8 @@ fn are_among(names: &NameSet, row: &NameSet) -> bool
 fn have_entries(firsts: &Firsts, row: &NameSet, entries: &[Entry]) -> bool
     requires firsts { map (λ r. r.now) firsts.now.entries ≡ firsts_in entries.now }
     requires named { firsts.now.names ≡ entry_names (map (λ r. r.now) firsts.now.entries) }
-    ensures { result ≡ list_all (λ l. list_any (λ (e : OneEntry). same_name e.from l) entries.now) row.now }
+    ensures { result ≡ list_all (λ l. list_any (λ (e : OneEntry). same_name e.from l) entries.now)
+        row.now }
 {
     let _all = entries;
     are_among(&firsts.names, row)

@@ -78,7 +78,8 @@ struct Site<'b, 'm, 'f> {
 
 /// Whether an instruction fits where it stands.
 fn fits_site(alloc: Global, site: &Site, early: bool, i: &Inst) -> Result<bool, NoMemory>
-    ensures { IfOk result (λ r. r ≡ inst_placed site.now.tables.now site.now.scope.now site.now.row.now site.now.number early i.now) }
+    ensures { IfOk result (λ r. r ≡ inst_placed site.now.tables.now site.now.scope.now
+        site.now.row.now site.now.number early i.now) }
 {
     let typed = fits_op(site.tables, site.scope, &i.op)
         && fits_result(&i.result, result_kind(&i.op));
@@ -89,7 +90,9 @@ fn fits_site(alloc: Global, site: &Site, early: bool, i: &Inst) -> Result<bool, 
 /// The first place of instructions that fails.
 fn first_inst(alloc: Global, site: &Site, insts: &[Inst]) -> Result<Option<Spot>, NoMemory>
     requires { length insts.now < 2 ^ 32 }
-    ensures { IfOk result (λ r. r ≡ first_spot (insts_faults site.now.tables.now site.now.scope.now site.now.row.now site.now.function site.now.number insts.now)) }
+    ensures { IfOk result (λ r. r ≡ first_spot
+        (insts_faults site.now.tables.now site.now.scope.now site.now.row.now site.now.function
+        site.now.number insts.now)) }
 {
     let mut early = true;
     for (k, i) in insts.iter().enumerate() {
@@ -160,7 +163,9 @@ fn spot_unless(fits: bool, at: Spot) -> Option<Spot>
 fn first_in_block(alloc: Global, site: &Site, b: &Block) -> Result<Option<Spot>, NoMemory>
     requires built { IsTrue (block_built b.now) }
     requires sources { HasSources site.now.scope.now b.now site.now.row.now }
-    ensures { IfOk result (λ r. r ≡ first_spot (faults_in_block site.now.tables.now site.now.scope.now site.now.function (site.now.number, b.now))) }
+    ensures { IfOk result (λ r. r ≡ first_spot
+        (faults_in_block site.now.tables.now site.now.scope.now site.now.function
+        (site.now.number, b.now))) }
 {
     let in_insts = first_inst(alloc, site, b.insts.as_slice())?;
     match in_insts {
@@ -183,7 +188,9 @@ fn first_block<'b, 'm, 'f>(
 ) -> Result<Option<Spot>, NoMemory>
     requires built { IsTrue (blocks_built scope.now.blocks) }
     requires rows { flow.now.rows.items ≡ rows_of scope.now.blocks }
-    ensures { IfOk result (λ r. r ≡ first_spot (flat_map (faults_in_block tables.now scope.now number) (enumerate_from 0 scope.now.blocks))) }
+    ensures { IfOk result (λ r. r ≡ first_spot
+        (flat_map (faults_in_block tables.now scope.now number)
+        (enumerate_from 0 scope.now.blocks))) }
 {
     let none = NameSet::new(alloc);
     let function = scope.function();
