@@ -12,6 +12,7 @@ import sys
 import tempfile
 import time
 
+import reading
 import verifier
 
 HERE = os.path.dirname(os.path.abspath(__file__))
@@ -132,7 +133,7 @@ def main():
         bench.big_objects()
         bench.machine()
     print()
-    return verifier.main()
+    return verifier.main() or reading.main()
 
 
 if __name__ == "__main__":

@@ -27,7 +27,7 @@ same "a folder" $? "3 file"
 compile /dev/zero >/dev/null
 same "an endless file" $? "8 long"
 compile /dev/null >/dev/null
-same "an empty file" $? "4 later"
+same "an empty file" $? "4 no main"
 compile <(cat examples/seven.ll) >/dev/null
 same "a pipe as a file" $? "0 "
 ./read_main compile $'\xff' --slot-seed 1 --reg-seed 2 >/dev/null 2>"$line"

@@ -7,7 +7,8 @@ ghost use Rattle.ir_core.specs.declared.module.Module.{Module as IrModule};
 ghost use Rattle.ir_grammar.specs.Tokens.{kinds};
 ghost use Rattle.ir_grammar.specs.Grammar.{Derives};
 ghost use Rattle.ir_syntax.specs.ModuleText.{module_text as a_module_text};
-ghost use Rattle.ir_parse.specs.Faults.{Faults, LeavesStray, Tells, AreOfText, is_unsupported as is_unsupported_at};
+ghost use Rattle.ir_core.specs.Built.{IsBuilt};
+ghost use Rattle.ir_parse.specs.Faults.{Faults, LeavesStray, Tells, AreOfText, AreOfSmallText, is_unsupported as is_unsupported_at};
 
 use crate::module::module_text;
 use ir_core::module::Module;
@@ -175,10 +176,13 @@ fn told(alloc: Global, tokens: &[Token], stop: Stop, end: u64) -> ParseFault
 ///
 /// `Grammar` and `Unsupported` come exactly where the tokens are no module's, with the place of the first
 /// one with which no module's text goes on, or `end`; `Unsupported` exactly where that token is a word
-/// that is known and not supported. Takes time and memory linear in the tokens.
+/// that is known and not supported. A text of fewer than 2^32 bytes says none but built modules. Takes
+/// time and memory linear in the tokens.
+#[tactic(auto, using(crate::proofs::BuiltModule::small_built))]
 pub fn parse(alloc: Global, tokens: &List<Token>, end: u64) -> Result<Module, ParseFault>
     requires { AreOfText tokens.now end }
     ensures text { IfOk result (λ m. Derives a_module_text m (kinds tokens.now)) }
+    ensures built { IfOk result (λ m. AreOfSmallText tokens.now → IsBuilt m) }
     ensures fault { IfErr result (λ fault. Faults tokens.now end fault) }
 {
     match whole(alloc, tokens.as_slice()) {

@@ -16,3 +16,4 @@ mod Spelled
 mod TypesRead
 mod Whole
 mod WordsRead
+pub mod Alone

@@ -1,5 +1,6 @@
 pub mod Alike
 pub mod ByCommand
+mod Invalid
 mod Made
 pub mod Runs
 pub mod Told

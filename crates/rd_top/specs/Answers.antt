@@ -4,6 +4,10 @@ use Rattle.behavior.specs.Ending.{Ending}
 use Rattle.behavior.specs.Ending as ending
 use Rattle.obj_check.specs.declared.fault.ShapeSpot.{ShapeSpot}
 use Rattle.obj_check.specs.declared.fault.ShapeSpot.TheVariants.{Whole, Function, Slot}
+use Rattle.ir_core.specs.declared.limit.Limit.{Limit}
+use Rattle.ir_core.specs.declared.limit.Limit.TheVariants as limit
+use Rattle.ir_core.specs.declared.limit.Spot.{Spot}
+use Rattle.ir_core.specs.declared.limit.Spot.TheVariants as spot
 use Rattle.rd_top.specs.declared.answer.Outcome.{Outcome}
 use Rattle.rd_top.specs.declared.answer.Outcome.TheVariants.{Ended, Trapped, Going, Stopped}
 use Rattle.rd_top.specs.declared.answer.Trap.{Trap}
@@ -13,11 +17,11 @@ use Rattle.rd_top.specs.declared.answer.Stop.TheVariants.{PageFault, NoForm, NoF
 use Rattle.rd_top.specs.declared.answer.Refusal.{Refusal}
 use Rattle.rd_top.specs.declared.answer.Refusal.TheVariants.{Module, Object, Image, Script}
 use Rattle.rd_top.specs.declared.answer.ModuleFault.{ModuleFault}
-use Rattle.rd_top.specs.declared.answer.ModuleFault.TheVariants.{Lex, Grammar, Unsupported, Later}
+use Rattle.rd_top.specs.declared.answer.ModuleFault.TheVariants.{Lex, Grammar, Unsupported, Doubled, Unknown, Limited, External, NoMain, BadType, Later}
 use Rattle.rd_top.specs.declared.answer.ObjectFault.{ObjectFault}
 use Rattle.rd_top.specs.declared.answer.ObjectFault.TheVariants.{Form, Shape}
 use Rattle.rd_top.specs.declared.answer.Answer.{Answer}
-use Rattle.rd_top.specs.declared.answer.Answer.TheVariants.{Done, Ran, Words, File, Refused, Long, Out, Input, Memory}
+use Rattle.rd_top.specs.declared.answer.Answer.TheVariants.{Done, Valid, Ran, Words, File, Refused, Long, Out, Input, Memory}
 
 -- by what is refused: a module, an object, an image, a script
 abbrev pub refusal_number : Refusal → ℕ
@@ -34,6 +38,7 @@ outcome_number (Stopped stop) = 22
 
 abbrev pub status_number : Answer → ℕ
 status_number Done = 0
+status_number Valid = 0
 status_number (Ran outcome) = outcome_number outcome
 status_number Words = 2
 status_number File = 3
@@ -84,10 +89,38 @@ shape_text rule spot offset = (((((codes "shape " ++ decimal rule) ++ spot_word 
 abbrev pub unsupported_text : ℕ → List ℕ → List ℕ
 unsupported_text place word = (((codes "unsupported " ++ decimal place) ++ codes " ") ++ word) ++ 10 ∷ []
 
+-- WORD NAME, where the name begins with its mark
+abbrev pub named_text : List ℕ → List ℕ → List ℕ
+named_text word name = (word ++ name) ++ 10 ∷ []
+
+abbrev pub limit_word : Limit → List ℕ
+limit_word limit.Nesting = codes "limit nesting "
+limit_word limit.Size = codes "limit size "
+limit_word limit.Functions = codes "limit functions "
+limit_word limit.Instructions = codes "limit instructions "
+limit_word limit.Total = codes "limit total "
+limit_word limit.Parameters = codes "limit parameters "
+limit_word limit.Frame = codes "limit frame "
+limit_word limit.Bytes = codes "limit bytes "
+limit_word limit.Code = codes "limit code "
+
+-- type global G, type extern E, type function F, or type inst F B I
+abbrev pub type_text : Spot → List ℕ
+type_text (spot.Global g) = codes "type global " ++ decimal g ++ 10 ∷ []
+type_text (spot.Extern e) = codes "type extern " ++ decimal e ++ 10 ∷ []
+type_text (spot.Function f) = codes "type function " ++ decimal f ++ 10 ∷ []
+type_text (spot.Inst f b i) = (((((codes "type inst " ++ decimal f) ++ codes " ") ++ decimal b) ++ codes " ") ++ decimal i) ++ 10 ∷ []
+
 abbrev pub module_fault_text : ModuleFault → List ℕ
 module_fault_text (Lex place) = codes "lex " ++ decimal place ++ 10 ∷ []
 module_fault_text (Grammar place) = codes "grammar " ++ decimal place ++ 10 ∷ []
 module_fault_text (Unsupported place word) = unsupported_text place word
+module_fault_text (Doubled name) = named_text (codes "doubled ") name
+module_fault_text (Unknown name) = named_text (codes "unknown ") name
+module_fault_text (Limited which count) = limit_word which ++ decimal count ++ 10 ∷ []
+module_fault_text (External name) = named_text (codes "external ") name
+module_fault_text NoMain = codes "no main\n"
+module_fault_text (BadType at) = type_text at
 module_fault_text Later = codes "later\n"
 
 abbrev pub refusal_text : Refusal → List ℕ
@@ -100,6 +133,7 @@ refusal_text (Script line) = codes "script " ++ decimal line ++ 10 ∷ []
 -- no line for the defined answer of a command that writes
 abbrev pub line_of : Answer → List ℕ
 line_of Done = []
+line_of Valid = codes "valid\n"
 line_of (Ran outcome) = outcome_text outcome
 line_of Words = codes "words\n"
 line_of File = codes "file\n"

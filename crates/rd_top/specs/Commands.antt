@@ -3,28 +3,34 @@ use Rattle.std.specs.Prelude.{◌≡◌, ℕ, List, Option, Some, None}
 use Rattle.rd_io.specs.Told.{FilesTold, SinkTold}
 use Rattle.watch_script.specs.Events.{last_after}
 use Rattle.rd_top.specs.declared.answer.Answer.{Answer}
-use Rattle.rd_top.specs.declared.answer.Answer.TheVariants.{Words}
+use Rattle.rd_top.specs.declared.answer.Answer.TheVariants.{Words, Valid}
 use Rattle.rd_top.specs.Files.{OfFile}
-use Rattle.rd_top.specs.Kinds.{module_text, object_file, image_file, script_file}
+use Rattle.rd_top.specs.Kinds.{module_text, narrow_text, object_file, image_file, script_file}
 use Rattle.rd_top.specs.Puts.{Writes}
 use Rattle.rd_top.specs.Courses.{Streams}
 use Rattle.rd_top.specs.Reports.{Reports}
-use Rattle.rd_top.specs.Making.{IsObjectFor, IsImageFor, IsLaid}
+use Rattle.rd_top.specs.Making.{IsPrinted, IsObjectFor, IsImageFor, IsLaid}
 use Rattle.rd_top.specs.Machines.{machine_course, shown_after, report_on}
 use Rattle.rd_top.specs.World.{World}
-use Rattle.rd_words.specs.Words.{Reading, Compile, Build, Lay, Run, Show, Watch}
+use Rattle.rd_words.specs.Words.{Reading, Check, Print, Compile, Build, Lay, Run, Show, Watch}
 
 -- nothing was taken, and nothing was put
 abbrev pub Untouched : World → World → Type 0
 Untouched before after = (after.input ≡ before.input) × (after.out ≡ before.out)
 
+abbrev pub Checks : List ℕ → FilesTold → FilesTold → Answer → Type 0
+Checks file files files2 a = OfFile module_text file files files2 (Unit {0}) (λ v. a ≡ Valid) a
+
+abbrev pub Prints : List ℕ → FilesTold → FilesTold → SinkTold → SinkTold → Answer → Type 0
+Prints file files files2 out out2 a = OfFile module_text file files files2 (out2 ≡ out) (λ v. Writes (IsPrinted v.kept) out out2 a) a
+
 abbrev pub Compiles : List ℕ → ℕ → ℕ → FilesTold → FilesTold → SinkTold → SinkTold → Answer → Type 0
 Compiles file slot_seed reg_seed files files2 out out2 a =
-    OfFile module_text file files files2 (out2 ≡ out) (λ m. Writes (IsObjectFor m slot_seed reg_seed) out out2 a) a
+    OfFile narrow_text file files files2 (out2 ≡ out) (λ m. Writes (IsObjectFor m slot_seed reg_seed) out out2 a) a
 
 abbrev pub Builds : List ℕ → ℕ → ℕ → ℕ → FilesTold → FilesTold → SinkTold → SinkTold → Answer → Type 0
 Builds file slot_seed reg_seed layout_seed files files2 out out2 a =
-    OfFile module_text file files files2 (out2 ≡ out) (λ m. Writes (IsImageFor m slot_seed reg_seed layout_seed) out out2 a) a
+    OfFile narrow_text file files files2 (out2 ≡ out) (λ m. Writes (IsImageFor m slot_seed reg_seed layout_seed) out out2 a) a
 
 abbrev pub Lays : List ℕ → ℕ → FilesTold → FilesTold → SinkTold → SinkTold → Answer → Type 0
 Lays file layout_seed files files2 out out2 a =
@@ -49,6 +55,8 @@ Watches file script w w2 a =
 -- what an answer says, by what the words ask for
 abbrev pub Means : Option Reading → World → World → Answer → Type 0
 Means None w w2 a = (a ≡ Words) × (w2 ≡ w)
+Means (Some (Check file)) w w2 a = Checks file w.files w2.files a × Untouched w w2
+Means (Some (Print file)) w w2 a = Prints file w.files w2.files w.out w2.out a × (w2.input ≡ w.input)
 Means (Some (Compile file slot_seed reg_seed)) w w2 a = Compiles file slot_seed reg_seed w.files w2.files w.out w2.out a × (w2.input ≡ w.input)
 Means (Some (Build file slot_seed reg_seed layout_seed)) w w2 a = Builds file slot_seed reg_seed layout_seed w.files w2.files w.out w2.out a × (w2.input ≡ w.input)
 Means (Some (Lay file layout_seed)) w w2 a = Lays file layout_seed w.files w2.files w.out w2.out a × (w2.input ≡ w.input)

@@ -1,15 +1,16 @@
 -- The kinds of files: modules' texts, objects, images and scripts.
-use Rattle.std.specs.Prelude.{◌≡◌, ℕ, List, length}
+use Rattle.std.specs.Prelude.{◌≡◌, ℕ, List, length, Some}
 use Rattle.x86_core.specs.declared.image.Image.{Image}
 use Rattle.ir_narrow.specs.declared.narrow.Narrow.{Narrow}
 use Rattle.ir_narrow.specs.Resolved.{Narrows, IsWide}
 use Rattle.ir_core.specs.declared.module.Module.{Module}
+use Rattle.ir_core.specs.declared.valid.Valid.{Valid}
+use Rattle.ir_core.specs.Refusals.{Fault, IsValid, first_fault}
+use Rattle.ir_core.specs.Refusals as invalid
 use Rattle.ir_lex.specs.declared.token.Token.{Token}
 use Rattle.ir_lex.specs.declared.LexFault.TheVariants.{At}
 use Rattle.ir_lex.specs.Tokens.{Scans, Faults as HasNoTokens}
-use Rattle.ir_grammar.specs.Tokens.{kinds}
-use Rattle.ir_grammar.specs.Grammar.{Derives}
-use Rattle.ir_syntax.specs.ModuleText.{module_text as a_module_text}
+use Rattle.ir_print.specs.ReadsBack.{ReadsBack as IsTextOf}
 use Rattle.ir_parse.specs.declared.parse.ParseFault.{ParseFault}
 use Rattle.ir_parse.specs.declared.parse.ParseFault.TheVariants as stray
 use Rattle.ir_parse.specs.Faults.{Faults as FaultsOf}
@@ -23,22 +24,26 @@ use Rattle.obj_check.specs.Least.{spot_of}
 use Rattle.elf_file.specs.Rules.{LoadsAs, FailsFirst}
 use Rattle.watch_script.specs.declared.script.Script.{Script}
 use Rattle.watch_script.specs.Script.{ScriptOf, IsFirstBad}
+use Rattle.ir_check.specs.declared.CheckFault.{CheckFault}
+use Rattle.ir_check.specs.declared.CheckFault.TheVariants as CheckFault
+use Rattle.rd_top.specs.declared.answer.Answer.{Answer}
+use Rattle.rd_top.specs.declared.answer.Answer.TheVariants.{Refused, Memory}
 use Rattle.rd_top.specs.declared.answer.Refusal.{Refusal}
 use Rattle.rd_top.specs.declared.answer.Refusal.TheVariants as refusal
-use Rattle.rd_top.specs.declared.answer.ModuleFault.TheVariants.{Lex, Grammar, Unsupported, Later}
+use Rattle.rd_top.specs.declared.answer.ModuleFault.TheVariants.{Lex, Grammar, Unsupported, Doubled, Unknown, Limited, External, NoMain, BadType, Later}
 use Rattle.rd_top.specs.declared.answer.ObjectFault.TheVariants.{Form, Shape}
 use Rattle.rd_top.specs.Files.{Kind}
 
--- the text's tokens are those of this module
-pub record IsTextOf (text : List ℕ) (whole : Module) : Type 0 where
-  pub tokens : List Token
-  pub scanned : Scans text tokens
-  pub derived : Derives a_module_text whole (kinds tokens)
+-- the text is that of this module, which is valid
+pub record SpellsValid (text : List ℕ) (v : Valid) : Type 0 where
+  pub text_of : IsTextOf text v.kept
+  pub valid : IsValid v.kept
 
--- the text is that of a narrow module, and these are its instructions
+-- the text is that of a valid module that is narrow, and these are its instructions
 pub record SpellsNarrow (text : List ℕ) (n : Narrow) : Type 0 where
   pub whole : Module
   pub text_of : IsTextOf text whole
+  pub valid : IsValid whole
   pub narrows : Narrows whole n
 
 -- the text has tokens, and they are no module's
@@ -47,22 +52,54 @@ pub record HasNoModule (text : List ℕ) (fault : ParseFault) : Type 0 where
   pub scanned : Scans text tokens
   pub stopped : FaultsOf tokens (length text) fault
 
--- the text is that of a module that isn't compiled today
+-- the text is that of a module that isn't valid, and this is the first thing that is wrong with it
+pub record IsOfInvalid (text : List ℕ) (fault : Fault) : Type 0 where
+  pub whole : Module
+  pub text_of : IsTextOf text whole
+  pub first : first_fault whole ≡ Some fault
+
+-- the text is that of a valid module that isn't compiled today
 pub record IsOfLater (text : List ℕ) : Type 0 where
   pub whole : Module
   pub text_of : IsTextOf text whole
+  pub valid : IsValid whole
   pub wide : IsWide whole
 
-abbrev pub RefusesText : List ℕ → Refusal → Type 0
-RefusesText text (refusal.Module (Lex place)) = HasNoTokens text (At place)
-RefusesText text (refusal.Module (Grammar place)) = HasNoModule text (stray.Grammar place)
-RefusesText text (refusal.Module (Unsupported place word)) = HasNoModule text (stray.Unsupported place word)
-RefusesText text (refusal.Module Later) = IsOfLater text
-RefusesText text other = ⊥
+-- why a text is that of no valid module
+abbrev pub RefusesModule : List ℕ → Refusal → Type 0
+RefusesModule text (refusal.Module (Lex place)) = HasNoTokens text (At place)
+RefusesModule text (refusal.Module (Grammar place)) = HasNoModule text (stray.Grammar place)
+RefusesModule text (refusal.Module (Unsupported place word)) = HasNoModule text (stray.Unsupported place word)
+RefusesModule text (refusal.Module (Doubled name)) = IsOfInvalid text (invalid.Doubled name)
+RefusesModule text (refusal.Module (Unknown name)) = IsOfInvalid text (invalid.Unknown name)
+RefusesModule text (refusal.Module (Limited which count)) = IsOfInvalid text (invalid.Limited which count)
+RefusesModule text (refusal.Module (External name)) = IsOfInvalid text (invalid.External name)
+RefusesModule text (refusal.Module NoMain) = IsOfInvalid text invalid.NoMain
+RefusesModule text (refusal.Module (BadType spot)) = IsOfInvalid text (invalid.BadType spot)
+RefusesModule text other = ⊥
+
+-- the answer that names a fault of the checker
+abbrev pub answer_to : CheckFault → Answer
+answer_to (CheckFault.Doubled name) = Refused (refusal.Module (Doubled name))
+answer_to (CheckFault.Unknown name) = Refused (refusal.Module (Unknown name))
+answer_to (CheckFault.Limit which count) = Refused (refusal.Module (Limited which count))
+answer_to (CheckFault.External name) = Refused (refusal.Module (External name))
+answer_to CheckFault.NoMain = Refused (refusal.Module NoMain)
+answer_to (CheckFault.BadType spot) = Refused (refusal.Module (BadType spot))
+answer_to CheckFault.NoMemory = Memory
+
+-- why it is that of none that is compiled
+abbrev pub RefusesNarrow : List ℕ → Refusal → Type 0
+RefusesNarrow text (refusal.Module Later) = IsOfLater text
+RefusesNarrow text other = RefusesModule text other
 
 -- a module's text, at most 8 MiB
-abbrev pub module_text : Kind Narrow
-module_text = record { limit = 8388608; Spells = SpellsNarrow; Refuses = RefusesText }
+abbrev pub module_text : Kind Valid
+module_text = record { limit = 8388608; Spells = SpellsValid; Refuses = RefusesModule }
+
+-- the text of a module that is compiled
+abbrev pub narrow_text : Kind Narrow
+narrow_text = record { limit = 8388608; Spells = SpellsNarrow; Refuses = RefusesNarrow }
 
 -- bytes are those of this object
 pub record Spells (bytes : List ℕ) (o : Object) : Type 0 where

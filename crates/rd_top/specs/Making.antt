@@ -1,4 +1,4 @@
--- What `compile`, `build` and `lay` make.
+-- What `print`, `compile`, `build` and `lay` make.
 use Rattle.std.specs.Prelude.{◌≡◌, ℕ, List}
 use Rattle.behavior.specs.Preserves.{Preserves}
 use Rattle.ir_core.specs.Run.{source_run}
@@ -11,7 +11,14 @@ use Rattle.obj_core.specs.Object.{object_bytes}
 use Rattle.obj_core.specs.Layout.{layout}
 use Rattle.elf_file.specs.Elf.{elf_bytes}
 use Rattle.rd_compile.specs.Compiled.{IsCompiledNarrow}
+use Rattle.ir_print.specs.Canonical.{canonical_text}
 use Rattle.rd_top.specs.Hiding.{Hides}
+use Rattle.ir_print.specs.ReadsBack.{ReadsBack as IsTextOf}
+
+-- bytes are the canonical text of a module, and as a text they are that module's
+pub record IsPrinted (m : Module) (bytes : List ℕ) : Type 0 where
+  pub canonical : bytes ≡ canonical_text m
+  pub text_of : IsTextOf bytes m
 
 -- bytes are those of one object that is compiled from the module with these instructions
 pub record IsObjectFor (n : Narrow) (slot_seed reg_seed : ℕ) (bytes : List ℕ) : Type 0 where

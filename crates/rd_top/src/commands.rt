@@ -3,21 +3,56 @@
 //! A command puts nothing on the sink for messages. What each does to the outside stands in
 //! `specs/Commands.antt`; a further command is one more function here.
 
-ghost use Rattle.rd_top.specs.Commands.{Builds, Compiles, Lays, Runs, Shows, Watches};
+ghost use Rattle.rd_top.specs.Commands.{Builds, Checks, Compiles, Lays, Prints, Runs, Shows, Watches};
 ghost use Rattle.rd_top.specs.World.{KeepsCounts, KeepsFiles, KeepsOut, world};
 
 use crate::answer::Answer;
 use crate::file::read_file;
-use crate::making::{image_bytes, laid_bytes, object_bytes};
+use crate::making::{image_bytes, laid_bytes, object_bytes, printed_bytes};
 use crate::put::put_whole;
 use crate::report::{put_report, reported, seen_after};
 use crate::stream::stream;
+use ir_core::valid::Valid;
 use ir_narrow::narrow::Narrow;
 use obj_core::checked::Checked;
 use rd_io::{Files, Sink, Source};
 use std::alloc::Global;
 use watch_script::script::Script;
 use x86_core::image::Image;
+
+/// `check`: says whether the module in a file is valid.
+pub fn check_file<F: Files>(alloc: Global, file: &str, files: &mut F) -> Answer
+    ensures means { Checks file.now (F.told files.old) (F.told files.new) result }
+    ensures files { KeepsFiles (F.told files.old) (F.told files.new) result }
+{
+    let read: Result<Valid, Answer> = read_file(alloc, file, files);
+    match read {
+        Ok(_valid) => Answer::Valid,
+        Err(answer) => answer,
+    }
+}
+
+/// `print`: writes the canonical text of the module in a file.
+pub fn print_file<F: Files, O: Sink>(
+    alloc: Global,
+    file: &str,
+    files: &mut F,
+    out: &mut O,
+) -> Answer
+    ensures means { Prints file.now (F.told files.old) (F.told files.new)
+        (O.told out.old) (O.told out.new) result }
+    ensures files { KeepsFiles (F.told files.old) (F.told files.new) result }
+    ensures out { KeepsOut (O.told out.old) (O.told out.new) result }
+{
+    let valid: Valid = match read_file(alloc, file, files) {
+        Ok(valid) => valid,
+        Err(answer) => return answer,
+    };
+    match printed_bytes(alloc, &valid) {
+        Ok(bytes) => put_whole(&bytes, out),
+        Err(_) => Answer::Memory,
+    }
+}
 
 /// `compile`: writes the object of the module in a file.
 pub fn compile_file<F: Files, O: Sink>(

@@ -4,7 +4,7 @@
 //! could not be read, 8 where it is too long, and 4 to 7 where its bytes are refused. What a kind
 //! is stands in `specs/Files.antt`, and the four kinds in `kinds`.
 
-ghost use Rattle.std.specs.Prelude.{◌≡◌, IfOk, IfErr, OnOk};
+ghost use Rattle.std.specs.Prelude.{◌≡◌, ◌≤◌, IfOk, IfErr, OnOk, length};
 ghost use Rattle.rd_top.specs.Files.{Kind, IsFileOf, NotTaken, Unread};
 ghost use Rattle.rd_top.specs.World.{KeepsFiles};
 
@@ -22,11 +22,13 @@ pub trait FileKind: Sized {
 
     /// The value that bytes spell, or why there is none.
     fn parse(alloc: Global, bytes: &[u8]) -> Result<Self, Answer>
+        requires { length bytes.now ≤ kind.limit }
         ensures spelled { IfOk result (kind.Spells bytes.now) }
         ensures unread { IfErr result (Unread kind bytes.now) };
 }
 
 /// The value that a file spells, or the answer that says why there is none.
+#[tactic(auto, using(crate::proofs::Told::content_is_short))]
 pub fn read_file<V: FileKind, F: Files>(
     alloc: Global,
     name: &str,

@@ -1,5 +1,7 @@
 //! The top call: words, files, a source and two sinks in, a status out.
 //!
+//!     read_main check FILE
+//!     read_main print FILE
 //!     read_main compile FILE --slot-seed N --reg-seed N
 //!     read_main build FILE --slot-seed N --reg-seed N --layout-seed N
 //!     read_main lay FILE --layout-seed N
@@ -9,7 +11,7 @@
 //!
 //! `rd_words` reads the command line and `commands` does the work: over `file`, which reads a file of a
 //! kind, `put`, which puts a result at once, and `stream`, which puts a run's output as it comes.
-//! `answer` has the statuses with their lines. What a command does to the outside stands in
+//! `answer` has the statuses and `lines` their lines. What a command does to the outside stands in
 //! `specs/Commands.antt`, and what the whole program does in `specs/Program.antt`.
 #![tactic(auto)]
 
@@ -17,11 +19,14 @@ ghost use Rattle.std.specs.Prelude.{Some, map, string_bytes};
 ghost use Rattle.rd_words.specs.Asked.{asked};
 ghost use Rattle.rd_top.specs.Commands.{Means};
 ghost use Rattle.rd_top.specs.Program.{IsAnswered, IsDone};
-ghost use Rattle.rd_top.specs.Telling.{Tells};
+ghost use Rattle.rd_top.specs.Telling.{Tells, TellsLine};
 ghost use Rattle.rd_top.specs.World.{KeepsCounts, world};
 
-use answer::{Answer, line, status};
-use commands::{build_file, compile_file, lay_file, run_file, show_file, watch_file};
+use answer::{Answer, status};
+use commands::{
+    build_file, check_file, compile_file, lay_file, print_file, run_file, show_file, watch_file,
+};
+use lines::line;
 use rd_io::{Files, PutFail, Sink, Source};
 use rd_words::{Command, read_words};
 use std::alloc::Global;
@@ -31,6 +36,7 @@ pub mod commands;
 pub mod file;
 pub mod kinds;
 pub mod law;
+pub mod lines;
 pub mod machine;
 pub mod making;
 pub mod put;
@@ -54,6 +60,8 @@ fn work<F: Files, I: Source, O: Sink>(
         (world (F.told files.new) (I.told input.new) (O.told out.new)) result }
 {
     match command {
+        Command::Check { file } => check_file(alloc, file, files),
+        Command::Print { file } => print_file(alloc, file, files, out),
         Command::Compile {
             file,
             slot_seed,
@@ -92,23 +100,32 @@ fn answered<F: Files, I: Source, O: Sink>(
     }
 }
 
+/// Puts a line, unless it is empty, and answers the status; a sink that fails doesn't change it.
+///
+/// Where memory is wanting for the put, the status is 11.
+fn say<E: Sink>(line: &[u8], status: u8, err: &mut E) -> u8
+    ensures { TellsLine result status line.now (E.told err.old) (E.told err.new) }
+{
+    if line.is_empty() {
+        return status;
+    }
+    match err.put(line) {
+        Ok(()) => status,
+        Err(PutFail::Failed) => status,
+        Err(PutFail::NoMemory) => 11,
+    }
+}
+
 /// Puts the line of an answer on the sink for messages, where it has one.
 ///
 /// A sink that fails changes no status. Where memory is wanting for the line, the status is 11.
+#[tactic(auto, using(crate::proofs::Told::told_line, crate::proofs::Told::never_put))]
 fn finish<E: Sink>(alloc: Global, answer: &Answer, err: &mut E) -> u8
     ensures { Tells result answer.now (E.told err.old) (E.told err.new) }
 {
-    let line = match line(alloc, answer) {
-        Ok(line) => line,
-        Err(_) => return 11,
-    };
-    if line.is_empty() {
-        return status(answer);
-    }
-    match err.put(line.as_slice()) {
-        Ok(()) => status(answer),
-        Err(PutFail::Failed) => status(answer),
-        Err(PutFail::NoMemory) => 11,
+    match line(alloc, answer) {
+        Ok(line) => say(line.as_slice(), status(answer), err),
+        Err(_) => 11,
     }
 }
 

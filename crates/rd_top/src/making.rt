@@ -1,5 +1,6 @@
-//! What `compile`, `build` and `lay` make: each stage takes what the one before it gives.
+//! What `print`, `compile`, `build` and `lay` make: each stage takes what the one before it gives.
 //!
+//!     module -> print
 //!     module -> compile -> object -> write
 //!     module -> compile -> object -> lay -> image -> write
 //!
@@ -8,15 +9,25 @@
 
 ghost use Rattle.std.specs.Prelude.{IfOk};
 ghost use Rattle.ir_narrow.specs.Resolved.{IsOfProgram};
-ghost use Rattle.rd_top.specs.Making.{IsImageFor, IsLaid, IsObjectFor};
+ghost use Rattle.rd_top.specs.Making.{IsImageFor, IsLaid, IsObjectFor, IsPrinted};
 
+use ir_core::valid::Valid;
 use ir_narrow::narrow::Narrow;
+use ir_print::print;
 use obj_core::checked::Checked;
 use obj_lay::lay;
 use rd_compile::compile;
 use rd_num::list::List;
 use rd_num::width::NoMemory;
 use std::alloc::Global;
+
+/// The canonical text of a valid module.
+pub fn printed_bytes(alloc: Global, valid: &Valid) -> Result<List<u8>, NoMemory>
+    ensures { IfOk result (IsPrinted valid.now.kept) }
+{
+    let bytes = print(alloc, valid)?;
+    Ok(bytes)
+}
 
 /// The bytes of a module's object.
 pub fn object_bytes(

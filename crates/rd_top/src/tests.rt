@@ -82,8 +82,10 @@ fn ends_surely(alloc: Global, words: &[&str], content: &[u8]) -> Result<(u8, usi
 
 #[test]
 fn words_have_these_statuses(rt: HostRuntime) -> Result<(), Fail> {
-    let rows: [(&[&str], u8); 19] = [
+    let rows: [(&[&str], u8); 21] = [
         (ASKED, 0),
+        (&["print", "m", "m"], 2),
+        (&["check", "--", "m"], 2),
         (&["show", "m", "--steps", "1"], 6),
         (&["show", "m", "--layout-seed", "1"], 2),
         (&["watch", "m", "--script", "m"], 6),
@@ -155,16 +157,21 @@ fn words_have_these_statuses(rt: HostRuntime) -> Result<(), Fail> {
 
 #[test]
 fn texts_have_these_lines(rt: HostRuntime) -> Result<(), Fail> {
-    let rows: [(&[u8], &[u8]); 19] = [
+    let rows: [(&[u8], &[u8]); 16] = [
         (SEVEN, b""),
-        (b"", b"later\n"),
+        (b"", b"no main\n"),
         (b"define i32 @main() { ret i32 -2147483648 }", b""),
-        (b"define i32 @main() { ret i32 -2147483649 }", b"later\n"),
+        (
+            b"define i32 @main() { ret i32 -2147483649 }",
+            b"type inst 0 0 0\n",
+        ),
         (b"define i32 @main() { ret i32 4294967295 }", b""),
-        (b"define i32 @main() { ret i32 4294967296 }", b"later\n"),
+        (
+            b"define i32 @main() { ret i32 4294967296 }",
+            b"type inst 0 0 0\n",
+        ),
         (b"define i32 @main() {\tret i32 7 } ; seven", b""),
-        (b"define i64 @main() { ret i64 7 }", b"later\n"),
-        (b"define i32 @other() { ret i32 7 }", b"later\n"),
+        (b"define i64 @main() { ret i64 7 }", b"no main\n"),
         (
             b"define i32 @main() { %a = add nuw i32 1, 2 ret i32 %a }",
             b"",
@@ -178,16 +185,8 @@ fn texts_have_these_lines(rt: HostRuntime) -> Result<(), Fail> {
             b"later\n",
         ),
         (
-            b"define i32 @main() { %a = add i32 %b, 2 %b = add i32 1, 2 ret i32 %a }",
-            b"later\n",
-        ),
-        (
-            b"define i32 @main() { %a = add i32 1, 2 %a = add i32 1, 2 ret i32 %a }",
-            b"later\n",
-        ),
-        (
             b"define i32 @main() { %a = add i32 1, 2 ret i32 %b }",
-            b"later\n",
+            b"unknown %b\n",
         ),
         (b"define i32 @main() { ret i32 7", b"grammar 30\n"),
         (b"define i32 @main() { ret i32 7, }", b"grammar 32\n"),
@@ -203,6 +202,94 @@ fn texts_have_these_lines(rt: HostRuntime) -> Result<(), Fail> {
         assert_eq!(rt; left.status == 0, line.is_empty());
         assert_eq!(rt; left.out.is_empty(), !line.is_empty());
     }
+    Ok(())
+}
+
+/// Texts, and what `check` says of them: each refusal, and of two the earlier one.
+const CHECKED: [(&[u8], &[u8]); 19] = [
+    (SEVEN, b"valid\n"),
+    (
+        b"define i32 @main() { e: br i1 true, label %a, label %b a: %x = add i32 1, 2 br label %c
+          b: br label %c c: ret i32 %x }",
+        b"valid\n",
+    ),
+    (
+        b"define i32 @main() { e: ret i32 0 d: ret i32 %x u: %x = add i32 1, 2 br label %d }",
+        b"valid\n",
+    ),
+    (
+        b"define i32 @main() { %a = add i32 1, 2 %a = add i32 1, %b ret i32 %a }",
+        b"doubled %a\n",
+    ),
+    (
+        b"@f = global i32 0 define void @f() { ret void }",
+        b"doubled @f\n",
+    ),
+    (b"%t = type { i32 } %t = type { i8 }", b"doubled %t\n"),
+    (
+        b"%t = type { i32, %u } define i32 @main() { ret i32 %b }",
+        b"unknown %u\n",
+    ),
+    (
+        b"define i32 @main() { e: br label %x x: ret i32 %e }",
+        b"unknown %e\n",
+    ),
+    (
+        b"%t = type { i32, %t } @p = global ptr @exit declare void @exit(i32)",
+        b"limit nesting 65\n",
+    ),
+    (
+        b"%t = type { [67108865 x i8] } define i32 @main() { ret i32 0 }",
+        b"limit size 67108865\n",
+    ),
+    (
+        b"declare i32 @f(i32, i32, i32, i32, i32, i32, i32, i32, i32, i32, i32, i32, i32, i32, i32,
+          i32, i32, i32, i32, i32, i32, i32, i32, i32, i32, i32, i32, i32, i32, i32, i32, i32, i32)",
+        b"limit parameters 33\n",
+    ),
+    (
+        b"@p = global ptr @exit declare void @exit(i32)",
+        b"external @exit\n",
+    ),
+    (
+        b"declare i32 @puts(ptr) define i32 @main() { %a = call i32 @puts(ptr null) ret i32 %a }",
+        b"external @puts\n",
+    ),
+    (
+        b"define void @llvm.x() { ret void } define i32 @main() { ret i32 0 }",
+        b"external @llvm.x\n",
+    ),
+    (b"define i64 @main() { ret i32 7 }", b"no main\n"),
+    (
+        b"declare { i32 } @f() define i32 @main() { ret i32 7 }",
+        b"type extern 0\n",
+    ),
+    (
+        b"@g = global i8 256 define i32 @main() { ret i64 7 }",
+        b"type global 0\n",
+    ),
+    (
+        b"define { i8 } @f() { unreachable } define i32 @main() { ret i32 7 }",
+        b"type function 0\n",
+    ),
+    (
+        b"define void @f() { ret void } define i32 @main() { e: br label %x x: %a = add i8 1, 2
+          ret i32 %a }",
+        b"type inst 1 1 1\n",
+    ),
+];
+
+#[test]
+fn modules_are_checked_to_these_lines(rt: HostRuntime) -> Result<(), Fail> {
+    for (text, line) in CHECKED {
+        let left = run_surely(rt.alloc(), &["check", "m"], text)?;
+        assert!(rt; left.said.as_slice() == line);
+        assert_eq!(rt; left.status == 0, line == b"valid\n".as_slice());
+        assert!(rt; left.out.is_empty());
+    }
+    let printed = run_surely(rt.alloc(), &["print", "m"], SEVEN)?;
+    assert_eq!(rt; printed.status, 0);
+    assert!(rt; printed.out.as_slice() == b"define i32 @main() {\n0:\n  ret i32 7\n}\n".as_slice());
     Ok(())
 }
 
@@ -303,9 +390,20 @@ fn images_run_to_these_lines(rt: HostRuntime) -> Result<(), Fail> {
 const SQUARE: &[u8] =
     b"define i32 @main() { %a = add i32 40, 2 %b = mul i32 %a, %a %c = sub i32 %b, 1 ret i32 %c }";
 
+/// How the object of the module that returns 7 begins: its form, its seeds, its seven functions.
+#[rattlefmt::skip]
+const SEVEN_OBJECT: [u8; 28] = [
+    0x52, 0x44, 0x4F, 0x31, 1, 0, 0, 0,
+    1, 0, 0, 0, 0, 0, 0, 0,
+    2, 0, 0, 0, 0, 0, 0, 0,
+    7, 0, 0, 0,
+];
+
 #[test]
 fn modules_become_images_that_run(rt: HostRuntime) -> Result<(), Fail> {
     let alloc = rt.alloc();
+    let seven = run_surely(alloc, ASKED, SEVEN)?;
+    assert!(rt; seven.out.as_slice().starts_with(&SEVEN_OBJECT));
     let object = run_surely(alloc, ASKED, SQUARE)?;
     for layout_seed in ["3", "4"] {
         let lay = ["lay", "m", "--layout-seed", layout_seed];

@@ -5,8 +5,8 @@ use Rattle.std.specs.Cmp.Lexicographic.{same_text}
 use Rattle.std.proofs.lemmas.Bool.{eqb-true}
 use Rattle.std.proofs.lemmas.Bool.Decides.{nat_tests}
 use Rattle.rd_words.specs.Arguments.{Argument, File, Given, same, files, values, IsLine}
-use Rattle.rd_words.specs.Words.{Reading, Compile, Build, Lay, Run, Show, Watch, number_of, IsReading, IsReadingOf}
-use Rattle.rd_words.specs.Read.{arguments_of, only, file_behind, value_behind, count_behind, if_number, are, FileNumber, with_one, with_two, with_three, with_file, compile_of, build_of, file_and_number, ask, watch_of, by_command, reading_of}
+use Rattle.rd_words.specs.Words.{Reading, Compile, Build, Lay, Run, Show, Watch, Check, Print, number_of, IsReading, IsReadingOf}
+use Rattle.rd_words.specs.Read.{arguments_of, only, file_behind, value_behind, count_behind, if_number, are, FileNumber, with_one, with_two, with_three, with_file, file_and_number, ask, file_alone, ask_file, by_command, reading_of}
 use Rattle.rd_words.proofs.Parts.{arguments_are, arguments_back}
 
 same_is : (xs ys : List ℕ) → same xs ys ≡ true → xs ≡ ys
@@ -165,41 +165,66 @@ asked_is : (make : List ℕ → ℕ → Reading) (o : Option FileNumber) (r : Re
 asked_is make None r h = absurd (cc)
 asked_is make (Some x) r h = (x, refl, cc)
 
+-- a file alone
+module _ (rest : List (List ℕ)) (command : List ℕ) where
+  alone_is : (o : Option (List Argument)) (name : List ℕ) → arguments_of rest ≡ o → (if are (count_behind 0 o) 1 then file_behind [] o else None) ≡ Some name → IsLine (command ∷ rest) command (File name ∷ [])
+  alone_is None name e h = absurd (cc)
+  alone_is (Some args) name e h =
+      let p = passed (nat_eq (0 + length args) 1) _ name h in
+      record { others = rest; command_first = refl; args = args; spelled = arguments_are rest args e; each_once = (only_is (files args) name p.1, tt); no_more = count_is (length args) 1 p.0 }
+
+file_asked : (make : List ℕ → Reading) (o : Option (List ℕ)) (r : Reading) → ask_file make o ≡ Some r → (x : List ℕ) × (o ≡ Some x) × (make x ≡ r)
+file_asked make None r h = absurd (cc)
+file_asked make (Some x) r h = (x, refl, cc)
+
+-- what a command is asked for, where it is one of several
+chosen : (command name : List ℕ) (rest : List (List ℕ)) (o other : Option Reading) (r : Reading) → (if same command name then o else other) ≡ Some r
+    → (o ≡ Some r → IsReading (name ∷ rest) r) → (other ≡ Some r → IsReading (command ∷ rest) r) → IsReading (command ∷ rest) r
+chosen command name rest o other r h here there = by (same command name) refl h
+  where
+    by : (b : Bool) → same command name ≡ b → (if b then o else other) ≡ Some r → IsReading (command ∷ rest) r
+    by true e k = subst (λ w. IsReading (w ∷ rest) r) (sym (same_is command name e)) (here k)
+    by false e k = there k
+
+module _ (rest : List (List ℕ)) (r : Reading) where
+  lay_is : ask Lay (file_and_number (codes "--layout-seed") rest) ≡ Some r → IsReading (codes "lay" ∷ rest) r
+  lay_is k =
+      let x = asked_is Lay (file_and_number (codes "--layout-seed") rest) r k in
+      let l = one_line rest (codes "lay") (codes "--layout-seed") (arguments_of rest) x.0 refl x.1 in
+      subst (IsReading (codes "lay" ∷ rest)) x.2 (l.word, (l.line, l.number))
+
+  run_is : ask Run (file_and_number (codes "--steps") rest) ≡ Some r → IsReading (codes "run" ∷ rest) r
+  run_is k =
+      let x = asked_is Run (file_and_number (codes "--steps") rest) r k in
+      let l = one_line rest (codes "run") (codes "--steps") (arguments_of rest) x.0 refl x.1 in
+      subst (IsReading (codes "run" ∷ rest)) x.2 (l.word, (l.line, l.number))
+
+  show_is : ask Show (file_and_number (codes "--steps") rest) ≡ Some r → IsReading (codes "show" ∷ rest) r
+  show_is k =
+      let x = asked_is Show (file_and_number (codes "--steps") rest) r k in
+      let l = one_line rest (codes "show") (codes "--steps") (arguments_of rest) x.0 refl x.1 in
+      subst (IsReading (codes "show" ∷ rest)) x.2 (l.word, (l.line, l.number))
+
+  check_is : ask_file Check (file_alone rest) ≡ Some r → IsReading (codes "check" ∷ rest) r
+  check_is k =
+      let x = file_asked Check (file_alone rest) r k in
+      subst (IsReading (codes "check" ∷ rest)) x.2 (alone_is rest (codes "check") (arguments_of rest) x.0 refl x.1)
+
+  print_is : ask_file Print (file_alone rest) ≡ Some r → IsReading (codes "print" ∷ rest) r
+  print_is k =
+      let x = file_asked Print (file_alone rest) r k in
+      subst (IsReading (codes "print" ∷ rest)) x.2 (alone_is rest (codes "print") (arguments_of rest) x.0 refl x.1)
+
 command_is : (command : List ℕ) (rest : List (List ℕ)) (r : Reading) → by_command command rest ≡ Some r → IsReading (command ∷ rest) r
 command_is command rest r h =
-    by (same command (codes "compile")) (same command (codes "build")) (same command (codes "lay")) (same command (codes "run")) (same command (codes "show")) (same command (codes "watch")) refl refl refl refl refl refl h
-  where
-    back : (name : List ℕ) → same command name ≡ true → IsReading (name ∷ rest) r → IsReading (command ∷ rest) r
-    back name e x = subst (λ w. IsReading (w ∷ rest) r) (sym (same_is command name e)) x
-
-    lay_is : ask Lay (file_and_number (codes "--layout-seed") rest) ≡ Some r → IsReading (codes "lay" ∷ rest) r
-    lay_is k =
-        let x = asked_is Lay (file_and_number (codes "--layout-seed") rest) r k in
-        let l = one_line rest (codes "lay") (codes "--layout-seed") (arguments_of rest) x.0 refl x.1 in
-        subst (IsReading (codes "lay" ∷ rest)) x.2 (l.word, (l.line, l.number))
-
-    run_is : ask Run (file_and_number (codes "--steps") rest) ≡ Some r → IsReading (codes "run" ∷ rest) r
-    run_is k =
-        let x = asked_is Run (file_and_number (codes "--steps") rest) r k in
-        let l = one_line rest (codes "run") (codes "--steps") (arguments_of rest) x.0 refl x.1 in
-        subst (IsReading (codes "run" ∷ rest)) x.2 (l.word, (l.line, l.number))
-
-    show_is : ask Show (file_and_number (codes "--steps") rest) ≡ Some r → IsReading (codes "show" ∷ rest) r
-    show_is k =
-        let x = asked_is Show (file_and_number (codes "--steps") rest) r k in
-        let l = one_line rest (codes "show") (codes "--steps") (arguments_of rest) x.0 refl x.1 in
-        subst (IsReading (codes "show" ∷ rest)) x.2 (l.word, (l.line, l.number))
-
-    by : (a b c d e f : Bool) → same command (codes "compile") ≡ a → same command (codes "build") ≡ b → same command (codes "lay") ≡ c → same command (codes "run") ≡ d → same command (codes "show") ≡ e → same command (codes "watch") ≡ f →
-        (if a then compile_of rest else (if b then build_of rest else (if c then ask Lay (file_and_number (codes "--layout-seed") rest) else
-        (if d then ask Run (file_and_number (codes "--steps") rest) else (if e then ask Show (file_and_number (codes "--steps") rest) else (if f then watch_of rest else None)))))) ≡ Some r → IsReading (command ∷ rest) r
-    by true b c d e f ea eb ec ed ee ef k = back (codes "compile") ea (compile_is rest (arguments_of rest) r refl k)
-    by false true c d e f ea eb ec ed ee ef k = back (codes "build") eb (build_is rest (arguments_of rest) r refl k)
-    by false false true d e f ea eb ec ed ee ef k = back (codes "lay") ec (lay_is k)
-    by false false false true e f ea eb ec ed ee ef k = back (codes "run") ed (run_is k)
-    by false false false false true f ea eb ec ed ee ef k = back (codes "show") ee (show_is k)
-    by false false false false false true ea eb ec ed ee ef k = back (codes "watch") ef (watch_is rest (arguments_of rest) r refl k)
-    by false false false false false false ea eb ec ed ee ef k = absurd (cc)
+    chosen command (codes "compile") rest _ _ r h (compile_is rest (arguments_of rest) r refl) (λ h1.
+    chosen command (codes "build") rest _ _ r h1 (build_is rest (arguments_of rest) r refl) (λ h2.
+    chosen command (codes "lay") rest _ _ r h2 (lay_is rest r) (λ h3.
+    chosen command (codes "run") rest _ _ r h3 (run_is rest r) (λ h4.
+    chosen command (codes "show") rest _ _ r h4 (show_is rest r) (λ h5.
+    chosen command (codes "watch") rest _ _ r h5 (watch_is rest (arguments_of rest) r refl) (λ h6.
+    chosen command (codes "check") rest _ _ r h6 (check_is rest r) (λ h7.
+    chosen command (codes "print") rest _ _ r h7 (print_is rest r) (λ h8. absurd (cc)))))))))
 
 reading_is : (words : List (List ℕ)) (r : Reading) → reading_of words ≡ Some r → IsReading words r
 reading_is [] r h = absurd (cc)
@@ -216,6 +241,15 @@ one_form b f x file n eb ef ex = rw (eb, ef, ex) refl
 
 file_form : (b : Bool) (f g : Option (List ℕ)) (file script : List ℕ) → b ≡ true → f ≡ Some file → g ≡ Some script → (if b then with_file f g else None) ≡ Some (Watch file script)
 file_form b f g file script eb ef eg = rw (eb, ef, eg) refl
+
+alone_form : (b : Bool) (f : Option (List ℕ)) (file : List ℕ) → b ≡ true → f ≡ Some file → (if b then f else None) ≡ Some file
+alone_form b f file eb ef = rw (eb, ef) refl
+
+-- what a line with a file alone gives
+alone_back : (words : List (List ℕ)) (command file : List ℕ) → (l : IsLine words command (File file ∷ [])) → file_alone l.others ≡ Some file
+alone_back words command file l =
+    ap (λ o. if are (count_behind 0 o) 1 then file_behind [] o else None) (arguments_back l.args l.others l.spelled) ∙
+    alone_form _ _ file (count_back (length l.args) 1 l.no_more) (ap only l.each_once.0)
 
 -- what a line with a file and a number gives
 one_back : (words : List (List ℕ)) (command option file word : List ℕ) (n : ℕ) → (l : IsLine words command (File file ∷ Given option word ∷ [])) → number_of word ≡ Some n → file_and_number option l.others ≡ Some (record { file = file; number = n })
@@ -241,6 +275,8 @@ reading_back words (Watch file script) l =
     ap reading_of l.command_first ∙
     (ap (λ o. if are (count_behind 0 o) 2 then with_file (file_behind [] o) (value_behind (codes "--script") [] o) else None) (arguments_back l.args l.others l.spelled) ∙
     file_form _ _ _ file script (count_back (length l.args) 2 l.no_more) (ap only l.each_once.0) (ap only l.each_once.1.0))
+reading_back words (Check file) l = ap reading_of l.command_first ∙ ap (ask_file Check) (alone_back words (codes "check") file l)
+reading_back words (Print file) l = ap reading_of l.command_first ∙ ap (ask_file Print) (alone_back words (codes "print") file l)
 
 pub reading_exact : (words : List (List ℕ)) (o : Option Reading) → o ≡ reading_of words → IsReadingOf words o
 reading_exact words None e = λ r h. let some = reading_back words r h in absurd (cc)

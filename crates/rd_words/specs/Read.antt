@@ -3,7 +3,7 @@ use Rattle.std.specs.Prelude.{◌≡◌, ℕ, ◌+◌, ◌==◌, ◌&&◌, Bool,
 use Rattle.std.specs.Option.{option_to_list}
 use Rattle.std.specs.List.{position_or_len, before_first, after_first}
 use Rattle.rd_words.specs.Arguments.{Argument, File, Given, same, is_plain, files, values}
-use Rattle.rd_words.specs.Words.{Reading, Compile, Build, Lay, Run, Show, Watch, number_of}
+use Rattle.rd_words.specs.Words.{Reading, Compile, Build, Lay, Run, Show, Watch, Check, Print, number_of}
 
 -- an argument, and the words behind it
 pub record Next : Type 0 where
@@ -151,6 +151,14 @@ ask make (Some x) = Some (make x.file x.number)
 abbrev pub watch_of : List (List ℕ) → Option Reading
 watch_of words = if has_count 2 words then with_file (file_of words) (value_of (codes "--script") words) else None
 
+-- a file and nothing else
+abbrev pub file_alone : List (List ℕ) → Option (List ℕ)
+file_alone words = if has_count 1 words then file_of words else None
+
+abbrev pub ask_file : (List ℕ → Reading) → Option (List ℕ) → Option Reading
+ask_file make None = None
+ask_file make (Some file) = Some (make file)
+
 abbrev pub by_command : List ℕ → List (List ℕ) → Option Reading
 by_command command words =
     if same command (codes "compile") then compile_of words else
@@ -158,7 +166,9 @@ by_command command words =
     (if same command (codes "lay") then ask Lay (file_and_number (codes "--layout-seed") words) else
     (if same command (codes "run") then ask Run (file_and_number (codes "--steps") words) else
     (if same command (codes "show") then ask Show (file_and_number (codes "--steps") words) else
-    (if same command (codes "watch") then watch_of words else None)))))
+    (if same command (codes "watch") then watch_of words else
+    (if same command (codes "check") then ask_file Check (file_alone words) else
+    (if same command (codes "print") then ask_file Print (file_alone words) else None)))))))
 
 -- what words ask for
 abbrev pub reading_of : List (List ℕ) → Option Reading

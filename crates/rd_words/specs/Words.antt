@@ -11,6 +11,8 @@ pub data Reading : Type 0 where
   Run : (file : List ℕ) → (steps : ℕ) → Reading
   Show : (file : List ℕ) → (steps : ℕ) → Reading
   Watch : (file : List ℕ) → (script : List ℕ) → Reading
+  Check : (file : List ℕ) → Reading
+  Print : (file : List ℕ) → Reading
 
 -- 1 to 20 decimal digits of at most 2^64 - 1
 abbrev pub number_of : List ℕ → Option ℕ
@@ -26,6 +28,8 @@ IsReading words (Lay file layout_seed) = (a : List ℕ) × (IsLine words (codes 
 IsReading words (Run file steps) = (a : List ℕ) × (IsLine words (codes "run") (File file ∷ Given (codes "--steps") a ∷ []) × (number_of a ≡ Some steps))
 IsReading words (Show file steps) = (a : List ℕ) × (IsLine words (codes "show") (File file ∷ Given (codes "--steps") a ∷ []) × (number_of a ≡ Some steps))
 IsReading words (Watch file script) = IsLine words (codes "watch") (File file ∷ Given (codes "--script") script ∷ [])
+IsReading words (Check file) = IsLine words (codes "check") (File file ∷ [])
+IsReading words (Print file) = IsLine words (codes "print") (File file ∷ [])
 
 -- what words ask for, or that they ask for nothing
 abbrev pub IsReadingOf : List (List ℕ) → Option Reading → Type 0

@@ -9,8 +9,9 @@
 #![tactic(auto)]
 
 ghost use Rattle.std.specs.Prelude.{◌≡◌, ℕ, List as Row, map, string_bytes};
+ghost use Rattle.std.specs.Option.{option_copied};
 ghost use Rattle.rd_words.specs.Asked.{all_asked};
-ghost use Rattle.rd_words.specs.Read.{build_of, by_command, compile_of, file_and_number, number_given, reading_of, watch_of};
+ghost use Rattle.rd_words.specs.Read.{build_of, by_command, compile_of, file_alone, file_and_number, number_given, reading_of, watch_of};
 ghost use Rattle.rd_words.specs.Shown.{one_shown};
 ghost use Rattle.rd_words.specs.Words.{IsReading, IsReadingOf, Reading};
 
@@ -50,6 +51,12 @@ pub enum Command<'a> {
     Watch {
         file: &'a str,
         script: &'a str,
+    },
+    Check {
+        file: &'a str,
+    },
+    Print {
+        file: &'a str,
     },
 }
 
@@ -124,6 +131,16 @@ fn watch<'a>(words: &'a [String]) -> Option<Command<'a>>
     Some(Command::Watch { file, script })
 }
 
+/// The file of a command that has nothing else.
+fn one_file<'a>(words: &'a [String]) -> Option<&'a str>
+    ensures { option_copied result ≡ file_alone (map string_bytes words.now) }
+{
+    if count(words)? != 1 {
+        return None;
+    }
+    file(words)
+}
+
 /// What a command is asked for by the words behind it.
 fn of_command<'a>(command: &str, words: &'a [String]) -> Option<Command<'a>>
     ensures { all_asked result ≡ by_command command.now (map string_bytes words.now) }
@@ -144,6 +161,14 @@ fn of_command<'a>(command: &str, words: &'a [String]) -> Option<Command<'a>>
             Some(Command::Show { file, steps })
         }
         "watch" => watch(words),
+        "check" => {
+            let file = one_file(words)?;
+            Some(Command::Check { file })
+        }
+        "print" => {
+            let file = one_file(words)?;
+            Some(Command::Print { file })
+        }
         _ => None,
     }
 }

@@ -1,4 +1,4 @@
-//! Forty command lines and what they ask for. The words of a line stand between bars.
+//! Fifty command lines and what they ask for. The words of a line stand between bars.
 
 use crate::{Command, read_words};
 use std::alloc::{AllocError, Global};
@@ -31,12 +31,14 @@ fn told(alloc: Global, line: &str) -> Result<String, AllocError> {
         Some(Command::Run { file, steps }) => format!(in alloc; "run {file} {steps}"),
         Some(Command::Show { file, steps }) => format!(in alloc; "show {file} {steps}"),
         Some(Command::Watch { file, script }) => format!(in alloc; "watch {file} {script}"),
+        Some(Command::Check { file }) => format!(in alloc; "check {file}"),
+        Some(Command::Print { file }) => format!(in alloc; "print {file}"),
         None => format!(in alloc; "nothing"),
     }
 }
 
 #[rattlefmt::skip]
-const LINES: [(&str, &str); 40] = [
+const LINES: [(&str, &str); 50] = [
     ("run|m|--steps|1", "run m 1"),
     ("run|--steps|1|m", "run m 1"),
     ("run|--steps=1|m", "run m 1"),
@@ -53,6 +55,10 @@ const LINES: [(&str, &str); 40] = [
     ("watch|--script=-s|m", "watch m -s"),
     ("watch|--script=|m", "watch m "),
     ("watch|--script=a=b|m", "watch m a=b"),
+    ("check|m", "check m"),
+    ("check|-", "check -"),
+    ("check|", "check "),
+    ("print|m", "print m"),
     ("", "nothing"),
     ("m", "nothing"),
     ("run", "nothing"),
@@ -77,6 +83,12 @@ const LINES: [(&str, &str); 40] = [
     ("watch|m|--script|--|s", "nothing"),
     ("compile|m|--slot-seed|1", "nothing"),
     ("build|m|--slot-seed|1|--reg-seed|2", "nothing"),
+    ("check", "nothing"),
+    ("check|m|n", "nothing"),
+    ("check|m|--steps|1", "nothing"),
+    ("check|--|m", "nothing"),
+    ("print|-m", "nothing"),
+    ("print|m|--script=s", "nothing"),
 ];
 
 #[test]

@@ -8,6 +8,11 @@ returns-in-Compile-clause-means g c =
     means_as c.args.command _ (world (g.F.Files.told c.args.files.now) (g.I.Source.told c.args.input.now) (g.O.Sink.told c.args.out.now))
     (world (g.F.Files.told c.compile_file.new.files) (g.I.Source.told c.args.input.now) (g.O.Sink.told c.compile_file.new.out)) c.compile_file.result c.in-Compile.is (c.compile_file.ensures.means, refl)
 
+pub returns-in-Build-clause-means : goal.returns-in-Build-clause-means
+returns-in-Build-clause-means g c =
+    means_as c.args.command _ (world (g.F.Files.told c.args.files.now) (g.I.Source.told c.args.input.now) (g.O.Sink.told c.args.out.now))
+    (world (g.F.Files.told c.build_file.new.files) (g.I.Source.told c.args.input.now) (g.O.Sink.told c.build_file.new.out)) c.build_file.result c.in-Build.is (c.build_file.ensures.means, refl)
+
 pub returns-in-Lay-clause-means : goal.returns-in-Lay-clause-means
 returns-in-Lay-clause-means g c =
     means_as c.args.command _ (world (g.F.Files.told c.args.files.now) (g.I.Source.told c.args.input.now) (g.O.Sink.told c.args.out.now))

@@ -1,0 +1,5 @@
+pub mod Remainders
+pub mod CellLaws
+pub mod MemoryLaws
+pub mod Fills
+pub mod RegisterLaws

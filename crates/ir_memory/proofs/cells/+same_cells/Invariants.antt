@@ -1,0 +1,6 @@
+-- the rows get shorter
+use Rattle.std.proofs.Common.{length}
+use Rattle.ir_memory.proofs.cells.+same_cells.Given as goal
+
+abbrev pub decreases-same_cells : goal.decreases-same_cells
+decreases-same_cells l = length l.cs.now

@@ -1,0 +1,5 @@
+pub mod Answers
+pub mod Reads
+pub mod Ranges
+pub mod Words
+pub mod Registers

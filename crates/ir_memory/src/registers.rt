@@ -1,0 +1,63 @@
+//! The values of a call's locals, by the numbers of their names.
+//!
+//! Contracts see `Registers` as a list with a place for each local: `None` where it was given no
+//! value yet. `specs/Registers` says which list stands for the locals of a call. A read or a write
+//! takes constant time and no memory.
+
+ghost use Rattle.std.specs.Prelude.{◌≡◌, ◌<◌, None, Some, length, replicate, slice_get, slice_set, option_and_then, IfOk};
+ghost use Rattle.ir_core.specs.declared.memory.Reason.TheVariants.{Unset as UnsetReason};
+ghost use Rattle.ir_core.specs.Stops.{Left as LeftStop, found_or};
+ghost use Rattle.ir_memory.specs.Answers.{answered};
+ghost use Rattle.ir_memory.specs.Registers.{register};
+
+use crate::stop::Stop;
+use ir_core::memory::{Reason, Value};
+use rd_num::width::NoMemory;
+use std::alloc::Global;
+use std::marker::Model;
+
+/// A place for each local of a call.
+#[derive(Drop)]
+pub struct Registers {
+    kept: Vec<Option<Value>>,
+}
+
+impl Model for Registers {
+    ghost use Rattle.std.specs.Prelude.{List, Option};
+    ghost use Rattle.ir_core.specs.declared.memory.Value.{Value as Held};
+
+    ghost Value = { List (Option Held) };
+
+    ghost view = { λ r. r.kept.items };
+}
+
+impl Registers {
+    /// So many places, none of which has a value.
+    pub fn new(alloc: Global, count: usize) -> Result<Registers, NoMemory>
+        ensures { IfOk result (λ r. r ≡ replicate count None) }
+    {
+        match Vec::from_elem(alloc, None, count) {
+            Ok(kept) => Ok(Registers { kept }),
+            Err(_) => Err(NoMemory),
+        }
+    }
+
+    /// The value at a place. `Unset` is left for a place without one.
+    pub fn get(&self, number: usize) -> Result<Value, Stop>
+        ensures { answered result ≡ found_or (LeftStop UnsetReason) (register self.now number) }
+    {
+        match self.kept.get(number) {
+            Some(Some(v)) => Ok(*v),
+            Some(None) => Err(Stop::Left(Reason::Unset)),
+            None => Err(Stop::Left(Reason::Unset)),
+        }
+    }
+
+    /// Gives a place its value.
+    pub fn set(&mut self, number: usize, v: Value)
+        requires { number < length self.old }
+        ensures { self.new ≡ slice_set self.old number (Some v) }
+    {
+        self.kept[number] = Some(v);
+    }
+}

@@ -1,0 +1,5 @@
+pub mod FirstLaws
+pub mod AddLaws
+pub mod ReachLaws
+pub mod StartLaws
+pub mod UseLaws

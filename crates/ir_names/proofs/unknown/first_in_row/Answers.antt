@@ -1,0 +1,16 @@
+use Rattle.std.proofs.Common.{refl, sym, ◌∙◌}
+use Rattle.std.specs.List.{flat_map}
+use Rattle.ir_names.specs.Reached.{unknown_inside}
+use Rattle.ir_names.proofs.FirstLaws.{first_found, first_passed}
+use Rattle.ir_names.proofs.unknown.first_in_row.Goals as goal
+
+pub first_inside-requires : goal.first_inside-requires
+first_inside-requires c = c.requires c.loop-f.f-index c.f-item.result c.loop-f-test.true c.f-item.is
+
+pub returns-in-Some : goal.returns-in-Some
+returns-in-Some c =
+    first_found (flat_map (unknown_inside c.args.tables.now)) (unknown_inside c.args.tables.now) (λ x xs. refl) c.args.functions.now c.loop-f.f-index c.f-item.result c.loop-f-test.true c.f-item.is _ c.loop-f.invariant c.in-Some.marked (sym c.in-Some.is ∙ c.in_ok-marked.ensures)
+
+pub loop-f-preserved : goal.loop-f-preserved
+loop-f-preserved c =
+    first_passed (flat_map (unknown_inside c.args.tables.now)) (unknown_inside c.args.tables.now) (λ x xs. refl) c.args.functions.now c.loop-f.f-index c.f-item.result c.loop-f-test.true c.f-item.is _ c.loop-f.invariant (sym c.in-None.is ∙ c.in_ok-marked.ensures)

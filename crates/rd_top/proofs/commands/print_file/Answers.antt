@@ -1,0 +1,6 @@
+use Rattle.std.proofs.Common.{inr}
+use Rattle.rd_top.proofs.commands.print_file.Goals as goal
+
+pub returns-in-Ok-printed_bytes-clause-means : goal.returns-in-Ok-printed_bytes-clause-means
+returns-in-Ok-printed_bytes-clause-means g c =
+    inr (c.in-Ok.valid, (c.in-Ok.ensures.taken, inr (c.in-Ok-printed_bytes.bytes, (c.in-Ok-printed_bytes.ensures, c.put_whole.ensures.put))))
