@@ -96,7 +96,115 @@ ORDER = [
     ("@g = global i8 0 @h = global i8 256 @i = global i8 256 " + MAIN, "type global 1"),
     ("declare { i8 } @f() @g = global i8 256 " + MAIN, "type global 0"),
     ("define { i8 } @f() { unreachable } declare { i8 } @g()" + MAIN, "type extern 0"),
+    ("define { i8 } @f() { ret i8 0 }" + MAIN, "type function 0"),
+    ("@g = global i8 0 @g = global i8 0 %t = type i8 %t = type i8", "doubled %t"),
+    ("define void @f(i8 %x, i8 %x) { ret void } define void @f() { ret void }", "doubled %x"),
 ]
+
+PARAMETERS = "declare i32 @p(" + ", ".join(["i32"] * 33) + ") "
+ALLOCA = "%p = alloca [70000 x i8]"
+LARGE = "@g = global [67108864 x i8] zeroinitializer @h = global i8 0 "
+
+# Of two limits the earlier one.
+ORDER += [
+    ("%t = type { [67108865 x i8] } " + PARAMETERS + MAIN, "limit size 67108865"),
+    (PARAMETERS + body(ALLOCA), "limit parameters 33"),
+    (LARGE + body(ALLOCA), "limit frame 70272"),
+    (PARAMETERS + body("call void @f()\n" * 65536, "define void @f() { ret void } "), "limit instructions 65537"),
+]
+
+
+F = "define i32 @f(i8 %x) { ret i32 0 } "
+
+# One condition of a rule each, in the first place where it can fail.
+CONDITIONS = [
+    (body("%a = add i8 256, 1"), "type inst 0 0 0"),
+    (body("%a = add i8 1, 256"), "type inst 0 0 0"),
+    (body("%a = add ptr null, null"), "type inst 0 0 0"),
+    (body("%a = icmp eq i8 256, 0"), "type inst 0 0 0"),
+    (body("%a = zext i8 256 to i16"), "type inst 0 0 0"),
+    (body("%a = zext i8 1 to i8"), "type inst 0 0 0"),
+    (body("%a = sext i8 1 to i8"), "type inst 0 0 0"),
+    (body("%c = freeze i32 1 %a = select i1 %c, i8 1, i8 2"), "type inst 0 0 1"),
+    (body("%a = select i1 true, i8 256, i8 1"), "type inst 0 0 0"),
+    (body("%a = select i1 true, i8 1, i8 256"), "type inst 0 0 0"),
+    (body("%a = freeze { i8 } undef"), "type inst 0 0 0"),
+    (body("%a = load i8, ptr 1"), "type inst 0 0 0"),
+    (body("store i8 1, ptr 1"), "type inst 0 0 0"),
+    (body("%a = getelementptr i8, ptr 1, i8 0"), "type inst 0 0 0"),
+    (body("%a = getelementptr i8, ptr null, i8 256"), "type inst 0 0 0"),
+    (body("%a = getelementptr i8, ptr null, ptr null"), "type inst 0 0 0"),
+    ("define i32 @main() { e: br label %x x: %a = phi i8 [ 256, %e ] ret i32 0 }", "type inst 0 1 0"),
+    (body("%a = call i32 @f()", F), "type inst 1 0 0"),
+    (body("%a = call i32 @f(i8 1, i8 2)", F), "type inst 1 0 0"),
+    (body("%a = call i32 @f(i8 256)", F), "type inst 1 0 0"),
+    (body("%p = freeze ptr @main %a = call { i8 } %p()"), "type inst 0 0 1"),
+    (body("%a = call i64 @putchar(i32 1)", "declare i32 @putchar(i32) "), "type inst 0 0 0"),
+    ("define i32 @main() { e: switch ptr null, label %x [] x: ret i32 0 }", "type inst 0 0 0"),
+    ("define i32 @main() { e: switch i8 256, label %x [] x: ret i32 0 }", "type inst 0 0 0"),
+    ("define i32 @main() { e: switch i8 1, label %x [ i16 1, label %x ] x: ret i32 0 }", "type inst 0 0 0"),
+    ("define i32 @main() { e: switch i8 1, label %x [ i8 256, label %x ] x: ret i32 0 }", "type inst 0 0 0"),
+    ("@g = global [2 x i8] [ i8 1 ]" + MAIN, "type global 0"),
+    ("@g = global { i8 } <{ i8 1 }>" + MAIN, "type global 0"),
+    ('@g = global [2 x i16] c"ab"' + MAIN, "type global 0"),
+]
+
+# What a module may take from outside, and the type of each that is another.
+OUTSIDE = {
+    "void @llvm.memcpy.p0.p0.i64(ptr, ptr, i64, i1)": ("call void @llvm.memcpy.p0.p0.i64(ptr %p, ptr %p, i64 1, i1 false)", "void @llvm.memcpy.p0.p0.i64(ptr, ptr, i32, i1)"),
+    "void @llvm.memset.p0.i64(ptr, i8, i64, i1)": ("call void @llvm.memset.p0.i64(ptr %p, i8 1, i64 1, i1 true)", "void @llvm.memset.p0.i64(ptr, i32, i64, i1)"),
+    "void @llvm.trap()": ("call void @llvm.trap()", "i32 @llvm.trap()"),
+    "void @llvm.lifetime.start.p0(i64, ptr)": ("call void @llvm.lifetime.start.p0(i64 1, ptr %p)", "void @llvm.lifetime.start.p0(ptr, i64)"),
+    "void @llvm.lifetime.end.p0(ptr)": ("call void @llvm.lifetime.end.p0(ptr %p)", "void @llvm.lifetime.end.p0()"),
+    "i32 @putchar(i32)": ("%a = call i32 @putchar(i32 65)", "i32 @putchar(i8)"),
+    "i32 @getchar()": ("%b = call i32 @getchar()", "i32 @getchar(i32)"),
+    "void @exit(i32)": ("call void @exit(i32 0)", "i32 @exit(i32)"),
+}
+
+# A name that has no definition of its kind, in each place where one may stand; of two the first in the text.
+UNKNOWN = [
+    ("@h = global ptr @nope" + MAIN, "unknown @nope"),
+    ("@h = global ptr getelementptr (i8, ptr @main, i64 0)" + MAIN, "unknown @main"),
+    ("@h = global ptr getelementptr (%t, ptr @h, i64 0)" + MAIN, "unknown %t"),
+    (body("%a = add i8 %u, %v"), "unknown %u"),
+    (body("%a = add i8 1, %v"), "unknown %v"),
+    (body("%a = icmp eq i8 1, %v"), "unknown %v"),
+    (body("%a = zext i8 %v to i16"), "unknown %v"),
+    (body("%a = select i1 %c, i8 %u, i8 %v"), "unknown %c"),
+    (body("%a = select i1 true, i8 1, i8 %v"), "unknown %v"),
+    (body("%a = freeze i8 %v"), "unknown %v"),
+    (body("%a = alloca %t"), "unknown %t"),
+    (body("%a = load i8, ptr %v"), "unknown %v"),
+    (body("store i8 %u, ptr %v"), "unknown %u"),
+    (body("store i8 1, ptr %v"), "unknown %v"),
+    (body("%a = getelementptr %t, ptr %u, i64 %v"), "unknown %t"),
+    (body("%a = getelementptr i8, ptr null, i64 %v"), "unknown %v"),
+    (body("%a = call i32 @nope(i8 %v)"), "unknown @nope"),
+    (body("%a = call i32 %p(i8 %v)"), "unknown %p"),
+    (body("%a = call i32 @main(i8 %v)"), "unknown %v"),
+    ("define i32 @main() { e: br label %x x: %a = phi i8 [ %v, %y ] ret i32 0 }", "unknown %v"),
+    ("define i32 @main() { e: br label %x x: %a = phi i8 [ 1, %y ] ret i32 0 }", "unknown %y"),
+    ("define i32 @main() { e: br i1 %c, label %x, label %y }", "unknown %c"),
+    ("define i32 @main() { e: br i1 true, label %x, label %y }", "unknown %x"),
+    ("define i32 @main() { e: br i1 true, label %x, label %y x: ret i32 0 }", "unknown %y"),
+    ("define i32 @main() { e: switch i8 %v, label %x [] }", "unknown %v"),
+    ("define i32 @main() { e: switch i8 1, label %x [ i8 1, label %y ] }", "unknown %x"),
+    ("define i32 @main() { e: switch i8 1, label %x [ i8 1, label %y ] x: ret i32 0 }", "unknown %y"),
+    ("define %t @main() { ret i32 0 }", "unknown %t"),
+    ("define i32 @main(%t %a) { ret i32 0 }", "unknown %t"),
+    ("declare %t @f()" + MAIN, "unknown %t"),
+    ("declare i32 @f(i8, %t)" + MAIN, "unknown %t"),
+]
+
+
+def outside():
+    """All of them in one module, and one at a time with another type."""
+    declared = "".join(f"declare {d}\n" for d in OUTSIDE)
+    calls = "%p = alloca i8\n" + "\n".join(call for call, _ in OUTSIDE.values())
+    yield body(calls, declared), "valid"
+    for right, (call, wrong) in OUTSIDE.items():
+        name = right[right.index("@") : right.index("(")]
+        yield body("%p = alloca i8\n" + call, f"declare {wrong}\n"), f"external {name}"
 
 
 def named(count, size):
@@ -127,6 +235,33 @@ def limits():
     frame = lambda n: f"define i32 @main() {{ %p = alloca [{n} x i8] ret i32 0 }}"
     yield frame(65536 - 256 - 16), "valid"
     yield frame(65536 - 256 - 16 + 1), "limit frame 65552"
+    # A word of a frame for each parameter, two for a phi, two for each argument past the sixth of the longest call.
+    fit = 65536 - 256 - 16
+    for n, line in ((fit - 32, "valid"), (fit - 31, "limit frame 65552")):
+        yield f"define i32 @main(i32 %n, ptr %q) {{ %p = alloca [{n} x i8] ret i32 0 }}", line
+        yield f"define i32 @main() {{ e: %p = alloca [{n} x i8] br label %x x: %a = phi i32 [ 0, %e ] ret i32 %a }}", line
+        calls = "call void @f(" + ", ".join(["i8 0"] * 8) + ") call void @g(" + ", ".join(["i8 0"] * 7) + ")"
+        taken = lambda k: ", ".join(f"i8 %x{i}" for i in range(k))
+        yield body(f"%p = alloca [{n} x i8] {calls}") + f"define void @f({taken(8)}) {{ ret void }} define void @g({taken(7)}) {{ ret void }}", line
+    many = ", ".join(["i8 0"] * 33)
+    yield body(f"call void %p({many})", "").replace("@main()", "@main(i32 %n, ptr %p)"), "limit parameters 33"
+    yield "define void @f(" + ", ".join(f"i8 %x{i}" for i in range(33)) + ") { ret void } " + MAIN, "limit parameters 33"
+    # Code is counted by parts: an index is 128, one of a constant place 64, an entry 160, a case 160, an argument 128.
+    index = lambda n: body("%a = getelementptr i8, ptr null" + ", i8 0" * n)
+    yield index(524_277), "type inst 0 0 0"
+    yield index(524_278), "limit code 67108992"
+    entry = lambda n: "define i32 @main() { e: br label %x x: %a = phi i8 " + ",".join(["[0,%e]"] * n) + " ret i32 0 }"
+    yield entry(419_421), "valid"
+    yield entry(419_422), "limit code 67108992"
+    place = lambda n: body("%a = load i8, ptr getelementptr (i8, ptr @g" + ",i8 0" * n + ")", "@g = global i8 0 ")
+    yield place(1_048_554), "type inst 0 0 0"
+    yield place(1_048_555), "limit code 67108928"
+    case = lambda n: "define i32 @main() { e: switch i32 0, label %x [" + "".join(f"i32 {i},label %x " for i in range(n)) + "] x: ret i32 0 }"
+    yield case(419_421), "valid"
+    yield case(419_422), "limit code 67108928"
+    yield "%a = type { [4294967295 x %b] } %b = type { [4294967295 x %c] } %c = type { [4294967295 x i8] } " + MAIN, "limit size 18446744073709551615"
+    yield "@g = global [0 x [67108865 x i8]] zeroinitializer " + MAIN, "limit size 67108865"
+    yield "@g = global { [67108865 x i8], i8 } zeroinitializer " + MAIN, "limit size 67108866"
     yield "@g = global [67108864 x i8] zeroinitializer " + MAIN, "valid"
     yield "@g = global [67108864 x i8] zeroinitializer @h = global i8 0 " + MAIN, "limit bytes 67108880"
     yield "".join(f"@n{i} = global {{}} {{}}\n" for i in range(300_000)) + MAIN, "valid"
@@ -143,7 +278,8 @@ def main():
     rows = []
     for rule, (valid, invalid, line) in RULES.items():
         rows += [(rule, valid, "valid"), (rule, invalid, line)]
-    rows += [("order", text, line) for text, line in ORDER] + [("limits", text, line) for text, line in limits()]
+    for what, pairs in (("order", ORDER), ("conditions", CONDITIONS), ("unknown", UNKNOWN), ("outside", outside()), ("limits", limits())):
+        rows += [(what, text, line) for text, line in pairs]
     failed = 0
     with tempfile.TemporaryDirectory() as work:
         path = os.path.join(work, "text.ll")

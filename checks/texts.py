@@ -32,17 +32,18 @@ define dso_local i32 @main(i32 noundef %argc, ptr readonly dereferenceable(8) al
   %2 = alloca i32, align 4
   %3 = alloca [4 x i8], i64 2, align 1, !dbg !5
   %a = add nuw nsw i32 %argc, 40, !dbg !6
-  %b = icmp samesign slt i32 %a, 5
-  %c = zext nneg i1 %b to i64
+  %b = icmp samesign slt i32 %a, 5, !dbg !6
+  %c = zext nneg i1 %b to i64, !dbg !6
   %d = select i1 %b, i32 1, i32 %a, !prof !7
-  %e = freeze i32 %d
+  %e = freeze i32 %d, !dbg !6
+  %4 = alloca i8, !dbg !5
   store volatile i32 %e, ptr %2, align 4, !tbaa !8
   #dbg_value(i32 %e, !9, !DIExpression(), !10)
   call void @llvm.dbg.value(metadata i32 %e, metadata !9, metadata !DIExpression()), !dbg !11
   %f = load volatile i32, ptr %2, align 4
   %x = getelementptr inbounds nuw %pair, ptr @h, i64 0, i32 1, i64 %c, !dbg !12
   %k = tail call fastcc noundef i32 @putchar(i32 noundef %f) nounwind #2, !dbg !13
-  notail call void %x(i8 false, ptr @"a b")
+  notail call ccc void %x(i8 false, ptr @"a b")
   br i1 %b, label %yes, label %"no way", !llvm.loop !14
 yes:
   %y = phi i32 [ 0, %1 ], [ %z, %yes ], !dbg !15

@@ -355,7 +355,7 @@ fn image_of(alloc: Global, code: &[u8]) -> Result<Vec<u8>, AllocError> {
 #[test]
 fn images_run_to_these_lines(rt: HostRuntime) -> Result<(), Fail> {
     let alloc = rt.alloc();
-    let rows: [(&[u8], &str, u8, &[u8]); 9] = [
+    let rows: [(&[u8], &str, u8, &[u8]); 10] = [
         (
             b"\xBF\x2C\0\0\0\xB8\x3C\0\0\0\x0F\x05",
             "3",
@@ -375,6 +375,7 @@ fn images_run_to_these_lines(rt: HostRuntime) -> Result<(), Fail> {
         (b"\xC3", "9", 22, b"stopped pagefault\n"),
         (b"\x06", "9", 22, b"stopped noform\n"),
         (b"\xB8\x63\0\0\0\x0F\x05", "9", 22, b"stopped badcall\n"),
+        (b"\x48\x0F\xAF\xC0\x0F\x84\0\0\0\0", "9", 22, b"stopped noflag\n"),
     ];
     for (code, steps, want, line) in rows {
         let file = image_of(alloc, code)?;

@@ -27,7 +27,7 @@ fresh xs s = record s { left = xs; printed = []; taken = 0 }
 -- before the first step nothing was taken
 pub none_taken : (image : Image) (n : ℕ) (input : SourceTold) → WhereTold input (λ xs. StopsWithin (machine_course image) n xs input)
 unfolding machine_course
-none_taken image n input xs e = record { taken = 0; within = omega arith; took = e }
+none_taken image n input xs e = record { steps = 0; within = omega arith; took = e }
 
 module _ (image : Image) (n : ℕ) (old new : Machine) (starts : (xs : List ℕ) → state_of old xs [] 0 ≡ machine_start image xs) (input input2 : SourceTold) (out out2 : SinkTold) where
   -- the run from the start of the image
@@ -60,7 +60,7 @@ module _ (image : Image) (n : ℕ) (old new : Machine) (starts : (xs : List ℕ)
       let c = cut xs e in
       let h = subst (λ s. IsCut (streams_told input out) (streams_told input2 out2) s new fault.Input) (from_start xs c.0) c.1.1 in
       record {
-        taken = c.0;
+        steps = c.0;
         early = c.1.0;
         asks = asks_next (run_to image xs c.0) h.1.machine h.0;
         reached = record { left = h.1.left; written = h.1.written; total = h.1.total };
@@ -74,7 +74,7 @@ module _ (image : Image) (n : ℕ) (old new : Machine) (starts : (xs : List ℕ)
       let s : State ℕ = run_to image xs k in
       let p = subst (λ piece. GotPart (streams_told input out) (streams_told input2 out2) s.printed piece) (stands_alone s h.0) h.2 in
       record {
-        taken = k;
+        steps = k;
         early = early;
         some = p.some;
         left = h.1;
@@ -116,12 +116,12 @@ module _ (image : Image) (n : ℕ) (old new : Machine) (starts : (xs : List ℕ)
   -- all steps were taken, and then memory was wanting
   pub stopped_behind : Took n old new (streams_told input out) (streams_told input2 out2) → WhereTold input (λ xs. StopsWithin (machine_course image) n xs input2)
   unfolding machine_course
-  stopped_behind took xs e = record { taken = n; within = omega arith; took = (stands took xs e).left }
+  stopped_behind took xs e = record { steps = n; within = omega arith; took = (stands took xs e).left }
 
   -- a run that was cut off gives no text; a sink that counts doesn't fail
   pub cut_report : (T : Type 0) (e : RunFault) (text_on : List ℕ → List ℕ) → out2.faults ≡ 0 → Charged {T = T} input input2 out out2 (Err e) → CutOff n old new (streams_told input out) (streams_told input2 out2) e → Reported (machine_course image) n text_on input input2 (Err e)
   cut_report T fault.Input text_on none charged cut =
-      (charged.0, λ xs e. let c = cut_by_input cut xs e in record { taken = c.taken; early = c.early; asks = c.asks; took = c.reached.left })
+      (charged.0, λ xs e. let c = cut_by_input cut xs e in record { steps = c.steps; early = c.early; asks = c.asks; took = c.reached.left })
   cut_report T fault.Output text_on none charged cut = omega (arith, charged.1, none)
   cut_report T fault.NoMemory text_on none charged cut =
-      λ xs e. let c = cut_by_memory cut xs e in let early : c.taken < n = c.early in record { taken = c.taken; within = omega arith; took = c.left }
+      λ xs e. let c = cut_by_memory cut xs e in let early : c.steps < n = c.early in record { steps = c.steps; within = omega arith; took = c.left }

@@ -38,23 +38,23 @@ pub record IsRun (course : Course) (n : ℕ) (xs : List ℕ) (outcome : Outcome)
 
 -- the input failed at a step that takes a byte, and all before was done
 pub record IsCutByInput (course : Course) (n : ℕ) (xs : List ℕ) (input2 : SourceTold) (out out2 : SinkTold) : Type 0 where
-  pub taken : ℕ
-  pub early : taken < n
-  pub asks : (course xs taken).takes ≡ 1
-  pub reached : Reached (course xs taken) input2 out out2
+  pub steps : ℕ
+  pub early : steps < n
+  pub asks : (course xs steps).takes ≡ 1
+  pub reached : Reached (course xs steps) input2 out out2
 
 -- a prefix of what a step prints, which is at least one byte, came out, and all before was done
 pub record IsCutByOutput (course : Course) (n : ℕ) (xs : List ℕ) (input2 : SourceTold) (out out2 : SinkTold) : Type 0 where
-  pub taken : ℕ
-  pub early : taken < n
-  pub some : 0 < length (course xs taken).prints
-  pub left : input2.left ≡ Some (course xs taken).left
+  pub steps : ℕ
+  pub early : steps < n
+  pub some : 0 < length (course xs steps).prints
+  pub left : input2.left ≡ Some (course xs steps).left
   pub part : List ℕ
-  pub begins : IsPrefixOf part (course xs taken).prints
-  pub written : Gets out.written out2.written ((course xs taken).printed ++ part)
+  pub begins : IsPrefixOf part (course xs steps).prints
+  pub written : Gets out.written out2.written ((course xs steps).printed ++ part)
   pub count : ℕ
-  pub few : count ≤ length (course xs taken).prints
-  pub total : Counts out.total out2.total (length (course xs taken).printed + count)
+  pub few : count ≤ length (course xs steps).prints
+  pub total : Counts out.total out2.total (length (course xs steps).printed + count)
 
 -- the answer of a run that reached its end, or of its fault
 abbrev pub run_answer : Result Outcome RunFault → Answer

@@ -88,7 +88,7 @@ answer_to CheckFault.NoMain = Refused (refusal.Module NoMain)
 answer_to (CheckFault.BadType spot) = Refused (refusal.Module (BadType spot))
 answer_to CheckFault.NoMemory = Memory
 
--- why it is that of none that is compiled
+-- why a text is that of no module that is compiled
 abbrev pub RefusesNarrow : List ℕ → Refusal → Type 0
 RefusesNarrow text (refusal.Module Later) = IsOfLater text
 RefusesNarrow text other = RefusesModule text other

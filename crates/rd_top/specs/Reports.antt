@@ -16,16 +16,16 @@ HasTaken course xs n input2 = input2.left ≡ Some (course xs n).left
 
 -- the input failed at a step that takes a byte, and all before was done
 pub record StopsAtInput (course : Course) (n : ℕ) (xs : List ℕ) (input2 : SourceTold) : Type 0 where
-  pub taken : ℕ
-  pub early : taken < n
-  pub asks : (course xs taken).takes ≡ 1
-  pub took : HasTaken course xs taken input2
+  pub steps : ℕ
+  pub early : steps < n
+  pub asks : (course xs steps).takes ≡ 1
+  pub took : HasTaken course xs steps input2
 
 -- memory was wanting after some of the steps
 pub record StopsWithin (course : Course) (n : ℕ) (xs : List ℕ) (input2 : SourceTold) : Type 0 where
-  pub taken : ℕ
-  pub within : taken ≤ n
-  pub took : HasTaken course xs taken input2
+  pub steps : ℕ
+  pub within : steps ≤ n
+  pub took : HasTaken course xs steps input2
 
 -- the text after n steps, or why there is none; a sink that gets nothing doesn't fail
 abbrev pub Reported : Course → ℕ → (List ℕ → List ℕ) → SourceTold → SourceTold → Result (List ℕ) RunFault → Type 0
