@@ -4,3 +4,9 @@ pub mod Values
 pub mod Kept
 pub mod Ops
 pub mod Turns
+pub mod Edges
+pub mod Entered
+pub mod Start
+pub mod Soundness
+pub mod Agreement
+pub mod NoFaults

@@ -11,7 +11,7 @@ use Rattle.ir_core.specs.declared.memory.Value.TheVariants.{Num, Null, At, Fun}
 use Rattle.ir_core.specs.declared.memory.Cell.{Cell}
 use Rattle.ir_core.specs.declared.memory.Cell.TheVariants.{Unset, Byte, Piece}
 use Rattle.ir_core.specs.declared.memory.Object0.{Object0}
-use Rattle.ir_core.specs.Stops.{Stop, Ended, Divide, Trap, Depth, Left, Malformed, Answer}
+use Rattle.ir_core.specs.Stops.{Stop, Ended, Divide, Trap, Depth, Left, Malformed, Answer, malformed_number}
 use Rattle.ir_core.specs.declared.kind.Kind.{Kind}
 use Rattle.ir_core.specs.declared.kind.Kind.TheVariants.{Number, Pointer}
 use Rattle.ir_core.specs.Kinds.{kind_of}
@@ -124,7 +124,7 @@ IsTypedTurn m t = AreOver m t.frames t.objects
 
 -- an ending to which a valid module can come
 abbrev pub IsProperEnding : Ending → Type 0
-IsProperEnding e = e ≢ ending.Left 10
+IsProperEnding e = e ≢ ending.Left malformed_number
 
 -- the state of a run: it has stopped properly, or goes on from calls over memory
 abbrev pub IsWellTyped : Module → State → Type 0

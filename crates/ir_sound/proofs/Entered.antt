@@ -1,0 +1,268 @@
+-- Calls and returns keep calls over memory.
+use Rattle.std.proofs.Common.{◌≡◌, ℕ, ◌%◌, ◌^◌, ◌<◌, ◌≤◌, Bool, true, false, List, [], ◌∷◌, length, map, Option, Some, None, Ok, Err, refl, ap, sym, ◌∙◌, subst, arith}
+use Rattle.std.specs.Prelude.{◌-◌, ◌&&◌, not, nat_le, slice_get, if◌then◌else◌}
+use Rattle.std.proofs.lemmas.Bool.{and_parts}
+use Rattle.std.proofs.Math.Nat.{mod-lt}
+use Rattle.rd_num.specs.declared.width.Width.{Width}
+use Rattle.rd_num.specs.declared.width.Width.TheVariants.{W1, W8, W32, W64}
+use Rattle.rd_num.specs.Number.{bits}
+use Rattle.ir_core.specs.declared.TheConstants.{MAX_CALLS}
+use Rattle.ir_core.specs.declared.operand.Operand.{Operand}
+use Rattle.ir_core.specs.declared.operand.Operand.TheVariants.{Int, Bool as Truth, Null as NullWord, Undef, Poison, Local as LocalName, Global, Const}
+use Rattle.ir_core.specs.declared.instruction.Op.{Op}
+use Rattle.ir_core.specs.declared.instruction.Op.TheVariants.{Phi}
+use Rattle.ir_core.specs.declared.instruction.Inst.{Inst}
+use Rattle.ir_core.specs.declared.module.Block.{Block}
+use Rattle.ir_core.specs.declared.module.Param.{Param}
+use Rattle.ir_core.specs.declared.module.Function.{Function}
+use Rattle.ir_core.specs.declared.module.Module.{Module}
+use Rattle.ir_core.specs.declared.memory.Value.{Value}
+use Rattle.ir_core.specs.declared.memory.Value.TheVariants.{Num, Null, At, Fun}
+use Rattle.ir_core.specs.declared.memory.Reason.TheVariants.{Callee}
+use Rattle.ir_core.specs.Names.{same_name, first_where}
+use Rattle.ir_core.specs.Stops.{Depth, Left, Answer, and_then, found_or, Malformed}
+use Rattle.ir_core.specs.declared.kind.Kind.{Kind}
+use Rattle.ir_core.specs.declared.kind.Kind.TheVariants.{NoValue, Number, Pointer}
+use Rattle.ir_core.specs.Kinds.{kind_of, same_kind}
+use Rattle.ir_core.specs.Memory.{copied, filled, without}
+use Rattle.ir_core.specs.State.{Local, Frame, State, Exchange, Nothing, Print, Take, Turn}
+use Rattle.ir_core.specs.Operands.{local_value, function_number}
+use Rattle.ir_core.specs.declared.outer.Outer.{Outer}
+use Rattle.ir_core.specs.declared.outer.Outer.TheVariants.{Putchar, Getchar, Exit, Memcpy, Memset, TrapNow, Lifetime, NoOuter}
+use Rattle.ir_core.specs.Calls.{Target, Outside, Inside, target_named, target_of, same_kinds, is_called_as, bound, first_frame, entry_turn, resumed, return_turn, goes_on, read_byte, outer_turn, call_turn}
+use Rattle.ir_core.specs.Step.{choices_with, choices_of}
+use Rattle.ir_core.specs.Typing.{Env, has_kind, is_value, outer_fits, named_fits, callee_fits, is_result}
+use Rattle.std.specs.List.{list_all}
+use Rattle.ir_core.specs.Valid.{env_of, is_phi, leads_to}
+use Rattle.ir_sound.specs.Typed.{no_phi, param_typed, entry_typed, block_typed, function_typed}
+use Rattle.ir_sound.specs.WellTyped.{Each, Properly, Present, IsOfKind, IsObject, IsLocal, IsInBlock, AreWaiting, AreCalls, present, IsTypedTurn}
+use Rattle.ir_sound.proofs.Sound.{after_gives, not_true, some_is, none_is, kind_is, kinds_are, has_kind_is, all_at, found_any, first_passes, item_at}
+use Rattle.ir_sound.proofs.Values.{local_gives, function_below, AreOfKinds, Covers}
+use Rattle.ir_sound.proofs.Kept.{if_gives, copied_gives, filled_gives, without_is}
+use Rattle.ir_sound.proofs.Turns.{resumed_are, over_changed, memory_turn}
+
+-- parameters are locals of their kinds
+pub bound_are : (x : Present) (env : Env) (ps : List Param) (vs : List Value) → list_all (param_typed env) ps ≡ true → AreOfKinds x (map (λ (p : Param). kind_of p.ty) ps) vs → Each (IsLocal x env) (bound ps vs)
+bound_are x env [] [] fits are = tt
+bound_are x env [] (v ∷ vs) fits are = tt
+bound_are x env (p ∷ ps) [] fits are = tt
+bound_are x env (p ∷ ps) (v ∷ vs) fits are =
+    let parts = and_parts (param_typed env p) (list_all (param_typed env) ps) fits in
+    ((kind_of p.ty, has_kind_is (env p.name) (kind_of p.ty) (and_parts (is_value (kind_of p.ty)) (has_kind (env p.name) (kind_of p.ty)) parts.0).1, are.0), bound_are x env ps vs parts.1 are.1)
+
+-- no phi is at the head
+no_choice : (i : Inst) (is : List Inst) → not (is_phi i.op) ≡ true → choices_of (i ∷ is) ≡ []
+no_choice i is e = by_op i.op e
+  where
+    by_op : (op : Op) → not (is_phi op) ≡ true → choices_with i.result op (choices_of is) ≡ []
+    by_op (Phi ty entries) f = not_true f
+    by_op op f = refl
+
+-- without phis there is nothing to choose
+pub no_choices : (is : List Inst) → no_phi is ≡ true → length (choices_of is) ≡ 0
+no_choices [] e = refl
+no_choices (i ∷ is) e = ap length (no_choice i is (and_parts (not (is_phi i.op)) (no_phi is) e).0)
+
+-- the first block of a function
+pub record Entry0 (fn : Function) : Type 0 where
+  pub block : Block
+  pub is_first : slice_get fn.blocks 0 ≡ Some block
+  pub no_phis : length (choices_of block.insts) ≡ 0
+
+-- is there, and has no phi
+first_block : (blocks : List Block) → entry_typed blocks ≡ true → (b : Block) × (slice_get blocks 0 ≡ Some b) × (length (choices_of b.insts) ≡ 0)
+first_block [] fits = not_true fits
+first_block (b ∷ bs) fits = (b, refl, no_choices b.insts (and_parts (list_all (λ (p : Block). not (leads_to b.label p)) (b ∷ bs)) (no_phi b.insts) fits).1)
+
+-- a call at its start stands
+pub first_stands : (m : Module) (x : Present) (number : ℕ) (fn : Function) (values : List Value) (into : Option (List ℕ)) → slice_get m.functions number ≡ Some fn → function_typed m (env_of fn) fn ≡ true → Each (IsLocal x (env_of fn)) (bound fn.params values) → (s : IsInBlock m x (first_frame number fn values into)) × (s.fn ≡ fn)
+first_stands m x number fn values into here fits are =
+    let parts = and_parts (is_result fn.ret && list_all (param_typed (env_of fn)) fn.params) (entry_typed fn.blocks && list_all (block_typed m (env_of fn) fn) fn.blocks) fits in
+    let b = first_block fn.blocks (and_parts (entry_typed fn.blocks) (list_all (block_typed m (env_of fn) fn) fn.blocks) parts.1).0 in
+    (record { fn = fn; block = b.0; in_module = here; in_function = b.1; past_phis = let e = b.2 in omega arith; within = omega arith; locals = are; objects = tt }, refl)
+
+-- the calls of a run once one more is entered
+entered_calls : (m : Module) (x : Present) (number : ℕ) (fn : Function) (values : List Value) (into : Option (List ℕ)) (callers : List Frame) → slice_get m.functions number ≡ Some fn → function_typed m (env_of fn) fn ≡ true → AreOfKinds x (map (λ (p : Param). kind_of p.ty) fn.params) values → AreWaiting m x (kind_of fn.ret) into callers → AreCalls m x (first_frame number fn values into ∷ callers)
+entered_calls m x number fn values into callers here fits are waiting =
+    let parts = and_parts (is_result fn.ret && list_all (param_typed (env_of fn)) fn.params) (entry_typed fn.blocks && list_all (block_typed m (env_of fn) fn) fn.blocks) fits in
+    let params = (and_parts (is_result fn.ret) (list_all (param_typed (env_of fn)) fn.params) parts.0).1 in
+    let s = first_stands m x number fn values into here fits (bound_are x (env_of fn) fn.params values params are) in
+    (s.0, subst (λ f. AreWaiting m x (kind_of f.ret) into callers) (sym s.1) waiting)
+
+-- a call enters its function, unless there are too many
+pub entered_gives : (m : Module) (s : State) (callers : List Frame) (ret : Kind) (kinds : List Kind) (values : List Value) (into : Option (List ℕ)) → list_all (λ f. function_typed m (env_of f) f) m.functions ≡ true → Each (IsObject (present m s.objects)) s.objects → length m.globals ≤ length s.objects → AreOfKinds (present m s.objects) kinds values → AreWaiting m (present m s.objects) ret into callers → (v : Value) → IsOfKind (present m s.objects) Pointer v → Properly (IsTypedTurn m) (entry_turn m s callers ret kinds values into v)
+entered_gives m s callers ret kinds values into fits cells globals are waiting (Num w n) is = tt
+entered_gives m s callers ret kinds values into fits cells globals are waiting Null is = tt
+entered_gives m s callers ret kinds values into fits cells globals are waiting (At o d) is = tt
+entered_gives m s callers ret kinds values into fits cells globals are waiting (Fun number) is =
+    let x = present m s.objects in
+    let there = item_at m.functions number is in
+    let f = there.0 in
+    let one : Function → Answer Turn = λ g. if is_called_as g ret kinds
+    then (if nat_le MAX_CALLS (length s.frames) then Err Depth else Ok (record { frames = first_frame number g values into ∷ callers; objects = s.objects; exchange = Nothing }))
+    else Err (Left Callee) in
+    let by_test : (b : Bool) → is_called_as f ret kinds ≡ b → Properly (IsTypedTurn m) (if b then (if nat_le MAX_CALLS (length s.frames) then Err Depth else Ok (record { frames = first_frame number f values into ∷ callers; objects = s.objects; exchange = Nothing })) else Err (Left Callee)) = entered_by m s callers ret kinds values into number f there.1 fits cells globals are waiting in
+    subst (λ o. Properly (IsTypedTurn m) (and_then (found_or Malformed o) one)) (sym there.1) (by_test (is_called_as f ret kinds) refl)
+  where
+    entered_by : (m : Module) (s : State) (callers : List Frame) (ret : Kind) (kinds : List Kind) (values : List Value) (into : Option (List ℕ)) (number : ℕ) (f : Function) → slice_get m.functions number ≡ Some f → list_all (λ f. function_typed m (env_of f) f) m.functions ≡ true → Each (IsObject (present m s.objects)) s.objects → length m.globals ≤ length s.objects → AreOfKinds (present m s.objects) kinds values → AreWaiting m (present m s.objects) ret into callers → (b : Bool) → is_called_as f ret kinds ≡ b → Properly (IsTypedTurn m) (if b then (if nat_le MAX_CALLS (length s.frames) then Err Depth else Ok (record { frames = first_frame number f values into ∷ callers; objects = s.objects; exchange = Nothing })) else Err (Left Callee))
+    entered_by m s callers ret kinds values into number f here fits cells globals are waiting false e = tt
+    entered_by m s callers ret kinds values into number f here fits cells globals are waiting true e =
+        let x = present m s.objects in
+        let parts = and_parts (same_kind (kind_of f.ret) ret) (same_kinds (map (λ (p : Param). kind_of p.ty) f.params) kinds) e in
+        let t : Turn = record { frames = first_frame number f values into ∷ callers; objects = s.objects; exchange = Nothing } in
+        if_gives (IsTypedTurn m) (nat_le MAX_CALLS (length s.frames)) (Err Depth) (Ok t) tt (record {
+          calls = entered_calls m x number f values into callers here (all_at (λ g. function_typed m (env_of g) g) m.functions number f fits here)
+              (subst (λ ks. AreOfKinds x ks values) (sym (kinds_are (map (λ (p : Param). kind_of p.ty) f.params) kinds parts.1)) are)
+              (subst (λ k. AreWaiting m x k into callers) (sym (kind_is (kind_of f.ret) ret parts.0)) waiting);
+          cells = cells;
+          globals = globals;
+        })
+
+-- the callers go on
+pub goes_turn : (m : Module) (s : State) (kind : Kind) (into : Option (List ℕ)) (g : Frame) (gs : List Frame) (exchange : Exchange) (result : Option Value) → ((v : Value) → result ≡ Some v → IsOfKind (present m s.objects) kind v) → AreWaiting m (present m s.objects) kind into (g ∷ gs) → Each (IsObject (present m s.objects)) s.objects → length m.globals ≤ length s.objects → Properly (IsTypedTurn m) (goes_on s (g ∷ gs) into exchange result)
+goes_turn m s kind into g gs exchange result is waiting cells globals = record { calls = resumed_are m (present m s.objects) kind into g gs result is waiting; cells = cells; globals = globals }
+
+-- nothing isn't a number
+no_number : {X : Type 0} → NoValue ≡ Number W32 → X
+no_number e = absurd (cc)
+
+-- a return
+pub returned_gives : (m : Module) (s : State) (f : Frame) (callers : List Frame) (kind : Kind) (result : Option Value) → ((v : Value) → result ≡ Some v → IsOfKind (present m s.objects) kind v) → ((result ≡ None) → kind ≡ NoValue) → AreWaiting m (present m s.objects) kind f.into callers → Each (IsObject (present m s.objects)) s.objects → length m.globals ≤ length s.objects → Properly (IsTypedTurn m) (return_turn s f callers result)
+returned_gives m s f (g ∷ gs) kind result is list_any waiting cells globals =
+    over_changed m s.objects (without s.objects f.objects) (resumed (g ∷ gs) f.into result) (without_is (present m s.objects) f.objects s.objects cells)
+    (resumed_are m (present m s.objects) kind f.into g gs result is waiting) globals
+returned_gives m s f [] kind (Some (Num w n)) is list_any waiting cells globals = tt
+returned_gives m s f [] kind (Some Null) is list_any waiting cells globals = absurd (subst (λ k. IsOfKind (present m s.objects) k Null) waiting (is Null refl))
+returned_gives m s f [] kind (Some (At o d)) is list_any waiting cells globals = absurd (subst (λ k. IsOfKind (present m s.objects) k (At o d)) waiting (is (At o d) refl))
+returned_gives m s f [] kind (Some (Fun g)) is list_any waiting cells globals = absurd (subst (λ k. IsOfKind (present m s.objects) k (Fun g)) waiting (is (Fun g) refl))
+returned_gives m s f [] kind None is list_any waiting cells globals = no_number (sym (list_any refl) ∙ waiting)
+
+-- the first of some values, and the others
+record First (x : Present) (k : Kind) (ks : List Kind) (vs : List Value) : Type 0 where
+  pub value : Value
+  pub others : List Value
+  pub are : vs ≡ value ∷ others
+  pub is : IsOfKind x k value
+  pub rest : AreOfKinds x ks others
+
+-- is there
+first_of_kinds : (x : Present) (k : Kind) (ks : List Kind) (vs : List Value) → AreOfKinds x (k ∷ ks) vs → First x k ks vs
+first_of_kinds x k ks [] are = absurd are
+first_of_kinds x k ks (v ∷ vs) are = record { value = v; others = vs; are = refl; is = are.0; rest = are.1 }
+
+-- no values
+none_of_kinds : (x : Present) (vs : List Value) → AreOfKinds x [] vs → vs ≡ []
+none_of_kinds x [] are = refl
+none_of_kinds x (v ∷ vs) are = absurd are
+
+-- a value of a width is a number
+number_of : (x : Present) (w : Width) (v : Value) → IsOfKind x (Number w) v → (n : ℕ) × (v ≡ Num w n) × (n < 2 ^ bits w)
+number_of x w (Num u n) is = (n, ap (λ k. Num k n) is.0, is.1)
+number_of x w Null is = absurd is
+number_of x w (At o d) is = absurd is
+number_of x w (Fun f) is = absurd is
+
+-- what a call of an outside function finds: the caller that goes on, its callers, and memory
+pub record Calling (m : Module) (s : State) (ret : Kind) (into : Option (List ℕ)) (g : Frame) (gs : List Frame) : Type 0 where
+  pub waiting : AreWaiting m (present m s.objects) ret into (g ∷ gs)
+  pub cells : Each (IsObject (present m s.objects)) s.objects
+  pub globals : length m.globals ≤ length s.objects
+
+-- a result of a kind
+result_is : (x : Present) (k : Kind) (u v : Value) → IsOfKind x k u → let o : Option Value = Some u in o ≡ Some v → IsOfKind x k v
+result_is x k u v is e = subst (IsOfKind x k) (some_is u v e) is
+
+-- a caller that goes on with a result
+goes_with : (m : Module) (s : State) (ret kind : Kind) (into : Option (List ℕ)) (g : Frame) (gs : List Frame) (exchange : Exchange) (v : Value) → Calling m s ret into g gs → ret ≡ kind → IsOfKind (present m s.objects) kind v → Properly (IsTypedTurn m) (goes_on s (g ∷ gs) into exchange (Some v))
+goes_with m s ret kind into g gs exchange v c e is = goes_turn m s kind into g gs exchange (Some v) (λ u f. result_is (present m s.objects) kind v u is f) (subst (λ k. AreWaiting m (present m s.objects) k into (g ∷ gs)) e c.waiting) c.cells c.globals
+
+-- and one without
+goes_without : (m : Module) (s : State) (ret : Kind) (into : Option (List ℕ)) (g : Frame) (gs : List Frame) → Calling m s ret into g gs → Properly (IsTypedTurn m) (goes_on s (g ∷ gs) into Nothing None)
+goes_without m s ret into g gs c = goes_turn m s ret into g gs Nothing None (λ u f. none_is u f) c.waiting c.cells c.globals
+
+-- a byte of the input, or -1
+byte_gives : (m : Module) (s : State) (ret : Kind) (into : Option (List ℕ)) (g : Frame) (gs : List Frame) (o : Option ℕ) → ((b : ℕ) → o ≡ Some b → b < 256) → Calling m s ret into g gs → ret ≡ Number W32 → Properly (IsTypedTurn m) (read_byte s (g ∷ gs) into o)
+byte_gives m s ret into g gs (Some b) bytes c e = let h = bytes b refl in goes_with m s ret (Number W32) into g gs Take (Num W32 b) c e (refl, omega arith)
+byte_gives m s ret into g gs None bytes c e = goes_with m s ret (Number W32) into g gs Nothing (Num W32 (2 ^ 32 - 1)) c e (refl, omega arith)
+
+-- kinds of arguments as they should be
+kinds_so : (x : Present) (ks js : List Kind) (vs : List Value) → same_kinds ks js ≡ true → AreOfKinds x ks vs → AreOfKinds x js vs
+kinds_so x ks js vs e are = subst (λ k. AreOfKinds x k vs) (kinds_are ks js e) are
+
+-- what the callers get from an outside function
+pub outer_gives : (m : Module) (input : List ℕ) (s : State) (ret : Kind) (kinds : List Kind) (into : Option (List ℕ)) (g : Frame) (gs : List Frame) (vs : List Value) → ((k b : ℕ) → slice_get input k ≡ Some b → b < 256) → Calling m s ret into g gs → AreOfKinds (present m s.objects) kinds vs → (o : Outer) → outer_fits o ret kinds ≡ true → Properly (IsTypedTurn m) (outer_turn input s (g ∷ gs) into o vs)
+outer_gives m input s ret kinds into g gs vs bytes c are Putchar fits =
+    let x = present m s.objects in
+    let parts = and_parts (same_kind ret (Number W32)) (same_kinds kinds (Number W32 ∷ [])) fits in
+    let first = first_of_kinds x (Number W32) [] vs (kinds_so x kinds (Number W32 ∷ []) vs parts.1 are) in
+    let n = number_of x W32 first.value first.is in
+    subst (λ us. Properly (IsTypedTurn m) (outer_turn input s (g ∷ gs) into Putchar us)) (sym (first.are ∙ ap (λ us. first.value ∷ us) (none_of_kinds x first.others first.rest) ∙ ap (λ u. u ∷ []) n.1))
+    (goes_with m s ret (Number W32) into g gs (Print (n.0 % 256)) (Num W32 (n.0 % 256)) c (kind_is ret (Number W32) parts.0) (refl, let h = mod-lt n.0 (let l : 0 < 256 = omega arith in l) in omega arith))
+outer_gives m input s ret kinds into g gs vs bytes c are Getchar fits =
+    let x = present m s.objects in
+    let parts = and_parts (same_kind ret (Number W32)) (same_kinds kinds []) fits in
+    subst (λ us. Properly (IsTypedTurn m) (outer_turn input s (g ∷ gs) into Getchar us)) (sym (none_of_kinds x vs (kinds_so x kinds [] vs parts.1 are)))
+    (byte_gives m s ret into g gs (slice_get input s.taken) (bytes s.taken) c (kind_is ret (Number W32) parts.0))
+outer_gives m input s ret kinds into g gs vs bytes c are Exit fits =
+    let x = present m s.objects in
+    let parts = and_parts (same_kind ret NoValue) (same_kinds kinds (Number W32 ∷ [])) fits in
+    let first = first_of_kinds x (Number W32) [] vs (kinds_so x kinds (Number W32 ∷ []) vs parts.1 are) in
+    let n = number_of x W32 first.value first.is in
+    subst (λ us. Properly (IsTypedTurn m) (outer_turn input s (g ∷ gs) into Exit us)) (sym (first.are ∙ ap (λ us. first.value ∷ us) (none_of_kinds x first.others first.rest) ∙ ap (λ u. u ∷ []) n.1)) tt
+outer_gives m input s ret kinds into g gs vs bytes c are Memcpy fits =
+    let x = present m s.objects in
+    let js : List Kind = Pointer ∷ Pointer ∷ Number W64 ∷ Number W1 ∷ [] in
+    let parts = and_parts (same_kind ret NoValue) (same_kinds kinds js) fits in
+    let to = first_of_kinds x Pointer (Pointer ∷ Number W64 ∷ Number W1 ∷ []) vs (kinds_so x kinds js vs parts.1 are) in
+    let from = first_of_kinds x Pointer (Number W64 ∷ Number W1 ∷ []) to.others to.rest in
+    let count = first_of_kinds x (Number W64) (Number W1 ∷ []) from.others from.rest in
+    let volatile = first_of_kinds x (Number W1) [] count.others count.rest in
+    let n = number_of x W64 count.value count.is in
+    subst (λ us. Properly (IsTypedTurn m) (outer_turn input s (g ∷ gs) into Memcpy us)) (sym (to.are ∙ ap (λ us. to.value ∷ us) (from.are ∙ ap (λ us. from.value ∷ us) (count.are ∙ ap (λ u. u ∷ count.others) n.1 ∙ ap (λ us. Num W64 n.0 ∷ us) (volatile.are ∙ ap (λ us. volatile.value ∷ us) (none_of_kinds x volatile.others volatile.rest))))))
+    (memory_turn m s.objects (g ∷ gs) (copied s.objects to.value from.value n.0) (copied_gives x s.objects c.cells to.value from.value n.0) (c.waiting.0, c.waiting.2) c.globals)
+outer_gives m input s ret kinds into g gs vs bytes c are Memset fits =
+    let x = present m s.objects in
+    let js : List Kind = Pointer ∷ Number W8 ∷ Number W64 ∷ Number W1 ∷ [] in
+    let parts = and_parts (same_kind ret NoValue) (same_kinds kinds js) fits in
+    let to = first_of_kinds x Pointer (Number W8 ∷ Number W64 ∷ Number W1 ∷ []) vs (kinds_so x kinds js vs parts.1 are) in
+    let byte = first_of_kinds x (Number W8) (Number W64 ∷ Number W1 ∷ []) to.others to.rest in
+    let count = first_of_kinds x (Number W64) (Number W1 ∷ []) byte.others byte.rest in
+    let volatile = first_of_kinds x (Number W1) [] count.others count.rest in
+    let b = number_of x W8 byte.value byte.is in
+    let n = number_of x W64 count.value count.is in
+    subst (λ us. Properly (IsTypedTurn m) (outer_turn input s (g ∷ gs) into Memset us)) (sym (to.are ∙ ap (λ us. to.value ∷ us) (byte.are ∙ ap (λ u. u ∷ byte.others) b.1 ∙ ap (λ us. Num W8 b.0 ∷ us) (count.are ∙ ap (λ u. u ∷ count.others) n.1 ∙ ap (λ us. Num W64 n.0 ∷ us) (volatile.are ∙ ap (λ us. volatile.value ∷ us) (none_of_kinds x volatile.others volatile.rest))))))
+    (memory_turn m s.objects (g ∷ gs) (filled s.objects to.value b.0 n.0) (filled_gives x s.objects c.cells to.value b.0 n.0 b.2) (c.waiting.0, c.waiting.2) c.globals)
+outer_gives m input s ret kinds into g gs vs bytes c are TrapNow fits = tt
+outer_gives m input s ret kinds into g gs vs bytes c are Lifetime fits = goes_without m s ret into g gs c
+outer_gives m input s ret kinds into g gs vs bytes c are NoOuter fits = not_true fits
+
+-- where a call may go
+abbrev pub IsTarget : Present → Kind → List Kind → Target → Type 0
+IsTarget x ret kinds (Outside outer) = outer_fits outer ret kinds ≡ true
+IsTarget x ret kinds (Inside v) = IsOfKind x Pointer v
+
+-- a callee by its name
+named_gives : (m : Module) (x : Present) → Covers m x → (name : List ℕ) (ret : Kind) (kinds : List Kind) (found : Option Function) → first_where (λ (f : Function). same_name f.name name) m.functions ≡ found → (number : Option ℕ) → function_number m name ≡ number → named_fits m name ret kinds found ≡ true → ((n : ℕ) → number ≡ Some n → n < x.functions) → IsTarget x ret kinds (target_named name number)
+named_gives m x c name ret kinds found f (Some n) e fits below = below n refl
+named_gives m x c name ret kinds None f None e fits below = fits
+named_gives m x c name ret kinds (Some g) f None e fits below =
+    let there = found_any (λ (h : Function). same_name h.name name) m.functions (first_passes (λ (h : Function). same_name h.name name) m.functions g f) in
+    none_is there.number (sym e ∙ there.numbered)
+
+-- a call of a target
+pub called_gives : (m : Module) (input : List ℕ) (s : State) (ret : Kind) (kinds : List Kind) (into : Option (List ℕ)) (g : Frame) (gs : List Frame) (vs : List Value) → ((k b : ℕ) → slice_get input k ≡ Some b → b < 256) → list_all (λ f. function_typed m (env_of f) f) m.functions ≡ true → Calling m s ret into g gs → AreOfKinds (present m s.objects) kinds vs → (t : Target) → IsTarget (present m s.objects) ret kinds t → Properly (IsTypedTurn m) (call_turn m input s (g ∷ gs) ret kinds vs into t)
+called_gives m input s ret kinds into g gs vs bytes fits c are (Outside outer) is = outer_gives m input s ret kinds into g gs vs bytes c are outer is
+called_gives m input s ret kinds into g gs vs bytes fits c are (Inside v) is = entered_gives m s (g ∷ gs) ret kinds vs into fits c.cells c.globals are c.waiting v is
+
+-- the callee of a call that fits
+pub target_gives : (m : Module) (x : Present) (env : Env) (locals : List Local) → Covers m x → Each (IsLocal x env) locals → (ret : Kind) (kinds : List Kind) (callee : Operand) → callee_fits m env ret kinds callee ≡ true → Properly (IsTarget x ret kinds) (target_of m locals callee)
+target_gives m x env locals c all ret kinds (LocalName name) fits =
+    after_gives (IsOfKind x Pointer) (IsTarget x ret kinds) (local_value locals name) (λ v. Ok (Inside v)) (local_gives x env Pointer locals name (has_kind_is (env name) Pointer fits) all) (λ v p. p)
+target_gives m x env locals c all ret kinds (Global name) fits =
+    named_gives m x c name ret kinds (first_where (λ (f : Function). same_name f.name name) m.functions) refl (function_number m name) refl fits (function_below m x c name)
+target_gives m x env locals c all ret kinds (Int n) fits = not_true fits
+target_gives m x env locals c all ret kinds (Truth b) fits = not_true fits
+target_gives m x env locals c all ret kinds NullWord fits = not_true fits
+target_gives m x env locals c all ret kinds Undef fits = not_true fits
+target_gives m x env locals c all ret kinds Poison fits = not_true fits
+target_gives m x env locals c all ret kinds (Const p) fits = not_true fits
