@@ -10,3 +10,7 @@ pub mod Start
 pub mod Soundness
 pub mod Agreement
 pub mod NoFaults
+pub mod SameTypes
+pub mod Callees
+pub mod Edged
+pub mod Derived

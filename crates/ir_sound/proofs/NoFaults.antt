@@ -12,7 +12,7 @@ use Rattle.ir_sound.specs.WellTyped.{Each}
 use Rattle.ir_sound.proofs.Sound.{some_is, none_is}
 
 -- a row that has an item isn't empty
-not_empty : {A X : Type 0} (x : X) (xs : List X) → x ∷ xs ≡ [] → A
+pub not_empty : {A X : Type 0} (x : X) (xs : List X) → x ∷ xs ≡ [] → A
 not_empty x xs e = absurd (cc)
 
 -- a row without a first item is empty
