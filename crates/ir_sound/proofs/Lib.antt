@@ -14,3 +14,5 @@ pub mod SameTypes
 pub mod Callees
 pub mod Edged
 pub mod Derived
+pub mod Nesting
+pub mod Sizes

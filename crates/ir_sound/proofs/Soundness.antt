@@ -38,6 +38,8 @@ use Rattle.ir_sound.proofs.Kept.{store_gives}
 use Rattle.ir_sound.proofs.Ops.{result_gives}
 use Rattle.ir_sound.proofs.Turns.{further, fits_awaits, Here, gives_turn, stores_turn, alloca_turn}
 use Rattle.ir_sound.proofs.Entered.{returned_gives, Calling, IsTarget, target_gives, called_gives}
+use Rattle.ir_core.specs.Refusals.{IsValid}
+use Rattle.ir_sound.proofs.Derived.{valid_typed}
 use Rattle.ir_core.specs.Run.{source_start, source_run}
 use Rattle.ir_sound.proofs.Start.{start_is}
 use Rattle.ir_sound.proofs.Edges.{goes_gives, one_of_two, switched_gives, leads_each, Each_from, Each_and, past_is_none}
@@ -202,3 +204,33 @@ pub never_malformed : (m : Module) (input : List ℕ) (n : ℕ) → IsTyped m �
 unfolding source_run
 never_malformed m input n typed bytes = (steps_are m input bytes typed n (source_start m) (start_is m typed)).1
 
+
+-- the step of a state of a valid module isn't malformed
+turn_proper : (a : Answer Turn) (m : Module) → Properly (IsTypedTurn m) a → a ≢ Err Malformed
+turn_proper (Ok t) m p = λ e. absurd (cc)
+turn_proper (Err Malformed) m p = absurd p
+turn_proper (Err (Ended status)) m p = λ e. absurd (cc)
+turn_proper (Err Divide) m p = λ e. absurd (cc)
+turn_proper (Err Trap) m p = λ e. absurd (cc)
+turn_proper (Err Depth) m p = λ e. absurd (cc)
+turn_proper (Err (Left reason)) m p = λ e. absurd (cc)
+
+-- no run of a valid module comes to the malformed stop
+pub valid_proper : (m : Module) (input : List ℕ) (n : ℕ) → IsValid m → AreBytes input → (source_run m input n).ending ≢ ending.Left malformed_number
+valid_proper m input n valid bytes = never_malformed m input n (valid_typed m valid) bytes
+
+-- its first state is well typed
+pub valid_start : (m : Module) → IsValid m → IsWellTyped m (source_start m)
+valid_start m valid = start_is m (valid_typed m valid)
+
+-- a step keeps a state so
+pub valid_step : (m : Module) (input : List ℕ) (s : State) → IsValid m → AreBytes input → IsWellTyped m s → IsWellTyped m (source_step m input s)
+valid_step m input s valid bytes is = step_is m input bytes (valid_typed m valid) s is
+
+-- and isn't malformed
+pub valid_turn : (m : Module) (input : List ℕ) (s : State) → IsValid m → AreBytes input → IsWellTyped m s → turn_of m input s s.frames ≢ Err Malformed
+valid_turn m input s valid bytes is = turn_proper (turn_of m input s s.frames) m (turn_gives m input s (byte_at input bytes) (valid_typed m valid).functions s.frames is.0)
+
+-- each state is well typed
+pub valid_states : (m : Module) (input : List ℕ) (n : ℕ) → IsValid m → AreBytes input → IsWellTyped m (iter (source_step m input) n (source_start m))
+valid_states m input n valid bytes = steps_are m input bytes (valid_typed m valid) n (source_start m) (valid_start m valid)

@@ -1,11 +1,46 @@
-//! No valid module reaches the malformed stop.
+//! Runs of valid modules keep the types of their modules: no run comes to the malformed stop.
+//!
+//! The functions below are laws and do nothing. `specs/Typed` says block by block what the rules of
+//! types leave of a valid module, `specs/WellTyped` what then holds of every state of its runs: where
+//! calls stand, of which kinds their locals are, what objects hold, and for what callers wait. Passes
+//! stand on these. What a step does and which modules are valid stands in `ir_core`.
 #![tactic(auto)]
 
-ghost use Rattle.std.specs.Prelude.{◌≡◌, ◌≢◌, ℕ, List};
+ghost use Rattle.std.specs.Prelude.{◌≢◌, ℕ, List, Err};
+ghost use Rattle.behavior.specs.Ending.{Left as IsLeft};
+ghost use Rattle.behavior.specs.Moment.{AreBytes};
+ghost use Rattle.behavior.specs.System.{iter};
 ghost use Rattle.ir_core.specs.declared.module.Module.{Module};
+ghost use Rattle.ir_core.specs.Stops.{Malformed, malformed_number};
+ghost use Rattle.ir_core.specs.State.{State};
+ghost use Rattle.ir_core.specs.Step.{source_step, turn_of};
+ghost use Rattle.ir_core.specs.Run.{source_start, source_run};
+ghost use Rattle.ir_core.specs.Refusals.{IsValid};
 ghost use Rattle.ir_sound.specs.Typed.{IsTyped};
 ghost use Rattle.ir_sound.specs.WellTyped.{IsWellTyped};
 
-pub fn laws()
-    ensures { (n : ℕ) → n ≡ n }
+/// No run of a valid module comes to the malformed stop, whatever bytes it takes.
+#[tactic(auto, using(crate::proofs::Soundness::valid_proper))]
+pub fn never_malformed()
+    ensures { (m : Module) (input : List ℕ) (n : ℕ) → IsValid m → AreBytes input →
+        (source_run m input n).ending ≢ IsLeft malformed_number }
+{}
+
+/// A valid module is typed: blocks whose instructions fit the kinds of their function's locals, phis
+/// with an entry for each edge, edges to blocks, an entry block without phis, and a `main`.
+pub fn valid_is_typed()
+    ensures { (m : Module) → IsValid m → IsTyped m }
+{}
+
+/// Each state of a run of a valid module is well typed: the first is, a step keeps it so, and the
+/// step isn't malformed.
+#[tactic(auto, using(crate::proofs::Soundness::valid_start, crate::proofs::Soundness::valid_step, crate::proofs::Soundness::valid_turn, crate::proofs::Soundness::valid_states))]
+pub fn stays_typed()
+    ensures start { (m : Module) → IsValid m → IsWellTyped m (source_start m) }
+    ensures step { (m : Module) (input : List ℕ) (s : State) → IsValid m → AreBytes input →
+        IsWellTyped m s → IsWellTyped m (source_step m input s) }
+    ensures turn { (m : Module) (input : List ℕ) (s : State) → IsValid m → AreBytes input →
+        IsWellTyped m s → turn_of m input s s.frames ≢ Err Malformed }
+    ensures states { (m : Module) (input : List ℕ) (n : ℕ) → IsValid m → AreBytes input →
+        IsWellTyped m (iter (source_step m input) n (source_start m)) }
 {}
