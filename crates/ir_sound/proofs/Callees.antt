@@ -2,7 +2,6 @@
 use Rattle.std.proofs.Common.{◌≡◌, ℕ, Bool, true, false, List, [], ◌∷◌, map, Option, Some, None, refl, ap, sym, ◌∙◌, subst}
 use Rattle.std.specs.Prelude.{◌&&◌, if◌then◌else◌}
 use Rattle.std.proofs.lemmas.Bool.{and_parts, and_from}
-use Rattle.ir_core.specs.declared.kind.Kind.{Kind}
 use Rattle.ir_core.specs.declared.ty.Ty.{Ty}
 use Rattle.ir_core.specs.declared.operand.Operand.{Operand}
 use Rattle.ir_core.specs.declared.operand.Operand.TheVariants.{Int, Bool as Truth, Null as NullWord, Undef, Poison, Local as LocalName, Global, Const}
@@ -18,14 +17,8 @@ use Rattle.ir_core.specs.Kinds.{kind_of, same_kind}
 use Rattle.ir_core.specs.Calls.{outer_of, same_kinds}
 use Rattle.ir_core.specs.Typing.{Env, is_result, kinds_of, outer_fits, named_fits, callee_fits, op_fits}
 use Rattle.ir_core.specs.Valid.{all_two, same_ty, types_of, extern_fits, extern_called, named_called, callee_rules, op_rules}
-use Rattle.ir_sound.proofs.Sound.{not_true, name_is}
+use Rattle.ir_sound.proofs.SameLaws.{kind_itself, kinds_itself, name_is, not_true}
 use Rattle.ir_sound.proofs.SameTypes.{ty_is, tys_are}
-use Rattle.ir_sound.proofs.Agreement.{kind_itself}
-
--- rows of kinds are the same as themselves
-kinds_itself : (ks : List Kind) → same_kinds ks ks ≡ true
-kinds_itself [] = refl
-kinds_itself (k ∷ ks) = and_from _ _ (kind_itself k) (kinds_itself ks)
 
 -- of the types of arguments the kinds
 kinds_of_types : (args : List Arg) → map kind_of (types_of args) ≡ kinds_of args

@@ -1,7 +1,7 @@
 -- Along an edge of a function that fits, each phi of the block has its entry.
 use Rattle.std.proofs.Common.{◌≡◌, ℕ, zero, suc, ◌≤◌, Bool, true, false, List, [], ◌∷◌, length, map, Some, None, Ok, refl, ap, sym, ◌∙◌, subst, arith, ◌⊎◌, inl, inr}
 use Rattle.std.specs.Prelude.{◌&&◌, ◌||◌, not, nat_eq, slice_get, if◌then◌else◌}
-use Rattle.std.proofs.lemmas.Bool.{and_parts, and_from, eq-eqb}
+use Rattle.std.proofs.lemmas.Bool.{and_parts, and_from}
 use Rattle.ir_core.specs.declared.instruction.Op.{Op}
 use Rattle.ir_core.specs.declared.instruction.Op.TheVariants.{Phi}
 use Rattle.ir_core.specs.declared.instruction.Entry.{Entry}
@@ -23,13 +23,14 @@ use Rattle.ir_core.specs.Step.{Choice, choices_with, choices_of, chosen, given_a
 use Rattle.ir_core.specs.Typing.{Env, is_value, is_number, operand_fits, op_fits, into_fits, inst_fits, case_fits, kind_given, labels_of, term_fits}
 use Rattle.std.specs.List.{list_all, list_any, filter}
 use Rattle.ir_core.specs.Valid.{env_of, is_phi, leads_to, predecessors, entries_fit}
+use Rattle.rd_num.specs.declared.width.Width.TheVariants.{W1}
 use Rattle.ir_sound.specs.Typed.{no_phi, has_label, phi_typed, phis_typed, labels_known, block_typed}
 use Rattle.ir_sound.specs.WellTyped.{Each, Properly, Present, IsOfKind, IsLocal, present, IsTypedTurn}
-use Rattle.ir_sound.proofs.Sound.{after_gives, not_true, some_is, none_is, name_is, kind_is, all_at, found_any}
-use Rattle.ir_sound.proofs.Values.{Covers, value_gives}
-use Rattle.ir_sound.proofs.Kept.{if_gives}
-use Rattle.rd_num.specs.declared.width.Width.TheVariants.{W1}
-use Rattle.ir_sound.proofs.Turns.{given_are, fits_awaits, Here}
+use Rattle.ir_sound.proofs.AnswerLaws.{if_gives, then_gives}
+use Rattle.ir_sound.proofs.Frames.{Here, fits_awaits, given_are}
+use Rattle.ir_sound.proofs.Operands.{Covers, value_gives}
+use Rattle.ir_sound.proofs.RowLaws.{all_at, found_any}
+use Rattle.ir_sound.proofs.SameLaws.{kind_is, name_is, none_is, not_true, same_itself, some_is}
 
 -- whether entries have one for a block of that label
 abbrev has_entry : List Entry → List ℕ → Bool
@@ -60,9 +61,9 @@ given_gives m x env locals cov all from (c ∷ cs) fits =
     let parts = and_parts (choice_fits m env from c) (list_all (choice_fits m env from) cs) fits in
     let more = and_parts (has_entry c.entries from) (into_fits env c.into c.kind && entries_of m env c.kind c.entries) parts.0 in
     let into = (and_parts (into_fits env c.into c.kind) (entries_of m env c.kind c.entries) more.1).0 in
-    after_gives (IsOfKind x c.kind) (Each (IsLocal x env)) (chosen m locals from c) (λ v. and_then (given_at_once m locals from cs) (λ ls. Ok (with_local c.into v ls)))
+    then_gives (IsOfKind x c.kind) (Each (IsLocal x env)) (chosen m locals from c) (λ v. and_then (given_at_once m locals from cs) (λ ls. Ok (with_local c.into v ls)))
     (chosen_gives m x env locals cov all from c parts.0)
-    (λ v p. after_gives (Each (IsLocal x env)) (Each (IsLocal x env)) (given_at_once m locals from cs) (λ ls. Ok (with_local c.into v ls)) (given_gives m x env locals cov all from cs parts.1)
+    (λ v p. then_gives (Each (IsLocal x env)) (Each (IsLocal x env)) (given_at_once m locals from cs) (λ ls. Ok (with_local c.into v ls)) (given_gives m x env locals cov all from cs parts.1)
     (λ ls q. given_are x env c.into c.kind v ls (fits_awaits env c.into c.kind into) p q))
 
 -- what holds of the labels of all blocks that lead to a label holds of a block's that does
@@ -137,7 +138,7 @@ goes_gives m s f callers h cov fits label leads known =
     let here : leads_to target.label from ≡ true = ap (λ l. leads_to l from) (name_is target.label label to.passes) ∙ leads in
     let choices = choices_fit m env (predecessors fn.blocks target.label) from.label (λ test. predecessor_passes target.label test fn.blocks f.block from h.stands.in_function here) target.insts phis insts in
     let one : Answer Turn = in_block m s f callers from.label to.number target in
-    let gives : Properly (IsTypedTurn m) one = after_gives (Each (IsLocal x env)) (IsTypedTurn m) (given_at_once m f.locals from.label (choices_of target.insts))
+    let gives : Properly (IsTypedTurn m) one = then_gives (Each (IsLocal x env)) (IsTypedTurn m) (given_at_once m f.locals from.label (choices_of target.insts))
     (λ locals. Ok (record { frames = record f { block = to.number; next = length (choices_of target.insts); locals = locals } ∷ callers; objects = s.objects; exchange = Nothing }))
     (given_gives m x env f.locals cov h.stands.locals from.label (choices_of target.insts) choices)
     (λ locals q. record {
@@ -178,7 +179,7 @@ switched_gives m x cov kind P v default (c ∷ cs) number is fits d all =
     let parts = and_parts (case_fits m kind c) (list_all (case_fits m kind) cs) fits in
     let both = and_parts (same_kind (kind_of c.ty) kind) (operand_fits m (λ name. None) kind c.value) parts.0 in
     let same = kind_is (kind_of c.ty) kind both.0 in
-    after_gives (IsOfKind x kind) P (value_of m [] (kind_of c.ty) c.value) (λ u. to_if_equal u v c.to (switched m v default cs))
+    then_gives (IsOfKind x kind) P (value_of m [] (kind_of c.ty) c.value) (λ u. to_if_equal u v c.to (switched m v default cs))
     (subst (λ k. Properly (IsOfKind x kind) (value_of m [] k c.value)) (sym same) (value_gives m x (λ name. None) [] cov tt kind c.value both.1))
     (λ u p. equal_gives x kind P u v c.to (switched m v default cs) number p is all.0 (switched_gives m x cov kind P v default cs number is parts.1 d all.1))
 
@@ -186,10 +187,6 @@ switched_gives m x cov kind P v default (c ∷ cs) number is fits d all =
 pub leads_each : (labels : List (List ℕ)) → Each (λ to. list_any (λ l. same_name l to) labels ≡ true) labels
 leads_each labels = from_all labels (λ l h. h)
   where
-    same_itself : (l : List ℕ) → same_name l l ≡ true
-    same_itself [] = refl
-    same_itself (n ∷ ns) = and_from _ _ (eq-eqb n n refl) (same_itself ns)
-
     from_all : (ls : List (List ℕ)) → ((to : List ℕ) → list_any (λ l. same_name l to) ls ≡ true → list_any (λ l. same_name l to) labels ≡ true) → Each (λ to. list_any (λ l. same_name l to) labels ≡ true) ls
     from_all [] more = tt
     from_all (l ∷ ls) more = (more l (ap (λ b. b || list_any (λ k. same_name k l) ls) (same_itself l)), from_all ls (λ to h. more to (or_right (same_name l to) (list_any (λ k. same_name k to) ls) h)))
@@ -197,13 +194,3 @@ leads_each labels = from_all labels (λ l h. h)
         or_right : (a b : Bool) → b ≡ true → (a || b) ≡ true
         or_right true b e = refl
         or_right false b e = e
-
--- what holds of each item by a test
-pub Each_from : {X : Type 0} (test : X → Bool) (xs : List X) → list_all test xs ≡ true → Each (λ y. test y ≡ true) xs
-Each_from test [] e = tt
-Each_from test (x ∷ xs) e = let p = and_parts (test x) (list_all test xs) e in (p.0, Each_from test xs p.1)
-
--- two properties of each
-pub Each_and : {X : Type 0} (P Q : X → Type 0) (xs : List X) → Each P xs → Each Q xs → Each (λ y. P y × Q y) xs
-Each_and P Q [] p q = tt
-Each_and P Q (x ∷ xs) p q = ((p.0, q.0), Each_and P Q xs p.1 q.1)

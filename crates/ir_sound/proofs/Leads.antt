@@ -10,7 +10,7 @@ use Rattle.ir_core.specs.declared.ty.NamedTy.{NamedTy}
 use Rattle.ir_core.specs.Names.{first_where, same_name}
 use Rattle.ir_core.specs.Shapes.{Shape, rounded, whole_part, part_of_array, part_of_field, part_of_struct, unaligned, shape_at, shape_or_nothing, named_shape, shape_of}
 use Rattle.ir_core.specs.Typing.{Leads, leads_whole, leads_array, leads_field, leads_struct, leads_at, leads_or_none, leads_named, leads_into}
-use Rattle.ir_sound.proofs.Sound.{not_true}
+use Rattle.ir_sound.proofs.SameLaws.{not_true}
 
 -- numbers that agree with what was known of them
 abbrev pub Agree : List (Option ℕ) → List ℕ → Type 0

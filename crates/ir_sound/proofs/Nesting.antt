@@ -12,7 +12,7 @@ use Rattle.ir_core.specs.Names.{same_name, first_where}
 use Rattle.ir_core.specs.Shapes.{Shape, array, struct, unaligned, shape_at, shape_or_nothing, named_shape, shape_of}
 use Rattle.ir_core.specs.Counts.{deeper, deepest, depth_at, depth_or_none, named_depth, depth_of}
 use Rattle.ir_core.specs.Built.{is_struct_at}
-use Rattle.ir_sound.proofs.Sound.{not_true}
+use Rattle.ir_sound.proofs.SameLaws.{not_true}
 
 -- what is one level deeper and within the limit is no deeper than one less
 shallower : (n k : ℕ) → k ≤ MAX_NESTING → deeper n ≤ k → n + 1 ≤ k

@@ -1,15 +1,14 @@
 -- Lists of faults that are empty: what each of their parts says then.
 use Rattle.std.proofs.Common.{◌≡◌, ℕ, zero, suc, ◌+◌, Bool, true, false, List, [], ◌∷◌, ◌++◌, map, Some, None, refl, ap, sym, ◌∙◌, arith}
 use Rattle.std.specs.Prelude.{slice_get, if◌then◌else◌}
-use Rattle.std.specs.List.{list_all, flat_map, enumerate_from}
-use Rattle.std.proofs.lemmas.Bool.{and_from}
+use Rattle.std.specs.List.{flat_map, enumerate_from}
 use Rattle.ir_core.specs.declared.limit.Spot.{Spot}
 use Rattle.ir_core.specs.declared.module.Module.{Module}
 use Rattle.ir_core.specs.Definitions.{doubled}
 use Rattle.ir_core.specs.Valid.{unless, type_faults}
 use Rattle.ir_core.specs.Refusals.{NoMain, Doubled, Unknown, External, BadType, unknown, limited, external, without_main, refusals, first_fault, main_of, has_main}
 use Rattle.ir_sound.specs.WellTyped.{Each}
-use Rattle.ir_sound.proofs.Sound.{some_is, none_is}
+use Rattle.ir_sound.proofs.SameLaws.{none_is, some_is}
 
 -- a row that has an item isn't empty
 pub not_empty : {A X : Type 0} (x : X) (xs : List X) → x ∷ xs ≡ [] → A
@@ -26,7 +25,7 @@ both_empty [] ys e = (refl, e)
 both_empty (x ∷ xs) ys e = not_empty x (xs ++ ys) e
 
 -- nothing comes of nothing
-map_empty : {A B : Type 0} (f : A → B) (xs : List A) → map f xs ≡ [] → xs ≡ []
+pub map_empty : {A B : Type 0} (f : A → B) (xs : List A) → map f xs ≡ [] → xs ≡ []
 map_empty f [] e = refl
 map_empty f (x ∷ xs) e = not_empty (f x) (map f xs) e
 
@@ -50,15 +49,11 @@ empty_at faults (y ∷ ys) k (suc i) x e at =
     let n : k + suc i ≡ k + 1 + i = omega arith in
     ap (λ m. faults (m, x)) n ∙ empty_at faults ys (k + 1) i x (both_empty (faults (k, y)) (flat_map faults (enumerate_from (k + 1) ys)) e).1 at
 
--- what holds at each place holds of all
-pub all_from : {X : Type 0} (test : X → Bool) (xs : List X) → ((i : ℕ) (x : X) → slice_get xs i ≡ Some x → test x ≡ true) → list_all test xs ≡ true
-all_from test [] go = refl
-all_from test (x ∷ xs) go = and_from _ _ (go 0 x refl) (all_from test xs (λ i y at. go (suc i) y at))
-
--- a module with nothing doubled, nothing unknown, a `main` and no fault of types
+-- a module with nothing doubled, nothing unknown, no limit passed, a `main` and no fault of types
 pub record Unrefused (m : Module) : Type 0 where
   pub doubled : doubled m ≡ []
   pub unknown : unknown m ≡ []
+  pub limited : limited m ≡ []
   pub main : has_main (main_of m) ≡ true
   pub typed : type_faults m ≡ []
 
@@ -73,6 +68,7 @@ unrefused m none =
     record {
       doubled = map_empty Doubled (doubled m) names.0;
       unknown = map_empty Unknown (unknown m) names.1;
+      limited = limits.1;
       main = there (has_main (main_of m)) main.1;
       typed = map_empty BadType (type_faults m) types.1;
     }

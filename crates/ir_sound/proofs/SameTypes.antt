@@ -7,7 +7,7 @@ use Rattle.ir_core.specs.declared.ty.Ty.TheOpen.{Ty-F}
 use Rattle.ir_core.specs.declared.ty.Ty.TheBlock.{the_family, member-Ty}
 use Rattle.ir_core.specs.declared.ty.Ty.TheFolds.{claims, map-Ty}
 use Rattle.ir_core.specs.Valid.{all_two, same_level, same_ty}
-use Rattle.ir_sound.proofs.Sound.{not_true, name_is, width_is}
+use Rattle.ir_sound.proofs.SameLaws.{name_is, not_true, width_is}
 
 -- types that are the same
 abbrev Within : Type 0

@@ -10,9 +10,7 @@ use Rattle.rd_num.specs.declared.width.Width.TheVariants.{W1, W8, W16, W32, W64}
 use Rattle.rd_num.specs.Number.{le_bytes}
 use Rattle.ir_core.specs.declared.ty.Ty.{Ty, out-Ty, roll-Ty, fold-Ty, ind-Ty, fold-roll-Ty, roll-out-Ty}
 use Rattle.ir_core.specs.declared.ty.Ty.TheOpen.{Ty-F}
-use Rattle.ir_core.specs.declared.ty.Ty.TheBlock as types
 use Rattle.ir_core.specs.declared.ty.Ty.TheFolds.{map-Ty}
-use Rattle.ir_core.specs.declared.ty.Ty.TheFolds as type_folds
 use Rattle.ir_core.specs.declared.ty.NamedTy.{NamedTy}
 use Rattle.ir_core.specs.declared.operand.Operand.{Operand}
 use Rattle.ir_core.specs.declared.operand.Operand.TheVariants.{Undef, Poison}
@@ -40,14 +38,18 @@ use Rattle.ir_core.specs.Globals.{Part, zeros, end_to_end, spread, cells_or_zero
 use Rattle.std.specs.List.{list_all}
 use Rattle.ir_core.specs.Typing.{operand_fits}
 use Rattle.ir_core.specs.Valid.{Fitted, same_ty, array_fits, text_fits, fields_fit, struct_fits, named_fields, opened, value_fits, init_fits_at, init_fits}
-use Rattle.ir_sound.specs.WellTyped.{Properly, Present, IsOfKind, is_sized}
-use Rattle.ir_sound.proofs.Sound.{not_true, kind_is}
-use Rattle.ir_sound.proofs.Values.{Covers, value_gives}
-use Rattle.ir_sound.proofs.SameTypes.{ty_is}
-use Rattle.ir_sound.proofs.Nesting.{shape_stable}
 use Rattle.ir_core.specs.Counts.{depth_of}
 use Rattle.ir_core.specs.Built.{is_struct_at}
 use Rattle.ir_core.specs.declared.limit.TheConstants.{MAX_NESTING}
+use Rattle.ir_core.specs.declared.ty.Ty.TheBlock as types
+use Rattle.ir_core.specs.declared.ty.Ty.TheFolds as type_folds
+use Rattle.ir_sound.specs.Typed.{is_sized}
+use Rattle.ir_sound.specs.WellTyped.{Properly, Present, IsOfKind}
+use Rattle.ir_sound.proofs.Nesting.{shape_stable}
+use Rattle.ir_sound.proofs.Operands.{Covers, value_gives}
+use Rattle.ir_sound.proofs.RowLaws.{length_map}
+use Rattle.ir_sound.proofs.SameLaws.{kind_is, not_true}
+use Rattle.ir_sound.proofs.SameTypes.{ty_is}
 
 -- an alignment of at least one byte
 max_positive : (a b : ℕ) → 0 < b → 0 < max a b
@@ -162,14 +164,9 @@ bytes_length : (k n : ℕ) → length (le_bytes k n) ≡ k
 bytes_length zero n = refl
 bytes_length (suc k) n = ap (λ l. suc l) (bytes_length k (n / 256))
 
--- as many items
-length-map : {A B : Type 0} (f : A → B) (xs : List A) → length (map f xs) ≡ length xs
-length-map f [] = refl
-length-map f (x ∷ xs) = ap (λ n. suc n) (length-map f xs)
-
 -- cells of a value
 value_length : (x : Present) (kind : Kind) (v : Value) → IsOfKind x kind v → length (cells_of v) ≡ kind_size kind
-value_length x (Number w) (Num u n) is = length-map Byte (le_bytes (bytes_of u) n) ∙ bytes_length (bytes_of u) n ∙ ap bytes_of is.0
+value_length x (Number w) (Num u n) is = length_map Byte (le_bytes (bytes_of u) n) ∙ bytes_length (bytes_of u) n ∙ ap bytes_of is.0
 value_length x (Number w) Null is = absurd is
 value_length x (Number w) (At o d) is = absurd is
 value_length x (Number w) (Fun f) is = absurd is
@@ -191,7 +188,7 @@ module _ (m : Module) (x : Present) (c : Covers m x) where
     where
       of_kind : (k : Kind) → kind_of ty ≡ k → length (cells_or_zeros (shape_of m.types ty).size (zero_of k)) ≡ (shape_of m.types ty).size
       of_kind NoValue e = length-replicate (shape_of m.types ty).size (Byte 0)
-      of_kind (Number w) e = length-map Byte (le_bytes (bytes_of w) 0) ∙ bytes_length (bytes_of w) 0 ∙ sym (size_as m.types ty (Number w) e (λ f. absurd (cc)))
+      of_kind (Number w) e = length_map Byte (le_bytes (bytes_of w) 0) ∙ bytes_length (bytes_of w) 0 ∙ sym (size_as m.types ty (Number w) e (λ f. absurd (cc)))
       of_kind Pointer e = sym (size_as m.types ty Pointer e (λ f. absurd (cc)))
 
   -- an operand
@@ -223,7 +220,7 @@ module _ (m : Module) (x : Present) (c : Covers m x) where
       let p = and_parts _ _ fits in
       let many = eqb-true (length bytes) n p.0 in
       let one = size_as m.types of (Number W8) (kind_is (kind_of of) (Number W8) p.1) (λ f. absurd (cc)) in
-      length-map Byte bytes ∙ many ∙ (let e : n ≡ n * 1 = omega arith in e) ∙ ap (λ k. n * k) (sym one)
+      length_map Byte bytes ∙ many ∙ (let e : n ≡ n * 1 = omega arith in e) ∙ ap (λ k. n * k) (sym one)
   text_length bytes z fits = not_true fits
 
   -- an initialiser of a type it fits has the type's size
@@ -270,7 +267,7 @@ module _ (m : Module) (x : Present) (c : Covers m x) where
 
   -- as many elements
   fitted_length : (es : List WithinElem) → length (map fitted_elem (map (λ (k : WithinElem). k.0) es)) ≡ length es
-  fitted_length es = length-map fitted_elem (map (λ (k : WithinElem). k.0) es) ∙ length-map (λ (k : WithinElem). k.0) es
+  fitted_length es = length_map fitted_elem (map (λ (k : WithinElem). k.0) es) ∙ length_map (λ (k : WithinElem). k.0) es
 
   -- an array
   array_layer : (es : List WithinElem) (z : Ty-F Ty) → array_fits (map fitted_elem (map (λ (k : WithinElem). k.0) es)) z ≡ true → length (end_to_end (map (part_of m) (map (λ (k : WithinElem). k.0) es))) ≡ (layer z).size

@@ -1,5 +1,5 @@
 -- The state before the first step is well typed.
-use Rattle.std.proofs.Common.{◌≡◌, ℕ, suc, ◌+◌, ◌-◌, ◌%◌, ◌^◌, ◌<◌, Bool, true, List, [], ◌∷◌, ◌++◌, length, map, Option, Some, None, Ok, Err, refl, ap, sym, ◌∙◌, subst, arith, ⊎_elim}
+use Rattle.std.proofs.Common.{◌≡◌, ℕ, ◌+◌, ◌-◌, ◌%◌, ◌^◌, ◌<◌, Bool, true, List, [], ◌∷◌, ◌++◌, length, map, Option, Some, None, Ok, Err, refl, sym, ◌∙◌, subst, arith, ⊎_elim}
 use Rattle.std.specs.Prelude.{◌&&◌, ◌||◌, nat_lt, slice_get, codes}
 use Rattle.std.proofs.lemmas.Bool.{and_parts, or_cases, ltb-true, eqb-true}
 use Rattle.std.proofs.Math.Nat.{mod-lt}
@@ -35,14 +35,15 @@ use Rattle.ir_core.specs.Run.{first_arguments, start_in, start_at, source_start}
 use Rattle.ir_core.specs.Typing.{Env, is_result}
 use Rattle.std.specs.List.{list_all}
 use Rattle.ir_core.specs.Valid.{env_of}
-use Rattle.ir_sound.specs.Typed.{param_typed, entry_typed, block_typed, function_typed, IsTyped}
 use Rattle.ir_core.specs.Refusals.{is_main, has_main}
-use Rattle.ir_sound.specs.WellTyped.{Each, Present, IsOfKind, IsCell, IsObject, IsLocal, present, is_sized, IsWellTyped}
 use Rattle.ir_core.proofs.Fits.{literal_fits}
-use Rattle.ir_sound.proofs.Sound.{not_true, some_is, kind_is, kinds_are, all_at, Each_both, found_any, first_passes}
-use Rattle.ir_sound.proofs.Values.{truth_is, Covers, global_below, function_below, AreOfKinds}
-use Rattle.ir_sound.proofs.Kept.{cells_are, Each_replicate}
-use Rattle.ir_sound.proofs.Entered.{bound_are, first_stands}
+use Rattle.ir_sound.specs.Typed.{param_typed, entry_typed, block_typed, function_typed, IsTyped, is_sized}
+use Rattle.ir_sound.specs.WellTyped.{Each, Present, IsOfKind, IsCell, IsObject, IsLocal, present, IsWellTyped}
+use Rattle.ir_sound.proofs.Calls.{bound_are, first_stands}
+use Rattle.ir_sound.proofs.Objects.{cells_are}
+use Rattle.ir_sound.proofs.Operands.{AreOfKinds, Covers, function_below, global_below, truth_is}
+use Rattle.ir_sound.proofs.RowLaws.{Each_both, Each_replicate, all_at, first_passes, found_any, length_map}
+use Rattle.ir_sound.proofs.SameLaws.{kind_is, kinds_are, not_true, some_is}
 
 -- an answer that has a property where it is a value
 abbrev Loose : {A : Type 0} → (A → Type 0) → Answer A → Type 0
@@ -185,18 +186,13 @@ module _ (m : Module) (x : Present) (c : Covers m x) where
   init_holds = ind-Init Holds ElementHolds (λ z y e. subst (λ k. Holds (roll-Init k)) e (of_init y)) (λ z y e. subst (λ k. ElementHolds (roll-Elem k)) e (of_elem y))
 
   -- globals
-  globals_hold : (gs : List GlobalVar) → (x.sized ≡ true → list_all (is_sized m) gs ≡ true) → list_all (λ (g : GlobalVar). init_built g.init) gs ≡ true → Each (IsObject x) (map (global_object m) gs)
+  globals_hold : (gs : List GlobalVar) → list_all (is_sized m) gs ≡ true → list_all (λ (g : GlobalVar). init_built g.init) gs ≡ true → Each (IsObject x) (map (global_object m) gs)
   globals_hold [] so e = tt
   globals_hold (g ∷ gs) so e =
       let p = and_parts (init_built g.init) (list_all (λ (h : GlobalVar). init_built h.init) gs) e in (
-        record { count = λ t. eqb-true (length (cells_of_init m g.init g.ty)) (shape_of m.types g.ty).size (and_parts (is_sized m g) (list_all (is_sized m) gs) (so t)).0; cells = init_holds g.init (built_parts g.init p.0) g.ty },
-        globals_hold gs (λ t. (and_parts (is_sized m g) (list_all (is_sized m) gs) (so t)).1) p.1,
+        record { count = eqb-true (length (cells_of_init m g.init g.ty)) (shape_of m.types g.ty).size (and_parts (is_sized m g) (list_all (is_sized m) gs) so).0; cells = init_holds g.init (built_parts g.init p.0) g.ty },
+        globals_hold gs (and_parts (is_sized m g) (list_all (is_sized m) gs) so).1 p.1,
       )
-
--- as many objects as globals
-length_map : {A B : Type 0} (f : A → B) (xs : List A) → length (map f xs) ≡ length xs
-length_map f [] = refl
-length_map f (x ∷ xs) = ap (λ n. suc n) (length_map f xs)
 
 -- without parameters nothing is bound
 none_bound : (x : Present) (env : Env) (ps : List Param) (vs : List Value) → map (λ (p : Param). kind_of p.ty) ps ≡ [] → Each (IsLocal x env) (bound ps vs)
@@ -223,7 +219,7 @@ start_gives m typed number f at main =
     let s = first_stands m x number f first_arguments None at fits locals in (
       record {
         calls = (s.0, subst (λ g. kind_of g.ret ≡ Number W32) (sym s.1) (kind_is (kind_of f.ret) (Number W32) parts.0));
-        cells = globals_hold m x c m.globals (λ t. t) typed.inits;
+        cells = globals_hold m x c m.globals typed.sizes typed.inits;
         globals = omega arith;
       },
       λ e. absurd (cc),

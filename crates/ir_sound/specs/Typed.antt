@@ -1,5 +1,5 @@
 -- Modules whose functions keep the rules of types, in the form that steps and passes stand on: by blocks, over one environment.
-use Rattle.std.specs.Prelude.{ℕ, List, [], ◌∷◌, Bool, true, false, ◌&&◌, not, IsTrue, if◌then◌else◌}
+use Rattle.std.specs.Prelude.{ℕ, List, [], ◌∷◌, Bool, true, false, ◌&&◌, not, nat_eq, length, IsTrue, if◌then◌else◌}
 use Rattle.std.specs.List.{list_all, list_any}
 use Rattle.ir_core.specs.declared.instruction.Op.{Op}
 use Rattle.ir_core.specs.declared.instruction.Op.TheVariants.{Phi}
@@ -11,6 +11,8 @@ use Rattle.ir_core.specs.declared.module.GlobalVar.{GlobalVar}
 use Rattle.ir_core.specs.declared.module.Module.{Module}
 use Rattle.ir_core.specs.Names.{same_name}
 use Rattle.ir_core.specs.Kinds.{kind_of}
+use Rattle.ir_core.specs.Shapes.{shape_of}
+use Rattle.ir_core.specs.Globals.{cells_of_init}
 use Rattle.ir_core.specs.Typing.{Env, is_value, has_kind, inst_fits, is_result, labels_of, term_fits}
 use Rattle.ir_core.specs.Built.{init_built}
 use Rattle.ir_core.specs.Valid.{env_of, leads_to, predecessors, entries_fit, is_phi}
@@ -63,8 +65,13 @@ function_typed m env f =
 abbrev pub functions_typed : Module → List Function → Bool
 functions_typed m fs = list_all (λ f. function_typed m (env_of f) f) fs
 
--- the functions are typed, there is a `main`, and globals begin with bytes
+-- a global begins with as many cells as its type has bytes
+abbrev pub is_sized : Module → GlobalVar → Bool
+is_sized m g = nat_eq (length (cells_of_init m g.init g.ty)) (shape_of m.types g.ty).size
+
+-- the functions are typed, there is a `main`, and globals begin with bytes, as many as their types have
 pub record IsTyped (m : Module) : Type 0 where
   pub functions : IsTrue (functions_typed m m.functions)
   pub main : IsTrue (has_main (main_of m))
   pub inits : IsTrue (list_all (λ (g : GlobalVar). init_built g.init) m.globals)
+  pub sizes : IsTrue (list_all (is_sized m) m.globals)

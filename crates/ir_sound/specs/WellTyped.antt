@@ -1,5 +1,5 @@
 -- What holds of every state of a run of a module that fits the rules of types.
-use Rattle.std.specs.Prelude.{◌≡◌, ◌≢◌, ℕ, ◌<◌, ◌≤◌, ◌^◌, List, [], ◌∷◌, length, slice_get, if◌then◌else◌, Bool, true, nat_eq, Option, Some, None, Ok, Err}
+use Rattle.std.specs.Prelude.{◌≡◌, ◌≢◌, ℕ, ◌<◌, ◌≤◌, ◌^◌, List, [], ◌∷◌, length, slice_get, if◌then◌else◌, Option, Some, None, Ok, Err}
 use Rattle.rd_num.specs.declared.width.Width.TheVariants.{W32}
 use Rattle.behavior.specs.Ending.{Ending}
 use Rattle.behavior.specs.Ending as ending
@@ -19,11 +19,7 @@ use Rattle.ir_core.specs.Arithmetic.{IsOfWidth}
 use Rattle.ir_core.specs.Memory.{Memory}
 use Rattle.ir_core.specs.State.{Local, Frame, State, Turn}
 use Rattle.ir_core.specs.Step.{choices_of}
-use Rattle.ir_core.specs.declared.module.GlobalVar.{GlobalVar}
-use Rattle.ir_core.specs.Shapes.{shape_of}
-use Rattle.ir_core.specs.Globals.{cells_of_init}
 use Rattle.ir_core.specs.Typing.{Env}
-use Rattle.std.specs.List.{list_all}
 use Rattle.ir_core.specs.Valid.{env_of}
 
 -- all items have a property
@@ -45,11 +41,10 @@ abbrev pub Properly : {A : Type 0} → (A → Type 0) → Answer A → Type 0
 Properly P (Ok a) = P a
 Properly P (Err stop) = IsProper stop
 
--- so many objects and so many functions there are, and whether globals begin with as many cells as their types have bytes
+-- so many objects and so many functions there are
 pub record Present : Type 0 where
   pub objects : ℕ
   pub functions : ℕ
-  pub sized : Bool
 
 -- a value of a kind
 abbrev pub IsOfKind : Present → Kind → Value → Type 0
@@ -71,7 +66,7 @@ cell_count o = if o.live then o.size else 0
 
 -- an object holds cells, as many as it should
 pub record IsObject (x : Present) (o : Object0) : Type 0 where
-  pub count : x.sized ≡ true → length o.cells ≡ cell_count o
+  pub count : length o.cells ≡ cell_count o
   pub cells : Each (IsCell x) o.cells
 
 -- a local has a value of its kind
@@ -104,13 +99,9 @@ abbrev pub AreCalls : Module → Present → List Frame → Type 0
 AreCalls m x [] = ⊥
 AreCalls m x (f ∷ callers) = (s : IsInBlock m x f) × AreWaiting m x (kind_of s.fn.ret) f.into callers
 
--- a global begins with as many cells as its type has bytes
-abbrev pub is_sized : Module → GlobalVar → Bool
-is_sized m g = nat_eq (length (cells_of_init m g.init g.ty)) (shape_of m.types g.ty).size
-
 -- what there is
 abbrev pub present : Module → Memory → Present
-present m objects = record { objects = length objects; functions = length m.functions; sized = list_all (is_sized m) m.globals }
+present m objects = record { objects = length objects; functions = length m.functions }
 
 -- calls over memory, in which the globals stand
 pub record AreOver (m : Module) (frames : List Frame) (objects : Memory) : Type 0 where

@@ -20,7 +20,7 @@ ghost use Rattle.ir_sound.specs.Typed.{IsTyped};
 ghost use Rattle.ir_sound.specs.WellTyped.{IsWellTyped};
 
 /// No run of a valid module comes to the malformed stop, whatever bytes it takes.
-#[tactic(auto, using(crate::proofs::Soundness::valid_proper))]
+#[tactic(auto, using(crate::proofs::Steps::valid_proper))]
 pub fn never_malformed()
     ensures { (m : Module) (input : List ℕ) (n : ℕ) → IsValid m → AreBytes input →
         (source_run m input n).ending ≢ IsLeft malformed_number }
@@ -34,7 +34,7 @@ pub fn valid_is_typed()
 
 /// Each state of a run of a valid module is well typed: the first is, a step keeps it so, and the
 /// step isn't malformed.
-#[tactic(auto, using(crate::proofs::Soundness::valid_start, crate::proofs::Soundness::valid_step, crate::proofs::Soundness::valid_turn, crate::proofs::Soundness::valid_states))]
+#[tactic(auto, using(crate::proofs::Steps::valid_start, crate::proofs::Steps::valid_step, crate::proofs::Steps::valid_turn, crate::proofs::Steps::valid_states))]
 pub fn stays_typed()
     ensures start { (m : Module) → IsValid m → IsWellTyped m (source_start m) }
     ensures step { (m : Module) (input : List ℕ) (s : State) → IsValid m → AreBytes input →

@@ -1,4 +1,4 @@
-use Rattle.ir_sound.proofs.Derived.{valid_typed}
+use Rattle.ir_sound.proofs.ValidTyped.{valid_typed}
 use Rattle.ir_sound.proofs.valid_is_typed.Goals as goal
 
 pub returns : goal.returns

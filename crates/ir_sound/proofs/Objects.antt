@@ -1,7 +1,7 @@
 -- Memory whose objects hold cells: what is read from it is a value, and what is written keeps it so.
 use Rattle.std.proofs.Common.{◌≡◌, ℕ, zero, suc, ◌+◌, ◌/◌, ◌<◌, ◌≤◌, Bool, true, false, List, [], ◌∷◌, ◌++◌, length, map, take, drop, Option, Some, None, Ok, Err, refl, ap, ◌∙◌, arith, length-append, length-take-le, length-drop}
 use Rattle.std.proofs.lemmas.List.{length-replicate}
-use Rattle.std.specs.Prelude.{nat_eq, nat_le, replicate, slice_get, slice_set, if◌then◌else◌}
+use Rattle.std.specs.Prelude.{nat_eq, nat_le, replicate, slice_get, if◌then◌else◌}
 use Rattle.std.proofs.lemmas.Bool.{leb-true}
 use Rattle.std.proofs.Math.Nat.{mod-lt}
 use Rattle.std.proofs.lemmas.Nat.{pow_pos}
@@ -20,29 +20,9 @@ use Rattle.ir_core.specs.Shapes.{bytes_of}
 use Rattle.ir_core.specs.Memory.{Memory, pointer_cells, cells_of, any_unset, numbers, same_cells, number_read, pointer_read, value_read, kind_size, Range, range_of, readable_range, unless_constant, writable_range, cells_at, load_at, written, store_at, filled, overlaps, copied, dead, dead_at, without}
 use Rattle.ir_core.specs.Typing.{is_value}
 use Rattle.ir_sound.specs.WellTyped.{Each, Properly, Present, IsOfKind, IsCell, IsObject}
-use Rattle.ir_sound.proofs.Sound.{after_gives, not_true, Each_at, Each_more, Each_both, Each_set}
-
--- of a choice, each
-pub if_gives : {A : Type 0} (P : A → Type 0) (b : Bool) (a c : Answer A) → Properly P a → Properly P c → Properly P (if b then a else c)
-if_gives P true a c p q = p
-if_gives P false a c p q = q
-
--- a front of a row
-pub Each_take : {X : Type 0} (P : X → Type 0) (n : ℕ) (xs : List X) → Each P xs → Each P (take n xs)
-Each_take P zero xs all = tt
-Each_take P (suc n) [] all = tt
-Each_take P (suc n) (x ∷ xs) all = (all.0, Each_take P n xs all.1)
-
--- what is left of a row
-pub Each_drop : {X : Type 0} (P : X → Type 0) (n : ℕ) (xs : List X) → Each P xs → Each P (drop n xs)
-Each_drop P zero xs all = all
-Each_drop P (suc n) [] all = tt
-Each_drop P (suc n) (x ∷ xs) all = Each_drop P n xs all.1
-
--- one item again and again
-pub Each_replicate : {X : Type 0} (P : X → Type 0) (n : ℕ) (x : X) → P x → Each P (replicate n x)
-Each_replicate P zero x p = tt
-Each_replicate P (suc n) x p = (p, Each_replicate P n x p)
+use Rattle.ir_sound.proofs.AnswerLaws.{if_gives, then_gives}
+use Rattle.ir_sound.proofs.RowLaws.{Each_at, Each_both, Each_drop, Each_more, Each_replicate, Each_set, Each_take, length_set}
+use Rattle.ir_sound.proofs.SameLaws.{not_true}
 
 -- bytes of a number
 bytes_are : (x : Present) (k n : ℕ) → Each (IsCell x) (map Byte (le_bytes k n))
@@ -90,7 +70,7 @@ readable_gives x m all count (Fun f) = tt
 -- the tests of a store
 pub writable_gives : (x : Present) (m : Memory) → Each (IsObject x) m → (count : ℕ) (p : Value) → Properly (IsRange x count) (writable_range m count p)
 writable_gives x m all count p =
-    after_gives (IsRange x count) (IsRange x count) (readable_range m count p) unless_constant (readable_gives x m all count p)
+    then_gives (IsRange x count) (IsRange x count) (readable_range m count p) unless_constant (readable_gives x m all count p)
     (λ r q. if_gives (IsRange x count) r.held.constant (Err (Left Constant)) (Ok r) tt q)
 
 -- a number that was read
@@ -114,7 +94,7 @@ read_gives x Pointer cs fits all = pointer_gives x cs all
 -- a load gives a value of its kind
 pub load_gives : (x : Present) (m : Memory) → Each (IsObject x) m → (kind : Kind) (p : Value) → is_value kind ≡ true → Properly (IsOfKind x kind) (load_at m kind p)
 load_gives x m all kind p fits =
-    after_gives (IsRange x (kind_size kind)) (IsOfKind x kind) (readable_range m (kind_size kind) p) (λ r. if any_unset (cells_at r (kind_size kind)) then Err (Left WasUnset) else value_read kind (cells_at r (kind_size kind)))
+    then_gives (IsRange x (kind_size kind)) (IsOfKind x kind) (readable_range m (kind_size kind) p) (λ r. if any_unset (cells_at r (kind_size kind)) then Err (Left WasUnset) else value_read kind (cells_at r (kind_size kind)))
     (readable_gives x m all (kind_size kind) p)
     (λ r q. if_gives (IsOfKind x kind) (any_unset (cells_at r (kind_size kind))) (Err (Left WasUnset)) (value_read kind (cells_at r (kind_size kind))) tt
     (read_gives x kind (cells_at r (kind_size kind)) fits (Each_take (IsCell x) (kind_size kind) (drop r.offset r.held.cells) (Each_drop (IsCell x) r.offset r.held.cells q.object.cells))))
@@ -123,12 +103,6 @@ load_gives x m all kind p fits =
 pub record IsMemory (x : Present) (count : ℕ) (m : Memory) : Type 0 where
   pub cells : Each (IsObject x) m
   pub many : length m ≡ count
-
--- as many items with another one at a place
-pub length_set : {X : Type 0} (xs : List X) (i : ℕ) (y : X) → length (slice_set xs i y) ≡ length xs
-length_set [] i y = refl
-length_set (x ∷ xs) zero y = refl
-length_set (x ∷ xs) (suc i) y = ap (λ n. suc n) (length_set xs i y)
 
 -- a row with a part of it changed is as long
 middle : {X : Type 0} (xs ys : List X) (at : ℕ) → at + length ys ≤ length xs → length (take at xs ++ ys ++ drop (at + length ys) xs) ≡ length xs
@@ -140,24 +114,24 @@ middle xs ys at inside =
     omega arith
 
 -- memory that was written
-written_is : (x : Present) (m : Memory) (r : Range) (many : ℕ) (cells : List Cell) → Each (IsObject x) m → IsRange x many r → (x.sized ≡ true → length cells ≡ many) → Each (IsCell x) cells → IsMemory x (length m) (written m r cells)
+written_is : (x : Present) (m : Memory) (r : Range) (many : ℕ) (cells : List Cell) → Each (IsObject x) m → IsRange x many r → length cells ≡ many → Each (IsCell x) cells → IsMemory x (length m) (written m r cells)
 written_is x m r many cells all held so new =
     let changed : List Cell = take r.offset r.held.cells ++ cells ++ drop (r.offset + length cells) r.held.cells in
     let object : IsObject x (record r.held { cells = changed }) = record {
-      count = λ t.
-          let size : length r.held.cells ≡ r.held.size = held.object.count t ∙ ap (λ b. if b then r.held.size else 0) held.live in
+      count =
+          let size : length r.held.cells ≡ r.held.size = held.object.count ∙ ap (λ b. if b then r.held.size else 0) held.live in
           let inside = held.inside in
-          let long = so t in
-          middle r.held.cells cells r.offset (omega arith) ∙ held.object.count t;
+          let long = so in
+          middle r.held.cells cells r.offset (omega arith) ∙ held.object.count;
       cells = Each_both (IsCell x) (take r.offset r.held.cells ++ cells) (drop (r.offset + length cells) r.held.cells)
           (Each_both (IsCell x) (take r.offset r.held.cells) cells (Each_take (IsCell x) r.offset r.held.cells held.object.cells) new) (Each_drop (IsCell x) (r.offset + length cells) r.held.cells held.object.cells);
     } in
     record { cells = Each_set (IsObject x) m r.object (record r.held { cells = changed }) all object; many = length_set m r.object (record r.held { cells = changed }) }
 
 -- as many cells as a range has
-cells_length : (x : Present) (many : ℕ) (r : Range) → IsRange x many r → x.sized ≡ true → length (cells_at r many) ≡ many
-cells_length x many r is t =
-    let size : length r.held.cells ≡ r.held.size = is.object.count t ∙ ap (λ b. if b then r.held.size else 0) is.live in
+cells_length : (x : Present) (many : ℕ) (r : Range) → IsRange x many r → length (cells_at r many) ≡ many
+cells_length x many r is =
+    let size : length r.held.cells ≡ r.held.size = is.object.count ∙ ap (λ b. if b then r.held.size else 0) is.live in
     let inside = is.inside in
     let left = length-drop r.offset r.held.cells in
     length-take-le many (drop r.offset r.held.cells) (omega arith)
@@ -165,30 +139,30 @@ cells_length x many r is t =
 -- a store keeps memory so
 pub store_gives : (x : Present) (m : Memory) → Each (IsObject x) m → (kind : Kind) (v p : Value) → IsOfKind x kind v → Properly (IsMemory x (length m)) (store_at m v p)
 store_gives x m all kind v p is =
-    after_gives (IsRange x (length (cells_of v))) (IsMemory x (length m)) (writable_range m (length (cells_of v)) p) (λ r. Ok (written m r (cells_of v))) (writable_gives x m all (length (cells_of v)) p)
-    (λ r q. written_is x m r (length (cells_of v)) (cells_of v) all q (λ t. refl) (cells_are x kind v is))
+    then_gives (IsRange x (length (cells_of v))) (IsMemory x (length m)) (writable_range m (length (cells_of v)) p) (λ r. Ok (written m r (cells_of v))) (writable_gives x m all (length (cells_of v)) p)
+    (λ r q. written_is x m r (length (cells_of v)) (cells_of v) all q refl (cells_are x kind v is))
 
 -- so does a fill with a byte
 pub filled_gives : (x : Present) (m : Memory) → Each (IsObject x) m → (p : Value) (byte count : ℕ) → byte < 256 → Properly (IsMemory x (length m)) (filled m p byte count)
 filled_gives x m all p byte count small =
     if_gives (IsMemory x (length m)) (nat_eq count 0) (Ok m) (and_then (writable_range m count p) (λ r. Ok (written m r (replicate count (Byte byte))))) (record { cells = all; many = refl })
-    (after_gives (IsRange x count) (IsMemory x (length m)) (writable_range m count p) (λ r. Ok (written m r (replicate count (Byte byte)))) (writable_gives x m all count p)
-    (λ r q. written_is x m r count (replicate count (Byte byte)) all q (λ t. length-replicate count (Byte byte)) (Each_replicate (IsCell x) count (Byte byte) small)))
+    (then_gives (IsRange x count) (IsMemory x (length m)) (writable_range m count p) (λ r. Ok (written m r (replicate count (Byte byte)))) (writable_gives x m all count p)
+    (λ r q. written_is x m r count (replicate count (Byte byte)) all q (length-replicate count (Byte byte)) (Each_replicate (IsCell x) count (Byte byte) small)))
 
 -- and a copy
 pub copied_gives : (x : Present) (m : Memory) → Each (IsObject x) m → (to from : Value) (count : ℕ) → Properly (IsMemory x (length m)) (copied m to from count)
 copied_gives x m all to from count =
     let store : Range → Range → Answer Memory = λ a b. if overlaps count a b then Err (Left Overlap) else Ok (written m b (cells_at a count)) in
     if_gives (IsMemory x (length m)) (nat_eq count 0) (Ok m) (and_then (readable_range m count from) (λ a. and_then (writable_range m count to) (λ b. store a b))) (record { cells = all; many = refl })
-    (after_gives (IsRange x count) (IsMemory x (length m)) (readable_range m count from) (λ a. and_then (writable_range m count to) (λ b. store a b)) (readable_gives x m all count from)
-    (λ a q. after_gives (IsRange x count) (IsMemory x (length m)) (writable_range m count to) (λ b. store a b) (writable_gives x m all count to)
+    (then_gives (IsRange x count) (IsMemory x (length m)) (readable_range m count from) (λ a. and_then (writable_range m count to) (λ b. store a b)) (readable_gives x m all count from)
+    (λ a q. then_gives (IsRange x count) (IsMemory x (length m)) (writable_range m count to) (λ b. store a b) (writable_gives x m all count to)
     (λ b r. if_gives (IsMemory x (length m)) (overlaps count a b) (Err (Left Overlap)) (Ok (written m b (cells_at a count))) tt
     (written_is x m b count (cells_at a count) all r (cells_length x count a q) (Each_take (IsCell x) count (drop a.offset a.held.cells) (Each_drop (IsCell x) a.offset a.held.cells q.object.cells))))))
 
 -- an object that dies
 dead_is : (x : Present) (m : Memory) (o : ℕ) (y : Option Object0) → Each (IsObject x) m → IsMemory x (length m) (dead_at m o y)
 dead_is x m o None all = record { cells = all; many = refl }
-dead_is x m o (Some y) all = record { cells = Each_set (IsObject x) m o (dead y) all (record { count = λ t. refl; cells = tt }); many = length_set m o (dead y) }
+dead_is x m o (Some y) all = record { cells = Each_set (IsObject x) m o (dead y) all (record { count = refl; cells = tt }); many = length_set m o (dead y) }
 
 -- memory once objects are dead
 pub without_is : (x : Present) (os : List ℕ) (m : Memory) → Each (IsObject x) m → IsMemory x (length m) (without m os)
@@ -202,7 +176,6 @@ without_is x (o ∷ os) m all =
 pub record Wider (x y : Present) : Type 0 where
   pub objects : x.objects ≤ y.objects
   pub functions : x.functions ≡ y.functions
-  pub sized : x.sized ≡ y.sized
 
 -- a value among more objects
 pub kind_wider : (x y : Present) → Wider x y → (kind : Kind) (v : Value) → IsOfKind x kind v → IsOfKind y kind v
@@ -224,4 +197,4 @@ cell_wider x y w (Piece v k) p = (kind_wider x y w Pointer v p.0, p.1)
 
 -- all objects
 pub objects_wider : (x y : Present) → Wider x y → (m : Memory) → Each (IsObject x) m → Each (IsObject y) m
-objects_wider x y w m all = Each_more (IsObject x) (IsObject y) m (λ o p. record { count = λ t. p.count (w.sized ∙ t); cells = Each_more (IsCell x) (IsCell y) o.cells (cell_wider x y w) p.cells }) all
+objects_wider x y w m all = Each_more (IsObject x) (IsObject y) m (λ o p. record { count = p.count; cells = Each_more (IsCell x) (IsCell y) o.cells (cell_wider x y w) p.cells }) all

@@ -25,10 +25,12 @@ use Rattle.ir_core.specs.State.{Local}
 use Rattle.ir_core.specs.Operands.{local_value, global_number, function_number, named_value, int_value, index_word, bytes_to, literal_indices, constant_place, value_of, values_of}
 use Rattle.ir_core.specs.Typing.{Env, is_value, is_index, has_kind, int_fits, literal_field, known_index, place_fits, operand_fits, arg_fits, kinds_of, leads_from}
 use Rattle.std.specs.List.{list_all}
-use Rattle.ir_sound.specs.WellTyped.{Each, Properly, Present, IsOfKind, IsLocal}
 use Rattle.ir_core.proofs.Fits.{literal_fits}
-use Rattle.ir_sound.proofs.Sound.{after_gives, gives_more, not_true, some_is, name_is, kind_is, has_kind_is, number_below}
+use Rattle.ir_sound.specs.WellTyped.{Each, Properly, Present, IsOfKind, IsLocal}
+use Rattle.ir_sound.proofs.AnswerLaws.{gives_more, then_gives}
 use Rattle.ir_sound.proofs.Leads.{Agree, Exists, leads_part}
+use Rattle.ir_sound.proofs.RowLaws.{number_below}
+use Rattle.ir_sound.proofs.SameLaws.{has_kind_is, kind_is, name_is, not_true, some_is}
 
 -- a local has a value of its kind, or none
 pub local_gives : (x : Present) (env : Env) (kind : Kind) (locals : List Local) (name : List ℕ) → env name ≡ Some kind → Each (IsLocal x env) locals → Properly (IsOfKind x kind) (local_value locals name)
@@ -123,10 +125,10 @@ literals_give (i ∷ is) fits =
     let parts = and_parts (is_index (kind_of i.ty) && int_fits (kind_of i.ty) i.value) (list_all (λ (j : Index0). is_index (kind_of j.ty) && int_fits (kind_of j.ty) j.value) is) fits in
     let index = (and_parts (is_index (kind_of i.ty)) (int_fits (kind_of i.ty) i.value) parts.0).0 in
     let A : List ℕ → Type 0 = Agree (map known_index (i ∷ is)) in
-    after_gives (λ v. Properly (AgreesOne (known_index i)) (index_word v)) A (int_value (kind_of i.ty) i.value) (λ v. and_then (index_word v) (λ n. and_then (literal_indices is) (λ ns. Ok (n ∷ ns))))
+    then_gives (λ v. Properly (AgreesOne (known_index i)) (index_word v)) A (int_value (kind_of i.ty) i.value) (λ v. and_then (index_word v) (λ n. and_then (literal_indices is) (λ ns. Ok (n ∷ ns))))
     (literal_gives (kind_of i.ty) i.value index)
-    (λ v p. after_gives (AgreesOne (known_index i)) A (index_word v) (λ n. and_then (literal_indices is) (λ ns. Ok (n ∷ ns))) p
-    (λ n q. after_gives (Agree (map known_index is)) A (literal_indices is) (λ ns. Ok (n ∷ ns)) (literals_give is parts.1)
+    (λ v p. then_gives (AgreesOne (known_index i)) A (index_word v) (λ n. and_then (literal_indices is) (λ ns. Ok (n ∷ ns))) p
+    (λ n q. then_gives (Agree (map known_index is)) A (literal_indices is) (λ ns. Ok (n ∷ ns)) (literals_give is parts.1)
     (λ ns r. agree_with (known_index i) (map known_index is) n ns q r)))
 
 -- something that is there is found
@@ -161,10 +163,10 @@ place_gives m x c p fits =
     let parts = and_parts (is_some (global_number m p.base)) (indices && leads_from m.types p.source (map known_index p.indices)) fits in
     let both = and_parts indices (leads_from m.types p.source (map known_index p.indices)) parts.1 in
     let K : Value → Type 0 = IsOfKind x Pointer in
-    after_gives (λ g. g < x.objects) K (found_or Malformed (global_number m p.base)) (λ g. and_then (literal_indices p.indices) (λ is. and_then (bytes_to m p.source is) (λ by. Ok (At g (by % 2 ^ 64)))))
+    then_gives (λ g. g < x.objects) K (found_or Malformed (global_number m p.base)) (λ g. and_then (literal_indices p.indices) (λ is. and_then (bytes_to m p.source is) (λ by. Ok (At g (by % 2 ^ 64)))))
     (present_gives (λ g. g < x.objects) (global_number m p.base) parts.0 (global_below m x c p.base))
-    (λ g q. after_gives (Agree (map known_index p.indices)) K (literal_indices p.indices) (λ is. and_then (bytes_to m p.source is) (λ by. Ok (At g (by % 2 ^ 64)))) (literals_give p.indices both.0)
-    (λ is r. after_gives Anything K (bytes_to m p.source is) (λ by. Ok (At g (by % 2 ^ 64))) (bytes_give m p.source (map known_index p.indices) is r both.1)
+    (λ g q. then_gives (Agree (map known_index p.indices)) K (literal_indices p.indices) (λ is. and_then (bytes_to m p.source is) (λ by. Ok (At g (by % 2 ^ 64)))) (literals_give p.indices both.0)
+    (λ is r. then_gives Anything K (bytes_to m p.source is) (λ by. Ok (At g (by % 2 ^ 64))) (bytes_give m p.source (map known_index p.indices) is r both.1)
     (λ by t. (q, mod-lt by (let l : 0 < 2 ^ 64 = omega arith in l)))))
 
 -- an operand that fits has a value of the kind, unless it is a local without one
@@ -196,8 +198,8 @@ pub values_give : (m : Module) (locals : List Local) (R : Arg → Value → Type
 values_give m locals R test one [] fits = tt
 values_give m locals R test one (a ∷ args) fits =
     let parts = and_parts (test a) (list_all test args) fits in
-    after_gives (R a) (Beside R (a ∷ args)) (value_of m locals (kind_of a.ty) a.value) (λ v. and_then (values_of m locals args) (λ vs. Ok (v ∷ vs))) (one a parts.0)
-    (λ v p. after_gives (Beside R args) (Beside R (a ∷ args)) (values_of m locals args) (λ vs. Ok (v ∷ vs)) (values_give m locals R test one args parts.1) (λ vs q. (p, q)))
+    then_gives (R a) (Beside R (a ∷ args)) (value_of m locals (kind_of a.ty) a.value) (λ v. and_then (values_of m locals args) (λ vs. Ok (v ∷ vs))) (one a parts.0)
+    (λ v p. then_gives (Beside R args) (Beside R (a ∷ args)) (values_of m locals args) (λ vs. Ok (v ∷ vs)) (values_give m locals R test one args parts.1) (λ vs q. (p, q)))
 
 -- values of kinds
 abbrev pub AreOfKinds : Present → List Kind → List Value → Type 0

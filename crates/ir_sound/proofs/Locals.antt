@@ -1,38 +1,17 @@
 -- Where no name of a function is defined twice, each local has the kind of its definition.
 use Rattle.std.proofs.Common.{◌≡◌, ℕ, Bool, true, false, List, [], ◌∷◌, ◌++◌, Option, Some, None, refl, ap, sym, ◌∙◌, subst}
 use Rattle.std.specs.Prelude.{◌||◌, option_map, if◌then◌else◌}
-use Rattle.std.proofs.lemmas.Bool.{and_from, eq-eqb}
+use Rattle.std.proofs.lemmas.Bool.{and_from}
 use Rattle.std.proofs.lemmas.List.{append_assoc}
 use Rattle.ir_core.specs.declared.kind.Kind.{Kind}
-use Rattle.ir_core.specs.declared.kind.Kind.TheVariants.{NoValue, Number, Pointer}
 use Rattle.ir_core.specs.declared.module.Function.{Function}
 use Rattle.ir_core.specs.Names.{same_name, first_where}
-use Rattle.ir_core.specs.Kinds.{same_kind}
 use Rattle.ir_core.specs.Definitions.{is_among, repeated, local_names}
 use Rattle.ir_core.specs.Typing.{Env, has_kind, into_fits}
 use Rattle.ir_core.specs.Valid.{LocalKind, result_local, locals_of, named_locals, kind_in, env_of, names_value}
 use Rattle.ir_core.proofs.Distinct.{fresh, named-append, locals_differ}
 use Rattle.ir_sound.specs.WellTyped.{Each}
-use Rattle.ir_sound.proofs.Sound.{not_true, name_is}
-
--- a name is the same as itself
-pub same_itself : (l : List ℕ) → same_name l l ≡ true
-same_itself [] = refl
-same_itself (n ∷ ns) = and_from _ _ (eq-eqb n n refl) (same_itself ns)
-
--- names that differ do so both ways
-pub differ_back : (a b : List ℕ) → same_name a b ≡ false → same_name b a ≡ false
-differ_back a b differ = by_test (same_name b a) refl
-  where
-    by_test : (c : Bool) → same_name b a ≡ c → same_name b a ≡ false
-    by_test false e = e
-    by_test true e = not_true (sym differ ∙ ap (same_name a) (name_is b a e) ∙ same_itself a)
-
--- a kind is the same as itself
-pub kind_itself : (k : Kind) → same_kind k k ≡ true
-kind_itself NoValue = refl
-kind_itself Pointer = refl
-kind_itself (Number w) = eq-eqb _ _ refl
+use Rattle.ir_sound.proofs.SameLaws.{differ_back, kind_itself, not_true, same_itself}
 
 -- a local has the kind of its definition
 abbrev pub Agreed : Env → LocalKind → Type 0

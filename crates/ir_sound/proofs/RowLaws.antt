@@ -1,87 +1,22 @@
--- Answers that have a property, names and kinds that are the same, and what lists hold.
-use Rattle.std.proofs.Common.{◌≡◌, ℕ, zero, suc, ◌<◌, Bool, true, false, List, [], ◌∷◌, ◌++◌, length, Option, Some, None, Ok, Err, refl, ap, sym, ◌∙◌, subst, arith}
-use Rattle.std.specs.Prelude.{◌||◌, nat_eq, slice_get, slice_set, option_map, if◌then◌else◌}
-use Rattle.std.proofs.lemmas.Bool.{and_parts, eqb-true}
-use Rattle.rd_num.specs.declared.width.Width.{Width}
-use Rattle.rd_num.specs.declared.width.Width.TheVariants.{W1, W8, W16, W32, W64}
-use Rattle.rd_num.specs.Number.{bits}
-use Rattle.ir_core.specs.Names.{same_name, number_where, first_where}
-use Rattle.ir_core.specs.Stops.{Stop, Answer, and_then, found_or}
-use Rattle.ir_core.specs.declared.kind.Kind.{Kind}
-use Rattle.ir_core.specs.declared.kind.Kind.TheVariants.{NoValue, Number, Pointer}
-use Rattle.ir_core.specs.Kinds.{same_kind}
-use Rattle.ir_core.specs.Calls.{same_kinds}
-use Rattle.std.specs.List.{list_all, list_any}
-use Rattle.ir_core.specs.Typing.{has_kind}
-use Rattle.ir_sound.specs.WellTyped.{Each, IsProper, Properly}
-
--- a step of two parts
-pub after_gives : {A B : Type 0} (P : A → Type 0) (Q : B → Type 0) (a : Answer A) (rest : A → Answer B) → Properly P a → ((x : A) → P x → Properly Q (rest x)) → Properly Q (and_then a rest)
-after_gives P Q (Ok x) rest p go = go x p
-after_gives P Q (Err e) rest p go = p
-
--- a property that follows
-pub gives_more : {A : Type 0} (P Q : A → Type 0) (a : Answer A) → Properly P a → ((x : A) → P x → Q x) → Properly Q a
-gives_more P Q (Ok x) p go = go x p
-gives_more P Q (Err e) p go = p
-
--- what is there, or a proper stop
-pub found_gives : {A : Type 0} (P : A → Type 0) (stop : Stop) (o : Option A) → IsProper stop → ((x : A) → o ≡ Some x → P x) → Properly P (found_or stop o)
-found_gives P stop (Some x) proper has = has x refl
-found_gives P stop None proper has = proper
-
--- false isn't true
-pub not_true : {X : Type 0} → false ≡ true → X
-not_true e = absurd (cc)
-
--- an option holds one thing
-pub some_is : {A : Type 0} (x y : A) → let o : Option A = Some x in o ≡ Some y → x ≡ y
-some_is x y e = cc
-
--- an option that holds something isn't empty
-pub none_is : {A : Type 0} {X : Type 0} (y : A) → let o : Option A = None in o ≡ Some y → X
-none_is y e = absurd (cc)
-
--- names that are the same
-pub name_is : (a b : List ℕ) → same_name a b ≡ true → a ≡ b
-name_is [] [] e = refl
-name_is (x ∷ xs) (y ∷ ys) e = let p = and_parts (nat_eq x y) (same_name xs ys) e in let q = eqb-true x y p.0 in let r = name_is xs ys p.1 in cc
-name_is [] (y ∷ ys) e = not_true e
-name_is (x ∷ xs) [] e = not_true e
-
--- widths that are the same
-pub width_is : (v w : Width) → nat_eq (bits v) (bits w) ≡ true → v ≡ w
-width_is W1 W1 e = refl
-width_is W8 W8 e = refl
-width_is W16 W16 e = refl
-width_is W32 W32 e = refl
-width_is W64 W64 e = refl
-width_is v w e = not_true e
-
--- kinds that are the same
-pub kind_is : (j k : Kind) → same_kind j k ≡ true → j ≡ k
-kind_is NoValue NoValue e = refl
-kind_is (Number v) (Number w) e = ap Number (width_is v w e)
-kind_is Pointer Pointer e = refl
-kind_is j k e = not_true e
-
--- rows of kinds that are the same
-pub kinds_are : (js ks : List Kind) → same_kinds js ks ≡ true → js ≡ ks
-kinds_are [] [] e = refl
-kinds_are (j ∷ js) (k ∷ ks) e = let p = and_parts (same_kind j k) (same_kinds js ks) e in let q = kind_is j k p.0 in let r = kinds_are js ks p.1 in cc
-kinds_are [] (k ∷ ks) e = not_true e
-kinds_are (j ∷ js) [] e = not_true e
-
--- a kind that is known
-pub has_kind_is : (o : Option Kind) (k : Kind) → has_kind o k ≡ true → o ≡ Some k
-has_kind_is (Some j) k e = ap Some (kind_is j k e)
-has_kind_is None k e = not_true e
+-- What holds of each item of a row, and finding items.
+use Rattle.std.proofs.Common.{◌≡◌, ℕ, suc, Bool, true, false, List, [], ◌∷◌, ◌++◌, map, take, Some, refl, ap, sym, ◌∙◌, zero, length, None, subst, arith, Option, ◌<◌, drop}
+use Rattle.std.specs.Prelude.{◌||◌, slice_get, if◌then◌else◌, replicate, slice_set, option_map}
+use Rattle.std.specs.List.{list_all, list_any, flat_map}
+use Rattle.std.proofs.lemmas.Bool.{and_parts, and_from}
+use Rattle.ir_core.specs.Names.{first_where, number_where}
+use Rattle.ir_sound.specs.WellTyped.{Each}
+use Rattle.ir_sound.proofs.SameLaws.{none_is, not_true, some_is}
 
 -- of all items that pass, the one at a place does
 pub all_at : {X : Type 0} (test : X → Bool) (xs : List X) (i : ℕ) (x : X) → list_all test xs ≡ true → slice_get xs i ≡ Some x → test x ≡ true
 all_at test [] i x all e = none_is x e
 all_at test (y ∷ ys) zero x all e = subst (λ z. test z ≡ true) (some_is y x e) (and_parts (test y) (list_all test ys) all).0
 all_at test (y ∷ ys) (suc i) x all e = all_at test ys i x (and_parts (test y) (list_all test ys) all).1 e
+
+-- what holds at each place holds of all
+pub all_from : {X : Type 0} (test : X → Bool) (xs : List X) → ((i : ℕ) (x : X) → slice_get xs i ≡ Some x → test x ≡ true) → list_all test xs ≡ true
+all_from test [] go = refl
+all_from test (x ∷ xs) go = and_from _ _ (go 0 x refl) (all_from test xs (λ i y at. go (suc i) y at))
 
 -- of all items with a property, the one at a place has it
 pub Each_at : {X : Type 0} (P : X → Type 0) (xs : List X) (i : ℕ) (x : X) → Each P xs → slice_get xs i ≡ Some x → P x
@@ -99,11 +34,64 @@ pub Each_both : {X : Type 0} (P : X → Type 0) (xs ys : List X) → Each P xs �
 Each_both P [] ys a b = b
 Each_both P (x ∷ xs) ys a b = (a.0, Each_both P xs ys a.1 b)
 
+-- a row in two parts
+pub Each_parts : {X : Type 0} (P : X → Type 0) (xs ys : List X) → Each P (xs ++ ys) → Each P xs × Each P ys
+Each_parts P [] ys all = (tt, all)
+Each_parts P (x ∷ xs) ys all = let r = Each_parts P xs ys all.1 in ((all.0, r.0), r.1)
+
+-- a row of rows
+pub Each_rows : {X Y : Type 0} (P : X → Type 0) (row : Y → List X) (ys : List Y) → Each P (flat_map row ys) → Each (λ y. Each P (row y)) ys
+Each_rows P row [] all = tt
+Each_rows P row (y ∷ ys) all = let p = Each_parts P (row y) (flat_map row ys) all in (p.0, Each_rows P row ys p.1)
+
+-- of what is changed, all have a property
+pub each_mapped : {A B : Type 0} (P : B → Type 0) (f : A → B) (xs : List A) → Each P (map f xs) → Each (λ x. P (f x)) xs
+each_mapped P f [] all = tt
+each_mapped P f (x ∷ xs) all = (all.0, each_mapped P f xs all.1)
+
+-- what holds of each item by a test
+pub Each_from : {X : Type 0} (test : X → Bool) (xs : List X) → list_all test xs ≡ true → Each (λ y. test y ≡ true) xs
+Each_from test [] e = tt
+Each_from test (x ∷ xs) e = let p = and_parts (test x) (list_all test xs) e in (p.0, Each_from test xs p.1)
+
+-- two properties of each
+pub Each_and : {X : Type 0} (P Q : X → Type 0) (xs : List X) → Each P xs → Each Q xs → Each (λ y. P y × Q y) xs
+Each_and P Q [] p q = tt
+Each_and P Q (x ∷ xs) p q = ((p.0, q.0), Each_and P Q xs p.1 q.1)
+
 -- a row with another item at a place
 pub Each_set : {X : Type 0} (P : X → Type 0) (xs : List X) (i : ℕ) (x : X) → Each P xs → P x → Each P (slice_set xs i x)
 Each_set P [] i x all p = tt
 Each_set P (y ∷ ys) zero x all p = (p, all.1)
 Each_set P (y ∷ ys) (suc i) x all p = (all.0, Each_set P ys i x all.1 p)
+
+-- a front of a row
+pub Each_take : {X : Type 0} (P : X → Type 0) (n : ℕ) (xs : List X) → Each P xs → Each P (take n xs)
+Each_take P zero xs all = tt
+Each_take P (suc n) [] all = tt
+Each_take P (suc n) (x ∷ xs) all = (all.0, Each_take P n xs all.1)
+
+-- what is left of a row
+pub Each_drop : {X : Type 0} (P : X → Type 0) (n : ℕ) (xs : List X) → Each P xs → Each P (drop n xs)
+Each_drop P zero xs all = all
+Each_drop P (suc n) [] all = tt
+Each_drop P (suc n) (x ∷ xs) all = Each_drop P n xs all.1
+
+-- one item again and again
+pub Each_replicate : {X : Type 0} (P : X → Type 0) (n : ℕ) (x : X) → P x → Each P (replicate n x)
+Each_replicate P zero x p = tt
+Each_replicate P (suc n) x p = (p, Each_replicate P n x p)
+
+-- as many items with another one at a place
+pub length_set : {X : Type 0} (xs : List X) (i : ℕ) (y : X) → length (slice_set xs i y) ≡ length xs
+length_set [] i y = refl
+length_set (x ∷ xs) zero y = refl
+length_set (x ∷ xs) (suc i) y = ap (λ n. suc n) (length_set xs i y)
+
+-- as many items
+pub length_map : {A B : Type 0} (f : A → B) (xs : List A) → length (map f xs) ≡ length xs
+length_map f [] = refl
+length_map f (x ∷ xs) = ap (λ n. suc n) (length_map f xs)
 
 -- the number of an item is one of the list's
 pub number_below : {X : Type 0} (test : X → Bool) (xs : List X) (n : ℕ) → number_where test xs ≡ Some n → n < length xs
@@ -161,6 +149,15 @@ first_passes test (y ∷ ys) x e = by_test (test y) (first_passes test ys x) e
     by_test true go f = refl
     by_test false go f = go f
 
+-- of items with a property, the first that is found has it
+pub first_has : {X : Type 0} (P : X → Type 0) (found : X → Bool) (xs : List X) (x : X) → Each P xs → first_where found xs ≡ Some x → P x
+first_has P found [] x all e = none_is x e
+first_has P found (y ∷ ys) x all e = by_test (found y) e (first_has P found ys x all.1)
+  where
+    by_test : (b : Bool) → (if b then Some y else first_where found ys) ≡ Some x → (first_where found ys ≡ Some x → P x) → P x
+    by_test true f go = subst P (some_is y x f) all.0
+    by_test false f go = go f
+
 -- an item at a number below the length
 pub item_at : {X : Type 0} (xs : List X) (n : ℕ) → n < length xs → (x : X) × (slice_get xs n ≡ Some x)
 item_at [] n below = absurd (omega arith)
@@ -172,8 +169,3 @@ pub below_at : {X : Type 0} (xs : List X) (n : ℕ) (x : X) → slice_get xs n �
 below_at [] n x e = none_is x e
 below_at (y ∷ ys) zero x e = omega arith
 below_at (y ∷ ys) (suc n) x e = let h = below_at ys n x e in omega arith
-
--- if both, then both
-pub implied : (a b : Bool) → (if a then b else true) ≡ true → a ≡ true → b ≡ true
-implied true b e t = e
-implied false b e t = not_true t

@@ -22,24 +22,9 @@ use Rattle.ir_core.specs.Valid.{leads_to, predecessors, entries_fit, entries_agr
 use Rattle.ir_core.specs.Refusals.{inside, unless_among, unknown_in}
 use Rattle.ir_sound.specs.WellTyped.{Each}
 use Rattle.ir_sound.specs.Typed.{has_label, no_phi, phi_typed, phis_typed, labels_known}
-use Rattle.ir_sound.proofs.Sound.{not_true, name_is, all_at}
-use Rattle.ir_sound.proofs.NoFaults.{not_empty, each_empty, all_from}
-use Rattle.ir_sound.proofs.Agreement.{same_itself}
-
--- a row in two parts
-pub Each_parts : {X : Type 0} (P : X → Type 0) (xs ys : List X) → Each P (xs ++ ys) → Each P xs × Each P ys
-Each_parts P [] ys all = (tt, all)
-Each_parts P (x ∷ xs) ys all = let r = Each_parts P xs ys all.1 in ((all.0, r.0), r.1)
-
--- a row of rows
-pub Each_rows : {X Y : Type 0} (P : X → Type 0) (row : Y → List X) (ys : List Y) → Each P (flat_map row ys) → Each (λ y. Each P (row y)) ys
-Each_rows P row [] all = tt
-Each_rows P row (y ∷ ys) all = let p = Each_parts P (row y) (flat_map row ys) all in (p.0, Each_rows P row ys p.1)
-
--- a test that holds of each
-pub all_each : {X : Type 0} (test : X → Bool) (xs : List X) → Each (λ x. test x ≡ true) xs → list_all test xs ≡ true
-all_each test [] all = refl
-all_each test (x ∷ xs) all = and_from _ _ all.0 (all_each test xs all.1)
+use Rattle.ir_sound.proofs.NoFaults.{each_empty, not_empty}
+use Rattle.ir_sound.proofs.RowLaws.{Each_parts, Each_rows, all_at, all_from}
+use Rattle.ir_sound.proofs.SameLaws.{name_is, not_true, same_itself}
 
 -- a mention of what a function has
 abbrev IsKnown : Module → Function → Mention → Type 0

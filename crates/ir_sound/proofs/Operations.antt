@@ -32,13 +32,14 @@ use Rattle.ir_core.specs.Operands.{index_word, bytes_to, value_of, values_of, in
 use Rattle.ir_core.specs.Step.{binary_value, compared_value, cast_value, selected, result_of}
 use Rattle.ir_core.specs.Typing.{Env, is_value, is_number, is_index, operand_fits, known_operand, known_arg, bin_fits, cast_fits, op_fits, kind_given, leads_from}
 use Rattle.std.specs.List.{list_all}
-use Rattle.ir_sound.specs.WellTyped.{Each, Properly, Present, IsOfKind, IsObject, IsLocal}
-use Rattle.ir_core.proofs.Fits as fits
-use Rattle.ir_sound.proofs.Sound.{after_gives, gives_more, not_true, kind_is}
-use Rattle.ir_sound.proofs.Values.{Covers, truth_is, value_gives, Anything, AgreesOne, agree_with, literal_gives, bytes_give, Beside, values_give}
-use Rattle.ir_sound.proofs.Leads.{Agree}
 use Rattle.ir_core.specs.declared.operand.Operand.TheVariants.{Int}
-use Rattle.ir_sound.proofs.Kept.{if_gives, load_gives}
+use Rattle.ir_core.proofs.Fits as fits
+use Rattle.ir_sound.specs.WellTyped.{Each, Properly, Present, IsOfKind, IsObject, IsLocal}
+use Rattle.ir_sound.proofs.AnswerLaws.{gives_more, if_gives, then_gives}
+use Rattle.ir_sound.proofs.Leads.{Agree}
+use Rattle.ir_sound.proofs.Objects.{load_gives}
+use Rattle.ir_sound.proofs.Operands.{AgreesOne, Anything, Beside, Covers, agree_with, bytes_give, literal_gives, truth_is, value_gives, values_give}
+use Rattle.ir_sound.proofs.SameLaws.{kind_is, not_true}
 
 -- an answer of arithmetic is a number or the stop of a division
 divide_gives : (P : ℕ → Type 0) (wrong : Bool) (n : ℕ) → (or_divide wrong n ≡ Ok n → P n) → Properly P (or_divide wrong n)
@@ -66,7 +67,7 @@ binary_gives op w a b = refl
 -- two numbers by an operation
 bin_gives : (x : Present) (op : BinOp) (kind : Kind) (u v : Value) → is_number kind ≡ true → IsOfKind x kind u → IsOfKind x kind v → Properly (IsOfKind x kind) (binary_value op kind u v)
 bin_gives x op (Number w) (Num p a) (Num q b) number one two =
-    after_gives (λ n. binary op w a b ≡ Ok n) (IsOfKind x (Number w)) (binary op w a b) (λ n. Ok (Num w n)) (binary_gives op w a b)
+    then_gives (λ n. binary op w a b ≡ Ok n) (IsOfKind x (Number w)) (binary op w a b) (λ n. Ok (Num w n)) (binary_gives op w a b)
     (λ n e. (refl, fits.binary_fits op w a b n one.1 two.1 e))
 bin_gives x op (Number w) (Num p a) Null number one two = absurd two
 bin_gives x op (Number w) (Num p a) (At o d) number one two = absurd two
@@ -118,7 +119,7 @@ ordered_gives pred m u v = tt
 -- a comparison of them
 pointers_give : (x : Present) (pred : Pred) (m : Memory) (u v : Value) → IsOfKind x Pointer u → IsOfKind x Pointer v → Properly {A = Bool} Anything (pointers_compared pred m u v)
 pointers_give x Eq m u v p q = equal_gives x m u v p q
-pointers_give x Ne m u v p q = after_gives Anything Anything (pointers_equal m u v) (λ same. Ok (not same)) (equal_gives x m u v p q) (λ b r. tt)
+pointers_give x Ne m u v p q = then_gives Anything Anything (pointers_equal m u v) (λ same. Ok (not same)) (equal_gives x m u v p q) (λ b r. tt)
 pointers_give x Ult m u v p q = ordered_gives Ult m u v
 pointers_give x Ule m u v p q = ordered_gives Ule m u v
 pointers_give x Ugt m u v p q = ordered_gives Ugt m u v
@@ -135,7 +136,7 @@ compare_gives x m pred (Number w) Null v value one two = absurd one
 compare_gives x m pred (Number w) (At o d) v value one two = absurd one
 compare_gives x m pred (Number w) (Fun f) v value one two = absurd one
 compare_gives x m pred NoValue u v value one two = not_true value
-compare_gives x m pred Pointer u v value one two = after_gives Anything (IsOfKind x (Number W1)) (pointers_compared pred m u v) (λ holds. Ok (truth holds)) (pointers_give x pred m u v one two) (λ b r. truth_is x b)
+compare_gives x m pred Pointer u v value one two = then_gives Anything (IsOfKind x (Number W1)) (pointers_compared pred m u v) (λ holds. Ok (truth holds)) (pointers_give x pred m u v one two) (λ b r. truth_is x b)
 
 -- a cast
 cast_gives : (x : Present) (op : CastOp) (from to : Kind) (v : Value) → cast_fits op from to ≡ true → IsOfKind x from v → Properly (IsOfKind x to) (cast_value op from to v)
@@ -205,8 +206,8 @@ words_give [] (v ∷ vs) p = absurd p
 words_give (a ∷ args) [] p = absurd p
 words_give (a ∷ args) (v ∷ vs) p =
     let A : List ℕ → Type 0 = Agree (map known_arg (a ∷ args)) in
-    after_gives (AgreesOne (known_arg a)) A (index_word v) (λ n. and_then (index_words vs) (λ ns. Ok (n ∷ ns))) p.0
-    (λ n q. after_gives (Agree (map known_arg args)) A (index_words vs) (λ ns. Ok (n ∷ ns)) (words_give args vs p.1) (λ ns r. agree_with (known_arg a) (map known_arg args) n ns q r))
+    then_gives (AgreesOne (known_arg a)) A (index_word v) (λ n. and_then (index_words vs) (λ ns. Ok (n ∷ ns))) p.0
+    (λ n q. then_gives (Agree (map known_arg args)) A (index_words vs) (λ ns. Ok (n ∷ ns)) (words_give args vs p.1) (λ ns r. agree_with (known_arg a) (map known_arg args) n ns q r))
 
 -- the place to which indices lead
 gep_gives : (m : Module) (x : Present) (env : Env) (locals : List Local) → Covers m x → Each (IsLocal x env) locals → (ty : Ty) (p : Operand) (indices : List Arg) → op_fits m env (Gep ty p indices) ≡ true → (objects : Memory) → Properly (IsOfKind x Pointer) (result_of m objects locals (Gep ty p indices))
@@ -215,11 +216,11 @@ gep_gives m x env locals c all ty p indices fits objects =
     let parts = and_parts (operand_fits m env Pointer p) (list_all test indices && leads_from m.types ty (map known_arg indices)) fits in
     let both = and_parts (list_all test indices) (leads_from m.types ty (map known_arg indices)) parts.1 in
     let K : Value → Type 0 = IsOfKind x Pointer in
-    after_gives K K (value_of m locals Pointer p) (λ v. and_then (values_of m locals indices) (λ is. and_then (index_words is) (λ ns. and_then (bytes_to m ty ns) (λ by. moved_pointer by v)))) (value_gives m x env locals c all Pointer p parts.0)
-    (λ v q. after_gives (Beside IsIndex indices) K (values_of m locals indices) (λ is. and_then (index_words is) (λ ns. and_then (bytes_to m ty ns) (λ by. moved_pointer by v)))
+    then_gives K K (value_of m locals Pointer p) (λ v. and_then (values_of m locals indices) (λ is. and_then (index_words is) (λ ns. and_then (bytes_to m ty ns) (λ by. moved_pointer by v)))) (value_gives m x env locals c all Pointer p parts.0)
+    (λ v q. then_gives (Beside IsIndex indices) K (values_of m locals indices) (λ is. and_then (index_words is) (λ ns. and_then (bytes_to m ty ns) (λ by. moved_pointer by v)))
     (values_give m locals IsIndex test (λ a fit. let two = and_parts (is_index (kind_of a.ty)) (operand_fits m env (kind_of a.ty) a.value) fit in index_gives m x env locals c all (kind_of a.ty) a.value two.0 two.1) indices both.0)
-    (λ is r. after_gives (Agree (map known_arg indices)) K (index_words is) (λ ns. and_then (bytes_to m ty ns) (λ by. moved_pointer by v)) (words_give indices is r)
-    (λ ns t. after_gives Anything K (bytes_to m ty ns) (λ by. moved_pointer by v) (bytes_give m ty (map known_arg indices) ns t both.1) (λ by w. moved_gives x by v q))))
+    (λ is r. then_gives (Agree (map known_arg indices)) K (index_words is) (λ ns. and_then (bytes_to m ty ns) (λ by. moved_pointer by v)) (words_give indices is r)
+    (λ ns t. then_gives Anything K (bytes_to m ty ns) (λ by. moved_pointer by v) (bytes_give m ty (map known_arg indices) ns t both.1) (λ by w. moved_gives x by v q))))
 
 -- an instruction that gives a value and changes nothing else
 abbrev pub is_plain : Op → Bool
@@ -238,20 +239,20 @@ result_gives m x env locals objects c all held (Bin op ty a b) plain fits =
     let parts = and_parts (bin_fits op (kind_of ty)) (operand_fits m env (kind_of ty) a && operand_fits m env (kind_of ty) b) fits in
     let both = and_parts _ _ parts.1 in
     let K : Value → Type 0 = IsOfKind x (kind_of ty) in
-    after_gives K K (value_of m locals (kind_of ty) a) (λ u. and_then (value_of m locals (kind_of ty) b) (λ v. binary_value op (kind_of ty) u v)) (value_gives m x env locals c all (kind_of ty) a both.0)
-    (λ u p. after_gives K K (value_of m locals (kind_of ty) b) (λ v. binary_value op (kind_of ty) u v) (value_gives m x env locals c all (kind_of ty) b both.1)
+    then_gives K K (value_of m locals (kind_of ty) a) (λ u. and_then (value_of m locals (kind_of ty) b) (λ v. binary_value op (kind_of ty) u v)) (value_gives m x env locals c all (kind_of ty) a both.0)
+    (λ u p. then_gives K K (value_of m locals (kind_of ty) b) (λ v. binary_value op (kind_of ty) u v) (value_gives m x env locals c all (kind_of ty) b both.1)
     (λ v q. bin_gives x op (kind_of ty) u v (bin_number op (kind_of ty) parts.0) p q))
 result_gives m x env locals objects c all held (Compare pred ty a b) plain fits =
     let parts = and_parts (is_value (kind_of ty)) (operand_fits m env (kind_of ty) a && operand_fits m env (kind_of ty) b) fits in
     let both = and_parts (operand_fits m env (kind_of ty) a) (operand_fits m env (kind_of ty) b) parts.1 in
     let K : Value → Type 0 = IsOfKind x (kind_of ty) in
     let R : Value → Type 0 = IsOfKind x (Number W1) in
-    after_gives K R (value_of m locals (kind_of ty) a) (λ u. and_then (value_of m locals (kind_of ty) b) (λ v. compared_value objects pred (kind_of ty) u v)) (value_gives m x env locals c all (kind_of ty) a both.0)
-    (λ u p. after_gives K R (value_of m locals (kind_of ty) b) (λ v. compared_value objects pred (kind_of ty) u v) (value_gives m x env locals c all (kind_of ty) b both.1)
+    then_gives K R (value_of m locals (kind_of ty) a) (λ u. and_then (value_of m locals (kind_of ty) b) (λ v. compared_value objects pred (kind_of ty) u v)) (value_gives m x env locals c all (kind_of ty) a both.0)
+    (λ u p. then_gives K R (value_of m locals (kind_of ty) b) (λ v. compared_value objects pred (kind_of ty) u v) (value_gives m x env locals c all (kind_of ty) b both.1)
     (λ v q. compare_gives x objects pred (kind_of ty) u v parts.0 p q))
 result_gives m x env locals objects c all held (Cast op from a to) plain fits =
     let parts = and_parts (cast_fits op (kind_of from) (kind_of to)) (operand_fits m env (kind_of from) a) fits in
-    after_gives (IsOfKind x (kind_of from)) (IsOfKind x (kind_of to)) (value_of m locals (kind_of from) a) (λ v. cast_value op (kind_of from) (kind_of to) v) (value_gives m x env locals c all (kind_of from) a parts.1)
+    then_gives (IsOfKind x (kind_of from)) (IsOfKind x (kind_of to)) (value_of m locals (kind_of from) a) (λ v. cast_value op (kind_of from) (kind_of to) v) (value_gives m x env locals c all (kind_of from) a parts.1)
     (λ v p. cast_gives x op (kind_of from) (kind_of to) v parts.0 p)
 result_gives m x env locals objects c all held (Select condition ty a ty2 b) plain fits =
     let parts = and_parts (operand_fits m env (Number W1) condition) ((is_value (kind_of ty) && same_kind (kind_of ty) (kind_of ty2)) && (operand_fits m env (kind_of ty) a && operand_fits m env (kind_of ty2) b)) fits in
@@ -259,16 +260,16 @@ result_gives m x env locals objects c all held (Select condition ty a ty2 b) pla
     let both = and_parts (operand_fits m env (kind_of ty) a) (operand_fits m env (kind_of ty2) b) more.1 in
     let same = kind_is (kind_of ty) (kind_of ty2) (and_parts (is_value (kind_of ty)) (same_kind (kind_of ty) (kind_of ty2)) more.0).1 in
     let K : Value → Type 0 = IsOfKind x (kind_of ty) in
-    after_gives (IsOfKind x (Number W1)) K (value_of m locals (Number W1) condition) (λ w. and_then (value_of m locals (kind_of ty) a) (λ u. and_then (value_of m locals (kind_of ty2) b) (λ v. selected w u v)))
+    then_gives (IsOfKind x (Number W1)) K (value_of m locals (Number W1) condition) (λ w. and_then (value_of m locals (kind_of ty) a) (λ u. and_then (value_of m locals (kind_of ty2) b) (λ v. selected w u v)))
     (value_gives m x env locals c all (Number W1) condition parts.0)
-    (λ w o. after_gives K K (value_of m locals (kind_of ty) a) (λ u. and_then (value_of m locals (kind_of ty2) b) (λ v. selected w u v)) (value_gives m x env locals c all (kind_of ty) a both.0)
-    (λ u p. after_gives (IsOfKind x (kind_of ty2)) K (value_of m locals (kind_of ty2) b) (λ v. selected w u v) (value_gives m x env locals c all (kind_of ty2) b both.1)
+    (λ w o. then_gives K K (value_of m locals (kind_of ty) a) (λ u. and_then (value_of m locals (kind_of ty2) b) (λ v. selected w u v)) (value_gives m x env locals c all (kind_of ty) a both.0)
+    (λ u p. then_gives (IsOfKind x (kind_of ty2)) K (value_of m locals (kind_of ty2) b) (λ v. selected w u v) (value_gives m x env locals c all (kind_of ty2) b both.1)
     (λ v q. select_gives x (kind_of ty) w u v o p (subst (λ k. IsOfKind x k v) (sym same) q))))
 result_gives m x env locals objects c all held (Freeze ty a) plain fits =
     value_gives m x env locals c all (kind_of ty) a (and_parts (is_value (kind_of ty)) (operand_fits m env (kind_of ty) a) fits).1
 result_gives m x env locals objects c all held (Load ty p) plain fits =
     let parts = and_parts (is_value (kind_of ty)) (operand_fits m env Pointer p) fits in
-    after_gives (IsOfKind x Pointer) (IsOfKind x (kind_of ty)) (value_of m locals Pointer p) (λ v. load_at objects (kind_of ty) v) (value_gives m x env locals c all Pointer p parts.1)
+    then_gives (IsOfKind x Pointer) (IsOfKind x (kind_of ty)) (value_of m locals Pointer p) (λ v. load_at objects (kind_of ty) v) (value_gives m x env locals c all Pointer p parts.1)
     (λ v q. load_gives x objects held (kind_of ty) v parts.0)
 result_gives m x env locals objects c all held (Gep ty p indices) plain fits = gep_gives m x env locals c all ty p indices fits objects
 result_gives m x env locals objects c all held op plain fits = not_true plain

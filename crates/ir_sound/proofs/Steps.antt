@@ -4,7 +4,6 @@ use Rattle.std.specs.Prelude.{◌&&◌, slice_get}
 use Rattle.std.proofs.lemmas.Bool.{and_parts}
 use Rattle.rd_num.specs.declared.width.Width.TheVariants.{W1}
 use Rattle.behavior.specs.Ending.{Ending, Going, if_going}
-use Rattle.behavior.specs.Ending as ending
 use Rattle.behavior.specs.Moment.{AreBytes}
 use Rattle.behavior.specs.System.{iter}
 use Rattle.ir_core.specs.declared.instruction.Op.{Op}
@@ -29,20 +28,23 @@ use Rattle.ir_core.specs.Step.{past, gives, stores, result_of, instruction_turn,
 use Rattle.std.specs.List.{list_all, list_any}
 use Rattle.ir_core.specs.Typing.{is_value, is_number, operand_fits, arg_fits, kinds_of, op_fits, kind_given, into_fits, inst_fits, callee_fits, is_result, returns_nothing, case_fits, labels_of, term_fits}
 use Rattle.ir_core.specs.Valid.{env_of, is_phi, predecessors}
+use Rattle.ir_core.proofs.Steps.{turn_here}
+use Rattle.ir_core.specs.Refusals.{IsValid}
+use Rattle.ir_core.specs.Run.{source_start, source_run}
+use Rattle.behavior.specs.Ending as ending
 use Rattle.ir_sound.specs.Typed.{has_label, phis_typed, labels_known, block_typed, entry_typed, param_typed, function_typed, IsTyped}
 use Rattle.ir_sound.specs.WellTyped.{Each, IsProper, Properly, IsOfKind, present, AreOver, IsTypedTurn, IsProperEnding, IsWellTyped}
-use Rattle.ir_core.proofs.Steps.{turn_here}
-use Rattle.ir_sound.proofs.Sound.{after_gives, not_true, some_is, none_is, kind_is, all_at, below_at}
-use Rattle.ir_sound.proofs.Values.{Covers, AreOfKinds, value_gives, args_give}
-use Rattle.ir_sound.proofs.Kept.{store_gives}
-use Rattle.ir_sound.proofs.Ops.{result_gives}
-use Rattle.ir_sound.proofs.Turns.{further, fits_awaits, Here, gives_turn, stores_turn, alloca_turn}
-use Rattle.ir_sound.proofs.Entered.{returned_gives, Calling, IsTarget, target_gives, called_gives}
-use Rattle.ir_core.specs.Refusals.{IsValid}
-use Rattle.ir_sound.proofs.Derived.{valid_typed}
-use Rattle.ir_core.specs.Run.{source_start, source_run}
+use Rattle.ir_sound.proofs.AnswerLaws.{then_gives}
+use Rattle.ir_sound.proofs.Calls.{Calling, IsTarget, called_gives, returned_gives, target_gives}
+use Rattle.ir_sound.proofs.Edges.{goes_gives, leads_each, one_of_two, past_is_none, switched_gives}
+use Rattle.ir_sound.proofs.Frames.{Here, alloca_turn, fits_awaits, further, gives_turn, stores_turn}
+use Rattle.ir_sound.proofs.Objects.{store_gives}
+use Rattle.ir_sound.proofs.Operands.{AreOfKinds, Covers, args_give, value_gives}
+use Rattle.ir_sound.proofs.Operations.{result_gives}
+use Rattle.ir_sound.proofs.RowLaws.{Each_and, Each_from, all_at, below_at}
+use Rattle.ir_sound.proofs.SameLaws.{kind_is, none_is, not_true, some_is}
 use Rattle.ir_sound.proofs.Start.{start_is}
-use Rattle.ir_sound.proofs.Edges.{goes_gives, one_of_two, switched_gives, leads_each, Each_from, Each_and, past_is_none}
+use Rattle.ir_sound.proofs.ValidTyped.{valid_typed}
 
 -- the bytes of an input, by their places
 pub byte_at : (input : List ℕ) → AreBytes input → (k b : ℕ) → slice_get input k ≡ Some b → b < 256
@@ -58,9 +60,9 @@ instruction_gives m input s f callers bytes functions h cov below into (Store ty
     let env = env_of h.stands.fn in
     let parts = and_parts (is_value (kind_of ty)) (operand_fits m env (kind_of ty) a && operand_fits m env Pointer p) fits in
     let both = and_parts (operand_fits m env (kind_of ty) a) (operand_fits m env Pointer p) parts.1 in
-    after_gives (IsOfKind x (kind_of ty)) (IsTypedTurn m) (value_of m f.locals (kind_of ty) a) (λ u. and_then (value_of m f.locals Pointer p) (λ v. stores s f callers (store_at s.objects u v)))
+    then_gives (IsOfKind x (kind_of ty)) (IsTypedTurn m) (value_of m f.locals (kind_of ty) a) (λ u. and_then (value_of m f.locals Pointer p) (λ v. stores s f callers (store_at s.objects u v)))
     (value_gives m x env f.locals cov h.stands.locals (kind_of ty) a both.0)
-    (λ u q. after_gives (IsOfKind x Pointer) (IsTypedTurn m) (value_of m f.locals Pointer p) (λ v. stores s f callers (store_at s.objects u v)) (value_gives m x env f.locals cov h.stands.locals Pointer p both.1)
+    (λ u q. then_gives (IsOfKind x Pointer) (IsTypedTurn m) (value_of m f.locals Pointer p) (λ v. stores s f callers (store_at s.objects u v)) (value_gives m x env f.locals cov h.stands.locals Pointer p both.1)
     (λ v r. stores_turn m s f callers h (store_at s.objects u v) below (store_gives x s.objects h.cells (kind_of ty) u v q)))
 instruction_gives m input s f callers bytes functions h cov below into (Call ret callee arguments) phi fits in' =
     let x = present m s.objects in
@@ -69,15 +71,15 @@ instruction_gives m input s f callers bytes functions h cov below into (Call ret
     let parts = and_parts (is_result ret) (callee_fits m env (kind_of ret) kinds callee && list_all (arg_fits m env) arguments) fits in
     let both = and_parts (callee_fits m env (kind_of ret) kinds callee) (list_all (arg_fits m env) arguments) parts.1 in
     let calling : Calling m s (kind_of ret) into (past f) callers = record { waiting = (further h.stands f.locals below h.stands.locals, fits_awaits env into (kind_of ret) in', h.waiting); cells = h.cells; globals = h.globals } in
-    after_gives (IsTarget x (kind_of ret) kinds) (IsTypedTurn m) (target_of m f.locals callee) (λ t. and_then (values_of m f.locals arguments) (λ vs. call_turn m input s (past f ∷ callers) (kind_of ret) kinds vs into t))
+    then_gives (IsTarget x (kind_of ret) kinds) (IsTypedTurn m) (target_of m f.locals callee) (λ t. and_then (values_of m f.locals arguments) (λ vs. call_turn m input s (past f ∷ callers) (kind_of ret) kinds vs into t))
     (target_gives m x env f.locals cov h.stands.locals (kind_of ret) kinds callee both.0)
-    (λ t q. after_gives (AreOfKinds x kinds) (IsTypedTurn m) (values_of m f.locals arguments) (λ vs. call_turn m input s (past f ∷ callers) (kind_of ret) kinds vs into t) (args_give m x env f.locals cov h.stands.locals arguments both.1)
+    (λ t q. then_gives (AreOfKinds x kinds) (IsTypedTurn m) (values_of m f.locals arguments) (λ vs. call_turn m input s (past f ∷ callers) (kind_of ret) kinds vs into t) (args_give m x env f.locals cov h.stands.locals arguments both.1)
     (λ vs r. called_gives m input s (kind_of ret) kinds into (past f) callers vs bytes functions calling r t q))
 instruction_gives m input s f callers bytes functions h cov below into (Phi ty entries) phi fits in' = not_true (sym phi)
 instruction_gives m input s f callers bytes functions h cov below into op phi fits in' =
     let x = present m s.objects in
     let env = env_of h.stands.fn in
-    after_gives (IsOfKind x (kind_given op)) (IsTypedTurn m) (result_of m s.objects f.locals op) (λ v. gives s f callers into v)
+    then_gives (IsOfKind x (kind_given op)) (IsTypedTurn m) (result_of m s.objects f.locals op) (λ v. gives s f callers into v)
     (result_gives m x env f.locals s.objects cov h.stands.locals h.cells op refl fits)
     (λ v p. gives_turn m s f callers h into (kind_given op) v below in' p)
 
@@ -95,7 +97,7 @@ terminator_gives m s f callers h cov (RetValue ty a) fits all =
     let ret = kind_of h.stands.fn.ret in
     let parts = and_parts (is_value ret) (same_kind (kind_of ty) ret && operand_fits m env ret a) fits in
     let both = and_parts (same_kind (kind_of ty) ret) (operand_fits m env ret a) parts.1 in
-    after_gives (IsOfKind x ret) (IsTypedTurn m) (value_of m f.locals (kind_of ty) a) (λ v. return_turn s f callers (Some v))
+    then_gives (IsOfKind x ret) (IsTypedTurn m) (value_of m f.locals (kind_of ty) a) (λ v. return_turn s f callers (Some v))
     (subst (λ k. Properly (IsOfKind x ret) (value_of m f.locals k a)) (sym (kind_is (kind_of ty) ret both.0)) (value_gives m x env f.locals cov h.stands.locals ret a both.1))
     (λ v p. returned_gives m s f callers ret (Some v) (λ u e. subst (IsOfKind x ret) (some_is v u e) p) (λ e. none_is v (sym e)) h.waiting h.cells h.globals)
 terminator_gives m s f callers h cov (Br to) fits all = all.0
@@ -103,9 +105,9 @@ terminator_gives m s f callers h cov (BrIf condition taken other) fits all =
     let x = present m s.objects in
     let env = env_of h.stands.fn in
     let P : List ℕ → Type 0 = λ to. Properly (IsTypedTurn m) (goes_to m s f callers h.stands.fn h.stands.block.label to) in
-    after_gives (IsOfKind x (Number W1)) (IsTypedTurn m) (value_of m f.locals (Number W1) condition) (λ c. and_then (if_true c taken other) (λ to. goes_to m s f callers h.stands.fn h.stands.block.label to))
+    then_gives (IsOfKind x (Number W1)) (IsTypedTurn m) (value_of m f.locals (Number W1) condition) (λ c. and_then (if_true c taken other) (λ to. goes_to m s f callers h.stands.fn h.stands.block.label to))
     (value_gives m x env f.locals cov h.stands.locals (Number W1) condition fits)
-    (λ c p. after_gives (λ to. (to ≡ taken) ⊎ (to ≡ other)) (IsTypedTurn m) (if_true c taken other) (λ to. goes_to m s f callers h.stands.fn h.stands.block.label to) (one_of_two x c taken other p)
+    (λ c p. then_gives (λ to. (to ≡ taken) ⊎ (to ≡ other)) (IsTypedTurn m) (if_true c taken other) (λ to. goes_to m s f callers h.stands.fn h.stands.block.label to) (one_of_two x c taken other p)
     (λ to q. ⊎_elim (λ e. subst P (sym e) all.0) (λ e. subst P (sym e) all.1.0) q))
 terminator_gives m s f callers h cov (Switch ty a default cases) fits all =
     let x = present m s.objects in
@@ -113,9 +115,9 @@ terminator_gives m s f callers h cov (Switch ty a default cases) fits all =
     let P : List ℕ → Type 0 = λ to. Properly (IsTypedTurn m) (goes_to m s f callers h.stands.fn h.stands.block.label to) in
     let parts = and_parts (is_number (kind_of ty)) (operand_fits m env (kind_of ty) a && list_all (case_fits m (kind_of ty)) cases) fits in
     let both = and_parts (operand_fits m env (kind_of ty) a) (list_all (case_fits m (kind_of ty)) cases) parts.1 in
-    after_gives (IsOfKind x (kind_of ty)) (IsTypedTurn m) (value_of m f.locals (kind_of ty) a) (λ v. and_then (switched m v default cases) (λ to. goes_to m s f callers h.stands.fn h.stands.block.label to))
+    then_gives (IsOfKind x (kind_of ty)) (IsTypedTurn m) (value_of m f.locals (kind_of ty) a) (λ v. and_then (switched m v default cases) (λ to. goes_to m s f callers h.stands.fn h.stands.block.label to))
     (value_gives m x env f.locals cov h.stands.locals (kind_of ty) a both.0)
-    (λ v p. after_gives P (IsTypedTurn m) (switched m v default cases) (λ to. goes_to m s f callers h.stands.fn h.stands.block.label to) (switched_gives m x cov (kind_of ty) P v default cases parts.0 p both.1 all.0 all.1) (λ to q. q))
+    (λ v p. then_gives P (IsTypedTurn m) (switched m v default cases) (λ to. goes_to m s f callers h.stands.fn h.stands.block.label to) (switched_gives m x cov (kind_of ty) P v default cases parts.0 p both.1 all.0 all.1) (λ to q. q))
 terminator_gives m s f callers h cov Unreachable fits all = tt
 
 -- what the innermost call does next
@@ -203,7 +205,6 @@ steps_are m input bytes typed (suc n) s is = steps_are m input bytes typed n (so
 pub never_malformed : (m : Module) (input : List ℕ) (n : ℕ) → IsTyped m → AreBytes input → (source_run m input n).ending ≢ ending.Left malformed_number
 unfolding source_run
 never_malformed m input n typed bytes = (steps_are m input bytes typed n (source_start m) (start_is m typed)).1
-
 
 -- the step of a state of a valid module isn't malformed
 turn_proper : (a : Answer Turn) (m : Module) → Properly (IsTypedTurn m) a → a ≢ Err Malformed

@@ -36,10 +36,12 @@ use Rattle.std.specs.List.{list_all}
 use Rattle.ir_core.specs.Valid.{env_of, is_phi, leads_to}
 use Rattle.ir_sound.specs.Typed.{no_phi, param_typed, entry_typed, block_typed, function_typed}
 use Rattle.ir_sound.specs.WellTyped.{Each, Properly, Present, IsOfKind, IsObject, IsLocal, IsInBlock, AreWaiting, AreCalls, present, IsTypedTurn}
-use Rattle.ir_sound.proofs.Sound.{after_gives, not_true, some_is, none_is, kind_is, kinds_are, has_kind_is, all_at, found_any, first_passes, item_at}
-use Rattle.ir_sound.proofs.Values.{local_gives, function_below, AreOfKinds, Covers}
-use Rattle.ir_sound.proofs.Kept.{if_gives, copied_gives, filled_gives, without_is}
-use Rattle.ir_sound.proofs.Turns.{resumed_are, over_changed, memory_turn}
+use Rattle.ir_sound.proofs.AnswerLaws.{if_gives, then_gives}
+use Rattle.ir_sound.proofs.Frames.{memory_turn, over_changed, resumed_are}
+use Rattle.ir_sound.proofs.Objects.{copied_gives, filled_gives, without_is}
+use Rattle.ir_sound.proofs.Operands.{AreOfKinds, Covers, function_below, local_gives}
+use Rattle.ir_sound.proofs.RowLaws.{all_at, first_passes, found_any, item_at}
+use Rattle.ir_sound.proofs.SameLaws.{has_kind_is, kind_is, kinds_are, none_is, not_true, some_is}
 
 -- parameters are locals of their kinds
 pub bound_are : (x : Present) (env : Env) (ps : List Param) (vs : List Value) → list_all (param_typed env) ps ≡ true → AreOfKinds x (map (λ (p : Param). kind_of p.ty) ps) vs → Each (IsLocal x env) (bound ps vs)
@@ -62,12 +64,6 @@ no_choice i is e = by_op i.op e
 pub no_choices : (is : List Inst) → no_phi is ≡ true → length (choices_of is) ≡ 0
 no_choices [] e = refl
 no_choices (i ∷ is) e = ap length (no_choice i is (and_parts (not (is_phi i.op)) (no_phi is) e).0)
-
--- the first block of a function
-pub record Entry0 (fn : Function) : Type 0 where
-  pub block : Block
-  pub is_first : slice_get fn.blocks 0 ≡ Some block
-  pub no_phis : length (choices_of block.insts) ≡ 0
 
 -- is there, and has no phi
 first_block : (blocks : List Block) → entry_typed blocks ≡ true → (b : Block) × (slice_get blocks 0 ≡ Some b) × (length (choices_of b.insts) ≡ 0)
@@ -189,6 +185,10 @@ byte_gives m s ret into g gs None bytes c e = goes_with m s ret (Number W32) int
 kinds_so : (x : Present) (ks js : List Kind) (vs : List Value) → same_kinds ks js ≡ true → AreOfKinds x ks vs → AreOfKinds x js vs
 kinds_so x ks js vs e are = subst (λ k. AreOfKinds x k vs) (kinds_are ks js e) are
 
+-- four values, the second and the third by other names
+four : (vs : List Value) (a b c d b2 c2 : Value) (after_a after_b after_c after_d : List Value) → vs ≡ a ∷ after_a → after_a ≡ b ∷ after_b → after_b ≡ c ∷ after_c → after_c ≡ d ∷ after_d → after_d ≡ [] → b ≡ b2 → c ≡ c2 → vs ≡ a ∷ b2 ∷ c2 ∷ d ∷ []
+four vs a b c d b2 c2 after_a after_b after_c after_d e1 e2 e3 e4 e5 e6 e7 = cc
+
 -- what the callers get from an outside function
 pub outer_gives : (m : Module) (input : List ℕ) (s : State) (ret : Kind) (kinds : List Kind) (into : Option (List ℕ)) (g : Frame) (gs : List Frame) (vs : List Value) → ((k b : ℕ) → slice_get input k ≡ Some b → b < 256) → Calling m s ret into g gs → AreOfKinds (present m s.objects) kinds vs → (o : Outer) → outer_fits o ret kinds ≡ true → Properly (IsTypedTurn m) (outer_turn input s (g ∷ gs) into o vs)
 outer_gives m input s ret kinds into g gs vs bytes c are Putchar fits =
@@ -218,7 +218,8 @@ outer_gives m input s ret kinds into g gs vs bytes c are Memcpy fits =
     let count = first_of_kinds x (Number W64) (Number W1 ∷ []) from.others from.rest in
     let volatile = first_of_kinds x (Number W1) [] count.others count.rest in
     let n = number_of x W64 count.value count.is in
-    subst (λ us. Properly (IsTypedTurn m) (outer_turn input s (g ∷ gs) into Memcpy us)) (sym (to.are ∙ ap (λ us. to.value ∷ us) (from.are ∙ ap (λ us. from.value ∷ us) (count.are ∙ ap (λ u. u ∷ count.others) n.1 ∙ ap (λ us. Num W64 n.0 ∷ us) (volatile.are ∙ ap (λ us. volatile.value ∷ us) (none_of_kinds x volatile.others volatile.rest))))))
+    let same : vs ≡ to.value ∷ from.value ∷ Num W64 n.0 ∷ volatile.value ∷ [] = four vs to.value from.value count.value volatile.value from.value (Num W64 n.0) to.others from.others count.others volatile.others to.are from.are count.are volatile.are (none_of_kinds x volatile.others volatile.rest) refl n.1 in
+    subst (λ us. Properly (IsTypedTurn m) (outer_turn input s (g ∷ gs) into Memcpy us)) (sym same)
     (memory_turn m s.objects (g ∷ gs) (copied s.objects to.value from.value n.0) (copied_gives x s.objects c.cells to.value from.value n.0) (c.waiting.0, c.waiting.2) c.globals)
 outer_gives m input s ret kinds into g gs vs bytes c are Memset fits =
     let x = present m s.objects in
@@ -230,7 +231,8 @@ outer_gives m input s ret kinds into g gs vs bytes c are Memset fits =
     let volatile = first_of_kinds x (Number W1) [] count.others count.rest in
     let b = number_of x W8 byte.value byte.is in
     let n = number_of x W64 count.value count.is in
-    subst (λ us. Properly (IsTypedTurn m) (outer_turn input s (g ∷ gs) into Memset us)) (sym (to.are ∙ ap (λ us. to.value ∷ us) (byte.are ∙ ap (λ u. u ∷ byte.others) b.1 ∙ ap (λ us. Num W8 b.0 ∷ us) (count.are ∙ ap (λ u. u ∷ count.others) n.1 ∙ ap (λ us. Num W64 n.0 ∷ us) (volatile.are ∙ ap (λ us. volatile.value ∷ us) (none_of_kinds x volatile.others volatile.rest))))))
+    let same : vs ≡ to.value ∷ Num W8 b.0 ∷ Num W64 n.0 ∷ volatile.value ∷ [] = four vs to.value byte.value count.value volatile.value (Num W8 b.0) (Num W64 n.0) to.others byte.others count.others volatile.others to.are byte.are count.are volatile.are (none_of_kinds x volatile.others volatile.rest) b.1 n.1 in
+    subst (λ us. Properly (IsTypedTurn m) (outer_turn input s (g ∷ gs) into Memset us)) (sym same)
     (memory_turn m s.objects (g ∷ gs) (filled s.objects to.value b.0 n.0) (filled_gives x s.objects c.cells to.value b.0 n.0 b.2) (c.waiting.0, c.waiting.2) c.globals)
 outer_gives m input s ret kinds into g gs vs bytes c are TrapNow fits = tt
 outer_gives m input s ret kinds into g gs vs bytes c are Lifetime fits = goes_without m s ret into g gs c
@@ -257,7 +259,7 @@ called_gives m input s ret kinds into g gs vs bytes fits c are (Inside v) is = e
 -- the callee of a call that fits
 pub target_gives : (m : Module) (x : Present) (env : Env) (locals : List Local) → Covers m x → Each (IsLocal x env) locals → (ret : Kind) (kinds : List Kind) (callee : Operand) → callee_fits m env ret kinds callee ≡ true → Properly (IsTarget x ret kinds) (target_of m locals callee)
 target_gives m x env locals c all ret kinds (LocalName name) fits =
-    after_gives (IsOfKind x Pointer) (IsTarget x ret kinds) (local_value locals name) (λ v. Ok (Inside v)) (local_gives x env Pointer locals name (has_kind_is (env name) Pointer fits) all) (λ v p. p)
+    then_gives (IsOfKind x Pointer) (IsTarget x ret kinds) (local_value locals name) (λ v. Ok (Inside v)) (local_gives x env Pointer locals name (has_kind_is (env name) Pointer fits) all) (λ v p. p)
 target_gives m x env locals c all ret kinds (Global name) fits =
     named_gives m x c name ret kinds (first_where (λ (f : Function). same_name f.name name) m.functions) refl (function_number m name) refl fits (function_below m x c name)
 target_gives m x env locals c all ret kinds (Int n) fits = not_true fits

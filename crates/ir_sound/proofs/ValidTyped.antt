@@ -21,11 +21,14 @@ use Rattle.ir_core.specs.Refusals.{IsValid, outside, inside, unknown_in}
 use Rattle.ir_core.proofs.Distinct.{LocalsDiffer, locals_of_functions}
 use Rattle.ir_sound.specs.Typed.{labels_known, block_typed, entry_typed, param_typed, function_typed, functions_typed, IsTyped}
 use Rattle.ir_sound.specs.WellTyped.{Each}
-use Rattle.ir_sound.proofs.Sound.{not_true, Each_at}
-use Rattle.ir_sound.proofs.Agreement.{Agreed, kind_itself, locals_agree, result_agreed}
-use Rattle.ir_sound.proofs.NoFaults.{both_empty, unless_passes, each_empty, empty_at, all_from, unrefused}
 use Rattle.ir_sound.proofs.Callees.{op_agreed}
-use Rattle.ir_sound.proofs.Edged.{Each_parts, Each_rows, blocks_known, phis_from, entry_no_phi}
+use Rattle.ir_sound.proofs.Labels.{blocks_known, entry_no_phi, phis_from}
+use Rattle.ir_sound.proofs.Limits.{types_within}
+use Rattle.ir_sound.proofs.Locals.{Agreed, locals_agree, result_agreed}
+use Rattle.ir_sound.proofs.NoFaults.{both_empty, each_empty, empty_at, unless_passes, unrefused}
+use Rattle.ir_sound.proofs.RowLaws.{Each_at, Each_parts, Each_rows, all_from}
+use Rattle.ir_sound.proofs.SameLaws.{kind_itself, not_true}
+use Rattle.ir_sound.proofs.Sizes.{globals_sized}
 
 -- all parts of what is built are
 all_built : {X : Type 0} (test : X → Bool) (xs : List X) → built_all test xs ≡ true → list_all test xs ≡ true
@@ -139,17 +142,27 @@ inits_built (g ∷ gs) built =
     let q = and_parts (name_built g.name) (type_built g.ty && init_built g.init) p.0 in
     and_from _ _ (and_parts (type_built g.ty) (init_built g.init) q.1).1 (inits_built gs p.1)
 
+-- initialisers fit the types of their globals
+globals_fit : (m : Module) (k : ℕ) (gs : List GlobalVar) → flat_map (λ (p : ℕ × GlobalVar). unless (init_fits m p.1.init p.1.ty) (Spot.Global p.0)) (enumerate_from k gs) ≡ [] → list_all (λ (g : GlobalVar). init_fits m g.init g.ty) gs ≡ true
+globals_fit m k [] none = refl
+globals_fit m k (g ∷ gs) none =
+    let p = both_empty (unless (init_fits m g.init g.ty) (Spot.Global k)) (flat_map (λ (q : ℕ × GlobalVar). unless (init_fits m q.1.init q.1.ty) (Spot.Global q.0)) (enumerate_from (k + 1) gs)) none in
+    and_from _ _ (unless_passes (init_fits m g.init g.ty) (Spot.Global k) p.0) (globals_fit m (k + 1) gs p.1)
+
 -- a valid module is typed
 pub valid_typed : (m : Module) → IsValid m → IsTyped m
 valid_typed m valid =
     let u = unrefused m valid.accepted in
     let built = and_parts (built_all named_built m.types && built_all global_built m.globals) (built_all extern_built m.externs && built_all function_built m.functions) valid.built in
+    let types = (and_parts (built_all named_built m.types) (built_all global_built m.globals) built.0).0 in
     let globals = (and_parts (built_all named_built m.types) (built_all global_built m.globals) built.0).1 in
     let functions = (and_parts (built_all extern_built m.externs) (built_all function_built m.functions) built.1).1 in
-    let faults = (both_empty (flat_map (λ (p : ℕ × GlobalVar). unless (init_fits m p.1.init p.1.ty) (Spot.Global p.0)) (enumerate_from 0 m.globals) ++ flat_map (λ (p : ℕ × Extern). unless (declaration_fits p.1) (Spot.Extern p.0)) (enumerate_from 0 m.externs)) (flat_map (faults_in_function m) (enumerate_from 0 m.functions)) u.typed).1 in
+    let faults = both_empty (flat_map (λ (p : ℕ × GlobalVar). unless (init_fits m p.1.init p.1.ty) (Spot.Global p.0)) (enumerate_from 0 m.globals) ++ flat_map (λ (p : ℕ × Extern). unless (declaration_fits p.1) (Spot.Extern p.0)) (enumerate_from 0 m.externs)) (flat_map (faults_in_function m) (enumerate_from 0 m.functions)) u.typed in
     let missed = (both_empty (flat_map (unknown_in m outside) (outside_functions m)) (flat_map (λ (f : Function). flat_map (unknown_in m (inside f)) (of_function f)) m.functions) u.unknown).1 in
     record {
-      functions = functions_are m 0 m.functions faults (locals_of_functions m u.doubled) (each_empty (λ (f : Function). flat_map (unknown_in m (inside f)) (of_function f)) m.functions missed) (all_built function_built m.functions functions);
+      functions = functions_are m 0 m.functions faults.1 (locals_of_functions m u.doubled) (each_empty (λ (f : Function). flat_map (unknown_in m (inside f)) (of_function f)) m.functions missed) (all_built function_built m.functions functions);
       main = u.main;
       inits = inits_built m.globals (all_built global_built m.globals globals);
+      sizes = globals_sized m (record { objects = length m.globals; functions = length m.functions }) (record { globals = omega arith; functions = refl }) (types_within m u.limited (all_built named_built m.types types)) m.globals
+          (globals_fit m 0 m.globals (both_empty (flat_map (λ (p : ℕ × GlobalVar). unless (init_fits m p.1.init p.1.ty) (Spot.Global p.0)) (enumerate_from 0 m.globals)) (flat_map (λ (p : ℕ × Extern). unless (declaration_fits p.1) (Spot.Extern p.0)) (enumerate_from 0 m.externs)) faults.0).0);
     }

@@ -17,11 +17,12 @@ use Rattle.ir_core.specs.State.{Local, Frame, State, Nothing, with_local}
 use Rattle.ir_core.specs.Calls.{resumed, with_memory}
 use Rattle.ir_core.specs.Step.{past, gives, gives_alloca, stores}
 use Rattle.ir_core.specs.Typing.{Env, is_value, has_kind, into_fits}
-use Rattle.std.specs.List.{list_all}
 use Rattle.ir_core.specs.Valid.{env_of}
-use Rattle.ir_sound.specs.WellTyped.{Each, Properly, Present, IsOfKind, IsCell, IsObject, IsLocal, IsInBlock, Awaits, AreWaiting, AreCalls, present, is_sized, AreOver, IsTypedTurn}
-use Rattle.ir_sound.proofs.Sound.{after_gives, has_kind_is, Each_more, Each_both}
-use Rattle.ir_sound.proofs.Kept.{IsMemory, Wider, kind_wider, objects_wider, Each_replicate}
+use Rattle.ir_sound.specs.WellTyped.{Each, Properly, Present, IsOfKind, IsCell, IsObject, IsLocal, IsInBlock, Awaits, AreWaiting, AreCalls, present, AreOver, IsTypedTurn}
+use Rattle.ir_sound.proofs.AnswerLaws.{then_gives}
+use Rattle.ir_sound.proofs.Objects.{IsMemory, Wider, kind_wider, objects_wider}
+use Rattle.ir_sound.proofs.RowLaws.{Each_both, Each_more, Each_replicate}
+use Rattle.ir_sound.proofs.SameLaws.{has_kind_is}
 
 -- locals once one was given a value of its kind
 pub given_are : (x : Present) (env : Env) (into : Option (List ℕ)) (kind : Kind) (v : Value) (locals : List Local) → Awaits env into kind → IsOfKind x kind v → Each (IsLocal x env) locals → Each (IsLocal x env) (with_local into v locals)
@@ -67,7 +68,7 @@ resumed_are m x kind into g gs (Some v) is waiting =
 -- memory of as many objects
 pub over_changed : (m : Module) (old new : Memory) (frames : List Frame) → IsMemory (present m old) (length old) new → AreCalls m (present m old) frames → length m.globals ≤ length old → AreOver m frames new
 over_changed m old new frames kept calls globals =
-    let X : ℕ → Present = λ n. record { objects = n; functions = length m.functions; sized = list_all (is_sized m) m.globals } in
+    let X : ℕ → Present = λ n. record { objects = n; functions = length m.functions } in
     record {
       calls = subst (λ n. AreCalls m (X n) frames) (sym kept.many) calls;
       cells = subst (λ n. Each (IsObject (X n)) new) (sym kept.many) kept.cells;
@@ -77,7 +78,7 @@ over_changed m old new frames kept calls globals =
 -- a step that changes memory alone
 pub memory_turn : (m : Module) (old : Memory) (frames : List Frame) (new : Answer Memory) → Properly (IsMemory (present m old) (length old)) new → AreCalls m (present m old) frames → length m.globals ≤ length old → Properly (IsTypedTurn m) (with_memory frames new)
 memory_turn m old frames new kept calls globals =
-    after_gives (IsMemory (present m old) (length old)) (IsTypedTurn m) new (λ objects. Ok (record { frames = frames; objects = objects; exchange = Nothing })) kept
+    then_gives (IsMemory (present m old) (length old)) (IsTypedTurn m) new (λ objects. Ok (record { frames = frames; objects = objects; exchange = Nothing })) kept
     (λ objects k. over_changed m old objects frames k calls globals)
 
 -- among more objects locals are what they are
@@ -128,7 +129,7 @@ alloca_turn m s f callers h into size below fits =
     let new = present m (with_alloca s.objects size) in
     let object : Object0 = record { live = true; constant = false; size = size; cells = replicate size Unset } in
     let longer : length (s.objects ++ object ∷ []) ≡ length s.objects + 1 = length-append s.objects (object ∷ []) in
-    let w : Wider old new = record { objects = omega arith; functions = refl; sized = refl } in
+    let w : Wider old new = record { objects = omega arith; functions = refl } in
     let env = env_of h.stands.fn in
     let at : IsOfKind new Pointer (At (length s.objects) 0) = (omega arith, omega arith) in
     let stands : IsInBlock m new f = standing_wider old new w h.stands in
@@ -146,6 +147,6 @@ alloca_turn m s f callers h into size below fits =
         },
         waiting_wider m old new w (kind_of h.stands.fn.ret) f.into callers h.waiting,
       );
-      cells = Each_both (IsObject new) s.objects (object ∷ []) (objects_wider old new w s.objects h.cells) (record { count = λ t. length-replicate size Unset; cells = Each_replicate (IsCell new) size Unset tt }, tt);
+      cells = Each_both (IsObject new) s.objects (object ∷ []) (objects_wider old new w s.objects h.cells) (record { count = length-replicate size Unset; cells = Each_replicate (IsCell new) size Unset tt }, tt);
       globals = let g = h.globals in omega arith;
     }
