@@ -1,11 +1,8 @@
 -- Calls and returns keep calls over memory.
-use Rattle.std.proofs.Common.{◌≡◌, ℕ, ◌%◌, ◌^◌, ◌<◌, ◌≤◌, Bool, true, false, List, [], ◌∷◌, length, map, Option, Some, None, Ok, Err, refl, ap, sym, ◌∙◌, subst, arith}
-use Rattle.std.specs.Prelude.{◌-◌, ◌&&◌, not, nat_le, slice_get, if◌then◌else◌}
+use Rattle.std.proofs.Common.{◌≡◌, ℕ, ◌<◌, ◌≤◌, Bool, true, false, List, [], ◌∷◌, length, map, Option, Some, None, Ok, Err, refl, ap, sym, ◌∙◌, subst, arith}
+use Rattle.std.specs.Prelude.{◌&&◌, not, nat_le, slice_get, if◌then◌else◌}
 use Rattle.std.proofs.lemmas.Bool.{and_parts}
-use Rattle.std.proofs.Math.Nat.{mod-lt}
-use Rattle.rd_num.specs.declared.width.Width.{Width}
-use Rattle.rd_num.specs.declared.width.Width.TheVariants.{W1, W8, W32, W64}
-use Rattle.rd_num.specs.Number.{bits}
+use Rattle.rd_num.specs.declared.width.Width.TheVariants.{W32}
 use Rattle.ir_core.specs.declared.TheConstants.{MAX_CALLS}
 use Rattle.ir_core.specs.declared.operand.Operand.{Operand}
 use Rattle.ir_core.specs.declared.operand.Operand.TheVariants.{Int, Bool as Truth, Null as NullWord, Undef, Poison, Local as LocalName, Global, Const}
@@ -24,12 +21,10 @@ use Rattle.ir_core.specs.Stops.{Depth, Left, Answer, and_then, found_or, Malform
 use Rattle.ir_core.specs.declared.kind.Kind.{Kind}
 use Rattle.ir_core.specs.declared.kind.Kind.TheVariants.{NoValue, Number, Pointer}
 use Rattle.ir_core.specs.Kinds.{kind_of, same_kind}
-use Rattle.ir_core.specs.Memory.{copied, filled, without}
-use Rattle.ir_core.specs.State.{Local, Frame, State, Exchange, Nothing, Print, Take, Turn}
+use Rattle.ir_core.specs.Memory.{without}
+use Rattle.ir_core.specs.State.{Local, Frame, State, Nothing, Turn}
 use Rattle.ir_core.specs.Operands.{local_value, function_number}
-use Rattle.ir_core.specs.declared.outer.Outer.{Outer}
-use Rattle.ir_core.specs.declared.outer.Outer.TheVariants.{Putchar, Getchar, Exit, Memcpy, Memset, TrapNow, Lifetime, NoOuter}
-use Rattle.ir_core.specs.Calls.{Target, Outside, Inside, target_named, target_of, same_kinds, is_called_as, bound, first_frame, entry_turn, resumed, return_turn, goes_on, read_byte, outer_turn, call_turn}
+use Rattle.ir_core.specs.Calls.{Target, Outside, Inside, target_named, target_of, same_kinds, is_called_as, bound, first_frame, entry_turn, resumed, return_turn, call_turn}
 use Rattle.ir_core.specs.Step.{choices_with, choices_of}
 use Rattle.ir_core.specs.Typing.{Env, has_kind, is_value, outer_fits, named_fits, callee_fits, is_result}
 use Rattle.std.specs.List.{list_all}
@@ -37,11 +32,12 @@ use Rattle.ir_core.specs.Valid.{env_of, is_phi, leads_to}
 use Rattle.ir_sound.specs.Typed.{no_phi, param_typed, entry_typed, block_typed, function_typed}
 use Rattle.ir_sound.specs.WellTyped.{Each, Properly, Present, IsOfKind, IsObject, IsLocal, IsInBlock, AreWaiting, AreCalls, present, IsTypedTurn}
 use Rattle.ir_sound.proofs.AnswerLaws.{if_gives, then_gives}
-use Rattle.ir_sound.proofs.Frames.{memory_turn, over_changed, resumed_are}
-use Rattle.ir_sound.proofs.Objects.{copied_gives, filled_gives, without_is}
+use Rattle.ir_sound.proofs.Frames.{over_changed, resumed_are}
+use Rattle.ir_sound.proofs.Objects.{without_is}
 use Rattle.ir_sound.proofs.Operands.{AreOfKinds, Covers, function_below, local_gives}
 use Rattle.ir_sound.proofs.RowLaws.{all_at, first_passes, found_any, item_at}
-use Rattle.ir_sound.proofs.SameLaws.{has_kind_is, kind_is, kinds_are, none_is, not_true, some_is}
+use Rattle.ir_sound.proofs.SameLaws.{has_kind_is, kind_is, kinds_are, none_is, not_true}
+use Rattle.ir_sound.proofs.Outside.{Calling, outer_gives}
 
 -- parameters are locals of their kinds
 pub bound_are : (x : Present) (env : Env) (ps : List Param) (vs : List Value) → list_all (param_typed env) ps ≡ true → AreOfKinds x (map (λ (p : Param). kind_of p.ty) ps) vs → Each (IsLocal x env) (bound ps vs)
@@ -114,10 +110,6 @@ entered_gives m s callers ret kinds values into fits cells globals are waiting (
           globals = globals;
         })
 
--- the callers go on
-pub goes_turn : (m : Module) (s : State) (kind : Kind) (into : Option (List ℕ)) (g : Frame) (gs : List Frame) (exchange : Exchange) (result : Option Value) → ((v : Value) → result ≡ Some v → IsOfKind (present m s.objects) kind v) → AreWaiting m (present m s.objects) kind into (g ∷ gs) → Each (IsObject (present m s.objects)) s.objects → length m.globals ≤ length s.objects → Properly (IsTypedTurn m) (goes_on s (g ∷ gs) into exchange result)
-goes_turn m s kind into g gs exchange result is waiting cells globals = record { calls = resumed_are m (present m s.objects) kind into g gs result is waiting; cells = cells; globals = globals }
-
 -- nothing isn't a number
 no_number : {X : Type 0} → NoValue ≡ Number W32 → X
 no_number e = absurd (cc)
@@ -132,111 +124,6 @@ returned_gives m s f [] kind (Some Null) is list_any waiting cells globals = abs
 returned_gives m s f [] kind (Some (At o d)) is list_any waiting cells globals = absurd (subst (λ k. IsOfKind (present m s.objects) k (At o d)) waiting (is (At o d) refl))
 returned_gives m s f [] kind (Some (Fun g)) is list_any waiting cells globals = absurd (subst (λ k. IsOfKind (present m s.objects) k (Fun g)) waiting (is (Fun g) refl))
 returned_gives m s f [] kind None is list_any waiting cells globals = no_number (sym (list_any refl) ∙ waiting)
-
--- the first of some values, and the others
-record First (x : Present) (k : Kind) (ks : List Kind) (vs : List Value) : Type 0 where
-  pub value : Value
-  pub others : List Value
-  pub are : vs ≡ value ∷ others
-  pub is : IsOfKind x k value
-  pub rest : AreOfKinds x ks others
-
--- is there
-first_of_kinds : (x : Present) (k : Kind) (ks : List Kind) (vs : List Value) → AreOfKinds x (k ∷ ks) vs → First x k ks vs
-first_of_kinds x k ks [] are = absurd are
-first_of_kinds x k ks (v ∷ vs) are = record { value = v; others = vs; are = refl; is = are.0; rest = are.1 }
-
--- no values
-none_of_kinds : (x : Present) (vs : List Value) → AreOfKinds x [] vs → vs ≡ []
-none_of_kinds x [] are = refl
-none_of_kinds x (v ∷ vs) are = absurd are
-
--- a value of a width is a number
-number_of : (x : Present) (w : Width) (v : Value) → IsOfKind x (Number w) v → (n : ℕ) × (v ≡ Num w n) × (n < 2 ^ bits w)
-number_of x w (Num u n) is = (n, ap (λ k. Num k n) is.0, is.1)
-number_of x w Null is = absurd is
-number_of x w (At o d) is = absurd is
-number_of x w (Fun f) is = absurd is
-
--- what a call of an outside function finds: the caller that goes on, its callers, and memory
-pub record Calling (m : Module) (s : State) (ret : Kind) (into : Option (List ℕ)) (g : Frame) (gs : List Frame) : Type 0 where
-  pub waiting : AreWaiting m (present m s.objects) ret into (g ∷ gs)
-  pub cells : Each (IsObject (present m s.objects)) s.objects
-  pub globals : length m.globals ≤ length s.objects
-
--- a result of a kind
-result_is : (x : Present) (k : Kind) (u v : Value) → IsOfKind x k u → let o : Option Value = Some u in o ≡ Some v → IsOfKind x k v
-result_is x k u v is e = subst (IsOfKind x k) (some_is u v e) is
-
--- a caller that goes on with a result
-goes_with : (m : Module) (s : State) (ret kind : Kind) (into : Option (List ℕ)) (g : Frame) (gs : List Frame) (exchange : Exchange) (v : Value) → Calling m s ret into g gs → ret ≡ kind → IsOfKind (present m s.objects) kind v → Properly (IsTypedTurn m) (goes_on s (g ∷ gs) into exchange (Some v))
-goes_with m s ret kind into g gs exchange v c e is = goes_turn m s kind into g gs exchange (Some v) (λ u f. result_is (present m s.objects) kind v u is f) (subst (λ k. AreWaiting m (present m s.objects) k into (g ∷ gs)) e c.waiting) c.cells c.globals
-
--- and one without
-goes_without : (m : Module) (s : State) (ret : Kind) (into : Option (List ℕ)) (g : Frame) (gs : List Frame) → Calling m s ret into g gs → Properly (IsTypedTurn m) (goes_on s (g ∷ gs) into Nothing None)
-goes_without m s ret into g gs c = goes_turn m s ret into g gs Nothing None (λ u f. none_is u f) c.waiting c.cells c.globals
-
--- a byte of the input, or -1
-byte_gives : (m : Module) (s : State) (ret : Kind) (into : Option (List ℕ)) (g : Frame) (gs : List Frame) (o : Option ℕ) → ((b : ℕ) → o ≡ Some b → b < 256) → Calling m s ret into g gs → ret ≡ Number W32 → Properly (IsTypedTurn m) (read_byte s (g ∷ gs) into o)
-byte_gives m s ret into g gs (Some b) bytes c e = let h = bytes b refl in goes_with m s ret (Number W32) into g gs Take (Num W32 b) c e (refl, omega arith)
-byte_gives m s ret into g gs None bytes c e = goes_with m s ret (Number W32) into g gs Nothing (Num W32 (2 ^ 32 - 1)) c e (refl, omega arith)
-
--- kinds of arguments as they should be
-kinds_so : (x : Present) (ks js : List Kind) (vs : List Value) → same_kinds ks js ≡ true → AreOfKinds x ks vs → AreOfKinds x js vs
-kinds_so x ks js vs e are = subst (λ k. AreOfKinds x k vs) (kinds_are ks js e) are
-
--- four values, the second and the third by other names
-four : (vs : List Value) (a b c d b2 c2 : Value) (after_a after_b after_c after_d : List Value) → vs ≡ a ∷ after_a → after_a ≡ b ∷ after_b → after_b ≡ c ∷ after_c → after_c ≡ d ∷ after_d → after_d ≡ [] → b ≡ b2 → c ≡ c2 → vs ≡ a ∷ b2 ∷ c2 ∷ d ∷ []
-four vs a b c d b2 c2 after_a after_b after_c after_d e1 e2 e3 e4 e5 e6 e7 = cc
-
--- what the callers get from an outside function
-pub outer_gives : (m : Module) (input : List ℕ) (s : State) (ret : Kind) (kinds : List Kind) (into : Option (List ℕ)) (g : Frame) (gs : List Frame) (vs : List Value) → ((k b : ℕ) → slice_get input k ≡ Some b → b < 256) → Calling m s ret into g gs → AreOfKinds (present m s.objects) kinds vs → (o : Outer) → outer_fits o ret kinds ≡ true → Properly (IsTypedTurn m) (outer_turn input s (g ∷ gs) into o vs)
-outer_gives m input s ret kinds into g gs vs bytes c are Putchar fits =
-    let x = present m s.objects in
-    let parts = and_parts (same_kind ret (Number W32)) (same_kinds kinds (Number W32 ∷ [])) fits in
-    let first = first_of_kinds x (Number W32) [] vs (kinds_so x kinds (Number W32 ∷ []) vs parts.1 are) in
-    let n = number_of x W32 first.value first.is in
-    subst (λ us. Properly (IsTypedTurn m) (outer_turn input s (g ∷ gs) into Putchar us)) (sym (first.are ∙ ap (λ us. first.value ∷ us) (none_of_kinds x first.others first.rest) ∙ ap (λ u. u ∷ []) n.1))
-    (goes_with m s ret (Number W32) into g gs (Print (n.0 % 256)) (Num W32 (n.0 % 256)) c (kind_is ret (Number W32) parts.0) (refl, let h = mod-lt n.0 (let l : 0 < 256 = omega arith in l) in omega arith))
-outer_gives m input s ret kinds into g gs vs bytes c are Getchar fits =
-    let x = present m s.objects in
-    let parts = and_parts (same_kind ret (Number W32)) (same_kinds kinds []) fits in
-    subst (λ us. Properly (IsTypedTurn m) (outer_turn input s (g ∷ gs) into Getchar us)) (sym (none_of_kinds x vs (kinds_so x kinds [] vs parts.1 are)))
-    (byte_gives m s ret into g gs (slice_get input s.taken) (bytes s.taken) c (kind_is ret (Number W32) parts.0))
-outer_gives m input s ret kinds into g gs vs bytes c are Exit fits =
-    let x = present m s.objects in
-    let parts = and_parts (same_kind ret NoValue) (same_kinds kinds (Number W32 ∷ [])) fits in
-    let first = first_of_kinds x (Number W32) [] vs (kinds_so x kinds (Number W32 ∷ []) vs parts.1 are) in
-    let n = number_of x W32 first.value first.is in
-    subst (λ us. Properly (IsTypedTurn m) (outer_turn input s (g ∷ gs) into Exit us)) (sym (first.are ∙ ap (λ us. first.value ∷ us) (none_of_kinds x first.others first.rest) ∙ ap (λ u. u ∷ []) n.1)) tt
-outer_gives m input s ret kinds into g gs vs bytes c are Memcpy fits =
-    let x = present m s.objects in
-    let js : List Kind = Pointer ∷ Pointer ∷ Number W64 ∷ Number W1 ∷ [] in
-    let parts = and_parts (same_kind ret NoValue) (same_kinds kinds js) fits in
-    let to = first_of_kinds x Pointer (Pointer ∷ Number W64 ∷ Number W1 ∷ []) vs (kinds_so x kinds js vs parts.1 are) in
-    let from = first_of_kinds x Pointer (Number W64 ∷ Number W1 ∷ []) to.others to.rest in
-    let count = first_of_kinds x (Number W64) (Number W1 ∷ []) from.others from.rest in
-    let volatile = first_of_kinds x (Number W1) [] count.others count.rest in
-    let n = number_of x W64 count.value count.is in
-    let same : vs ≡ to.value ∷ from.value ∷ Num W64 n.0 ∷ volatile.value ∷ [] = four vs to.value from.value count.value volatile.value from.value (Num W64 n.0) to.others from.others count.others volatile.others to.are from.are count.are volatile.are (none_of_kinds x volatile.others volatile.rest) refl n.1 in
-    subst (λ us. Properly (IsTypedTurn m) (outer_turn input s (g ∷ gs) into Memcpy us)) (sym same)
-    (memory_turn m s.objects (g ∷ gs) (copied s.objects to.value from.value n.0) (copied_gives x s.objects c.cells to.value from.value n.0) (c.waiting.0, c.waiting.2) c.globals)
-outer_gives m input s ret kinds into g gs vs bytes c are Memset fits =
-    let x = present m s.objects in
-    let js : List Kind = Pointer ∷ Number W8 ∷ Number W64 ∷ Number W1 ∷ [] in
-    let parts = and_parts (same_kind ret NoValue) (same_kinds kinds js) fits in
-    let to = first_of_kinds x Pointer (Number W8 ∷ Number W64 ∷ Number W1 ∷ []) vs (kinds_so x kinds js vs parts.1 are) in
-    let byte = first_of_kinds x (Number W8) (Number W64 ∷ Number W1 ∷ []) to.others to.rest in
-    let count = first_of_kinds x (Number W64) (Number W1 ∷ []) byte.others byte.rest in
-    let volatile = first_of_kinds x (Number W1) [] count.others count.rest in
-    let b = number_of x W8 byte.value byte.is in
-    let n = number_of x W64 count.value count.is in
-    let same : vs ≡ to.value ∷ Num W8 b.0 ∷ Num W64 n.0 ∷ volatile.value ∷ [] = four vs to.value byte.value count.value volatile.value (Num W8 b.0) (Num W64 n.0) to.others byte.others count.others volatile.others to.are byte.are count.are volatile.are (none_of_kinds x volatile.others volatile.rest) b.1 n.1 in
-    subst (λ us. Properly (IsTypedTurn m) (outer_turn input s (g ∷ gs) into Memset us)) (sym same)
-    (memory_turn m s.objects (g ∷ gs) (filled s.objects to.value b.0 n.0) (filled_gives x s.objects c.cells to.value b.0 n.0 b.2) (c.waiting.0, c.waiting.2) c.globals)
-outer_gives m input s ret kinds into g gs vs bytes c are TrapNow fits = tt
-outer_gives m input s ret kinds into g gs vs bytes c are Lifetime fits = goes_without m s ret into g gs c
-outer_gives m input s ret kinds into g gs vs bytes c are NoOuter fits = not_true fits
 
 -- where a call may go
 abbrev pub IsTarget : Present → Kind → List Kind → Target → Type 0

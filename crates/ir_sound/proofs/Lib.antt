@@ -7,6 +7,7 @@ pub mod Objects
 pub mod Operations
 pub mod Frames
 pub mod Edges
+pub mod Outside
 pub mod Calls
 pub mod Start
 pub mod Steps

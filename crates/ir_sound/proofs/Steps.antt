@@ -35,7 +35,8 @@ use Rattle.behavior.specs.Ending as ending
 use Rattle.ir_sound.specs.Typed.{has_label, phis_typed, labels_known, block_typed, entry_typed, param_typed, function_typed, IsTyped}
 use Rattle.ir_sound.specs.WellTyped.{Each, IsProper, Properly, IsOfKind, present, AreOver, IsTypedTurn, IsProperEnding, IsWellTyped}
 use Rattle.ir_sound.proofs.AnswerLaws.{then_gives}
-use Rattle.ir_sound.proofs.Calls.{Calling, IsTarget, called_gives, returned_gives, target_gives}
+use Rattle.ir_sound.proofs.Calls.{IsTarget, called_gives, returned_gives, target_gives}
+use Rattle.ir_sound.proofs.Outside.{Calling}
 use Rattle.ir_sound.proofs.Edges.{goes_gives, leads_each, one_of_two, past_is_none, switched_gives}
 use Rattle.ir_sound.proofs.Frames.{Here, alloca_turn, fits_awaits, further, gives_turn, stores_turn}
 use Rattle.ir_sound.proofs.Objects.{store_gives}
