@@ -29,7 +29,6 @@ use Rattle.std.specs.List.{list_all, list_any}
 use Rattle.ir_core.specs.Typing.{is_value, is_number, operand_fits, arg_fits, kinds_of, op_fits, kind_given, into_fits, inst_fits, callee_fits, is_result, returns_nothing, case_fits, labels_of, term_fits}
 use Rattle.ir_core.specs.Valid.{env_of, is_phi, predecessors}
 use Rattle.ir_core.proofs.Steps.{turn_here}
-use Rattle.ir_core.specs.Refusals.{IsValid}
 use Rattle.ir_core.specs.Run.{source_start, source_run}
 use Rattle.behavior.specs.Ending as ending
 use Rattle.ir_sound.specs.Typed.{has_label, phis_typed, labels_known, block_typed, entry_typed, param_typed, function_typed, IsTyped}
@@ -45,7 +44,6 @@ use Rattle.ir_sound.proofs.Operations.{result_gives}
 use Rattle.ir_sound.proofs.RowLaws.{Each_and, Each_from, all_at, below_at}
 use Rattle.ir_sound.proofs.SameLaws.{kind_is, none_is, not_true, some_is}
 use Rattle.ir_sound.proofs.Start.{start_is}
-use Rattle.ir_sound.proofs.ValidTyped.{valid_typed}
 
 -- the bytes of an input, by their places
 pub byte_at : (input : List ℕ) → AreBytes input → (k b : ℕ) → slice_get input k ≡ Some b → b < 256
@@ -202,37 +200,25 @@ pub steps_are : (m : Module) (input : List ℕ) → AreBytes input → IsTyped m
 steps_are m input bytes typed zero s is = is
 steps_are m input bytes typed (suc n) s is = steps_are m input bytes typed n (source_step m input s) (step_is m input bytes typed s is)
 
--- no run of a module that fits comes to the malformed stop
-pub never_malformed : (m : Module) (input : List ℕ) (n : ℕ) → IsTyped m → AreBytes input → (source_run m input n).ending ≢ ending.Left malformed_number
+-- an answer that is no malformed stop
+not_malformed : {A : Type 0} (P : A → Type 0) (a : Answer A) → Properly P a → a ≢ Err Malformed
+not_malformed P (Ok t) p = λ e. absurd (cc)
+not_malformed P (Err Malformed) p = absurd p
+not_malformed P (Err (Ended status)) p = λ e. absurd (cc)
+not_malformed P (Err Divide) p = λ e. absurd (cc)
+not_malformed P (Err Trap) p = λ e. absurd (cc)
+not_malformed P (Err Depth) p = λ e. absurd (cc)
+not_malformed P (Err (Left reason)) p = λ e. absurd (cc)
+
+-- what a well typed state does next isn't malformed
+pub turn_is : (m : Module) (input : List ℕ) → AreBytes input → IsTyped m → (s : State) → IsWellTyped m s → turn_of m input s s.frames ≢ Err Malformed
+turn_is m input bytes typed s is = not_malformed (IsTypedTurn m) (turn_of m input s s.frames) (turn_gives m input s (byte_at input bytes) typed.functions s.frames is.0)
+
+-- each state of a run is well typed
+pub states_are : (m : Module) (input : List ℕ) (n : ℕ) → AreBytes input → IsTyped m → IsWellTyped m (iter (source_step m input) n (source_start m))
+states_are m input n bytes typed = steps_are m input bytes typed n (source_start m) (start_is m typed)
+
+-- so no run comes to the malformed stop
+pub run_proper : (m : Module) (input : List ℕ) (n : ℕ) → AreBytes input → IsTyped m → (source_run m input n).ending ≢ ending.Left malformed_number
 unfolding source_run
-never_malformed m input n typed bytes = (steps_are m input bytes typed n (source_start m) (start_is m typed)).1
-
--- the step of a state of a valid module isn't malformed
-turn_proper : (a : Answer Turn) (m : Module) → Properly (IsTypedTurn m) a → a ≢ Err Malformed
-turn_proper (Ok t) m p = λ e. absurd (cc)
-turn_proper (Err Malformed) m p = absurd p
-turn_proper (Err (Ended status)) m p = λ e. absurd (cc)
-turn_proper (Err Divide) m p = λ e. absurd (cc)
-turn_proper (Err Trap) m p = λ e. absurd (cc)
-turn_proper (Err Depth) m p = λ e. absurd (cc)
-turn_proper (Err (Left reason)) m p = λ e. absurd (cc)
-
--- no run of a valid module comes to the malformed stop
-pub valid_proper : (m : Module) (input : List ℕ) (n : ℕ) → IsValid m → AreBytes input → (source_run m input n).ending ≢ ending.Left malformed_number
-valid_proper m input n valid bytes = never_malformed m input n (valid_typed m valid) bytes
-
--- its first state is well typed
-pub valid_start : (m : Module) → IsValid m → IsWellTyped m (source_start m)
-valid_start m valid = start_is m (valid_typed m valid)
-
--- a step keeps a state so
-pub valid_step : (m : Module) (input : List ℕ) (s : State) → IsValid m → AreBytes input → IsWellTyped m s → IsWellTyped m (source_step m input s)
-valid_step m input s valid bytes is = step_is m input bytes (valid_typed m valid) s is
-
--- and isn't malformed
-pub valid_turn : (m : Module) (input : List ℕ) (s : State) → IsValid m → AreBytes input → IsWellTyped m s → turn_of m input s s.frames ≢ Err Malformed
-valid_turn m input s valid bytes is = turn_proper (turn_of m input s s.frames) m (turn_gives m input s (byte_at input bytes) (valid_typed m valid).functions s.frames is.0)
-
--- each state is well typed
-pub valid_states : (m : Module) (input : List ℕ) (n : ℕ) → IsValid m → AreBytes input → IsWellTyped m (iter (source_step m input) n (source_start m))
-valid_states m input n valid bytes = steps_are m input bytes (valid_typed m valid) n (source_start m) (valid_start m valid)
+run_proper m input n bytes typed = (states_are m input n bytes typed).1

@@ -3,6 +3,8 @@ use Rattle.std.proofs.Common.{◌≡◌, ℕ, ◌+◌, Bool, true, List, [], ◌
 use Rattle.std.specs.Prelude.{◌&&◌, not, nat_lt, ◌^◌, slice_get}
 use Rattle.std.specs.List.{list_all, flat_map, enumerate_from}
 use Rattle.std.proofs.lemmas.Bool.{and_parts, and_from}
+use Rattle.std.proofs.Props.{props}
+use Rattle.std.proofs.Math.Logic.{∥∥₁_elim}
 use Rattle.ir_core.specs.declared.limit.Spot.{Spot}
 use Rattle.ir_core.specs.declared.instruction.Inst.{Inst}
 use Rattle.ir_core.specs.declared.module.Block.{Block}
@@ -166,3 +168,7 @@ valid_typed m valid =
       sizes = globals_sized m (record { objects = length m.globals; functions = length m.functions }) (record { globals = omega arith; functions = refl }) (types_within m u.limited (all_built named_built m.types types)) m.globals
           (globals_fit m 0 m.globals (both_empty (flat_map (λ (p : ℕ × GlobalVar). unless (init_fits m p.1.init p.1.ty) (Spot.Global p.0)) (enumerate_from 0 m.globals)) (flat_map (λ (p : ℕ × Extern). unless (declaration_fits p.1) (Spot.Extern p.0)) (enumerate_from 0 m.externs)) faults.0).0);
     }
+
+-- so is one that is known to be valid and no more
+pub known_typed : (m : Module) → ∥ IsValid m ∥₁ → IsTyped m
+known_typed m known = ∥∥₁_elim known (hlevel props) (valid_typed m)

@@ -2,8 +2,8 @@
 //!
 //! The functions below are laws and do nothing. `specs/Typed` says block by block what the rules of
 //! types leave of a valid module, `specs/WellTyped` what then holds of every state of its runs: where
-//! calls stand, of which kinds their locals are, what objects hold, and for what callers wait. Passes
-//! stand on these. What a step does and which modules are valid stands in `ir_core`.
+//! calls stand, of which kinds their locals are, what objects hold, and for what callers wait.
+//! Passes stand on these. What a step does and which modules are valid stands in `ir_core`.
 #![tactic(auto)]
 
 ghost use Rattle.std.specs.Prelude.{◌≢◌, ℕ, List, Err};
@@ -20,27 +20,26 @@ ghost use Rattle.ir_sound.specs.Typed.{IsTyped};
 ghost use Rattle.ir_sound.specs.WellTyped.{IsWellTyped};
 
 /// No run of a valid module comes to the malformed stop, whatever bytes it takes.
-#[tactic(auto, using(crate::proofs::Steps::valid_proper))]
 pub fn never_malformed()
-    ensures { (m : Module) (input : List ℕ) (n : ℕ) → IsValid m → AreBytes input →
+    ensures { (m : Module) (input : List ℕ) (n : ℕ) → ∥ IsValid m ∥₁ → AreBytes input →
         (source_run m input n).ending ≢ IsLeft malformed_number }
 {}
 
-/// A valid module is typed: blocks whose instructions fit the kinds of their function's locals, phis
-/// with an entry for each edge, edges to blocks, an entry block without phis, and a `main`.
+/// A valid module is typed: blocks whose instructions fit the kinds of their function's locals,
+/// phis with an entry for each edge, edges to blocks, an entry block without phis, a `main`, and
+/// globals that begin with as many bytes as their types have.
 pub fn valid_is_typed()
-    ensures { (m : Module) → IsValid m → IsTyped m }
+    ensures { (m : Module) → ∥ IsValid m ∥₁ → IsTyped m }
 {}
 
-/// Each state of a run of a valid module is well typed: the first is, a step keeps it so, and the
-/// step isn't malformed.
-#[tactic(auto, using(crate::proofs::Steps::valid_start, crate::proofs::Steps::valid_step, crate::proofs::Steps::valid_turn, crate::proofs::Steps::valid_states))]
+/// Each state of a run of a typed module is well typed: the first is, a step keeps it so, and what
+/// such a state does next isn't malformed.
 pub fn stays_typed()
-    ensures start { (m : Module) → IsValid m → IsWellTyped m (source_start m) }
-    ensures step { (m : Module) (input : List ℕ) (s : State) → IsValid m → AreBytes input →
+    ensures start { (m : Module) → IsTyped m → IsWellTyped m (source_start m) }
+    ensures step { (m : Module) (input : List ℕ) (s : State) → IsTyped m → AreBytes input →
         IsWellTyped m s → IsWellTyped m (source_step m input s) }
-    ensures turn { (m : Module) (input : List ℕ) (s : State) → IsValid m → AreBytes input →
+    ensures turn { (m : Module) (input : List ℕ) (s : State) → IsTyped m → AreBytes input →
         IsWellTyped m s → turn_of m input s s.frames ≢ Err Malformed }
-    ensures states { (m : Module) (input : List ℕ) (n : ℕ) → IsValid m → AreBytes input →
+    ensures states { (m : Module) (input : List ℕ) (n : ℕ) → IsTyped m → AreBytes input →
         IsWellTyped m (iter (source_step m input) n (source_start m)) }
 {}
