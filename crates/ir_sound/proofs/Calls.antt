@@ -1,6 +1,6 @@
 -- Calls and returns keep calls over memory.
 use Rattle.std.proofs.Common.{◌≡◌, ℕ, ◌<◌, ◌≤◌, Bool, true, false, List, [], ◌∷◌, length, map, Option, Some, None, Ok, Err, refl, ap, sym, ◌∙◌, subst, arith}
-use Rattle.std.specs.Prelude.{◌&&◌, not, nat_le, slice_get, if◌then◌else◌}
+use Rattle.std.specs.Prelude.{not, nat_le, slice_get, if◌then◌else◌}
 use Rattle.std.proofs.lemmas.Bool.{and_parts}
 use Rattle.rd_num.specs.declared.width.Width.TheVariants.{W32}
 use Rattle.ir_core.specs.declared.TheConstants.{MAX_CALLS}
@@ -26,16 +26,17 @@ use Rattle.ir_core.specs.State.{Local, Frame, State, Nothing, Turn}
 use Rattle.ir_core.specs.Operands.{local_value, function_number}
 use Rattle.ir_core.specs.Calls.{Target, Outside, Inside, target_named, target_of, same_kinds, is_called_as, bound, first_frame, entry_turn, resumed, return_turn, call_turn}
 use Rattle.ir_core.specs.Step.{choices_with, choices_of}
-use Rattle.ir_core.specs.Typing.{Env, has_kind, is_value, outer_fits, named_fits, callee_fits, is_result}
+use Rattle.ir_core.specs.Typing.{Env, has_kind, is_value, outer_fits, named_fits, callee_fits}
 use Rattle.std.specs.List.{list_all}
 use Rattle.ir_core.specs.Valid.{env_of, is_phi, leads_to}
-use Rattle.ir_sound.specs.Typed.{no_phi, param_typed, entry_typed, block_typed, function_typed}
+use Rattle.ir_sound.specs.Typed.{no_phi, param_typed, entry_typed, functions_typed}
 use Rattle.ir_sound.specs.WellTyped.{Each, Properly, Present, IsOfKind, IsObject, IsLocal, IsInBlock, AreWaiting, AreCalls, present, IsTypedTurn}
 use Rattle.ir_sound.proofs.AnswerLaws.{if_gives, then_gives}
 use Rattle.ir_sound.proofs.Frames.{over_changed, resumed_are}
 use Rattle.ir_sound.proofs.Objects.{without_is}
 use Rattle.ir_sound.proofs.Operands.{AreOfKinds, Covers, function_below, local_gives}
-use Rattle.ir_sound.proofs.RowLaws.{all_at, first_passes, found_any, item_at}
+use Rattle.ir_sound.proofs.Parts.{FunctionParts, function_at}
+use Rattle.ir_sound.proofs.RowLaws.{first_passes, found_any, item_at}
 use Rattle.ir_sound.proofs.SameLaws.{has_kind_is, kind_is, kinds_are, none_is, not_true}
 use Rattle.ir_sound.proofs.Outside.{Calling, outer_gives}
 
@@ -67,48 +68,45 @@ first_block [] fits = not_true fits
 first_block (b ∷ bs) fits = (b, refl, no_choices b.insts (and_parts (list_all (λ (p : Block). not (leads_to b.label p)) (b ∷ bs)) (no_phi b.insts) fits).1)
 
 -- a call at its start stands
-pub first_stands : (m : Module) (x : Present) (number : ℕ) (fn : Function) (values : List Value) (into : Option (List ℕ)) → slice_get m.functions number ≡ Some fn → function_typed m (env_of fn) fn ≡ true → Each (IsLocal x (env_of fn)) (bound fn.params values) → (s : IsInBlock m x (first_frame number fn values into)) × (s.fn ≡ fn)
-first_stands m x number fn values into here fits are =
-    let parts = and_parts (is_result fn.ret && list_all (param_typed (env_of fn)) fn.params) (entry_typed fn.blocks && list_all (block_typed m (env_of fn) fn) fn.blocks) fits in
-    let b = first_block fn.blocks (and_parts (entry_typed fn.blocks) (list_all (block_typed m (env_of fn) fn) fn.blocks) parts.1).0 in
+pub first_stands : (m : Module) (x : Present) (number : ℕ) (fn : Function) (values : List Value) (into : Option (List ℕ)) → slice_get m.functions number ≡ Some fn → FunctionParts m (env_of fn) fn → Each (IsLocal x (env_of fn)) (bound fn.params values) → (s : IsInBlock m x (first_frame number fn values into)) × (s.fn ≡ fn)
+first_stands m x number fn values into here parts are =
+    let b = first_block fn.blocks parts.entry in
     (record { fn = fn; block = b.0; in_module = here; in_function = b.1; past_phis = let e = b.2 in omega arith; within = omega arith; locals = are; objects = tt }, refl)
 
 -- the calls of a run once one more is entered
-entered_calls : (m : Module) (x : Present) (number : ℕ) (fn : Function) (values : List Value) (into : Option (List ℕ)) (callers : List Frame) → slice_get m.functions number ≡ Some fn → function_typed m (env_of fn) fn ≡ true → AreOfKinds x (map (λ (p : Param). kind_of p.ty) fn.params) values → AreWaiting m x (kind_of fn.ret) into callers → AreCalls m x (first_frame number fn values into ∷ callers)
-entered_calls m x number fn values into callers here fits are waiting =
-    let parts = and_parts (is_result fn.ret && list_all (param_typed (env_of fn)) fn.params) (entry_typed fn.blocks && list_all (block_typed m (env_of fn) fn) fn.blocks) fits in
-    let params = (and_parts (is_result fn.ret) (list_all (param_typed (env_of fn)) fn.params) parts.0).1 in
-    let s = first_stands m x number fn values into here fits (bound_are x (env_of fn) fn.params values params are) in
+entered_calls : (m : Module) (x : Present) (number : ℕ) (fn : Function) (values : List Value) (into : Option (List ℕ)) (callers : List Frame) → slice_get m.functions number ≡ Some fn → FunctionParts m (env_of fn) fn → AreOfKinds x (map (λ (p : Param). kind_of p.ty) fn.params) values → AreWaiting m x (kind_of fn.ret) into callers → AreCalls m x (first_frame number fn values into ∷ callers)
+entered_calls m x number fn values into callers here parts are waiting =
+    let s = first_stands m x number fn values into here parts (bound_are x (env_of fn) fn.params values parts.params are) in
     (s.0, subst (λ f. AreWaiting m x (kind_of f.ret) into callers) (sym s.1) waiting)
 
--- a call enters its function, unless there are too many
-pub entered_gives : (m : Module) (s : State) (callers : List Frame) (ret : Kind) (kinds : List Kind) (values : List Value) (into : Option (List ℕ)) → list_all (λ f. function_typed m (env_of f) f) m.functions ≡ true → Each (IsObject (present m s.objects)) s.objects → length m.globals ≤ length s.objects → AreOfKinds (present m s.objects) kinds values → AreWaiting m (present m s.objects) ret into callers → (v : Value) → IsOfKind (present m s.objects) Pointer v → Properly (IsTypedTurn m) (entry_turn m s callers ret kinds values into v)
-entered_gives m s callers ret kinds values into fits cells globals are waiting (Num w n) is = tt
-entered_gives m s callers ret kinds values into fits cells globals are waiting Null is = tt
-entered_gives m s callers ret kinds values into fits cells globals are waiting (At o d) is = tt
-entered_gives m s callers ret kinds values into fits cells globals are waiting (Fun number) is =
+-- a call of a function, if it has the call's types and there are not too many
+function_entered : (m : Module) (s : State) (callers : List Frame) (ret : Kind) (kinds : List Kind) (values : List Value) (into : Option (List ℕ)) (number : ℕ) (f : Function) → slice_get m.functions number ≡ Some f → functions_typed m m.functions ≡ true → Each (IsObject (present m s.objects)) s.objects → length m.globals ≤ length s.objects → AreOfKinds (present m s.objects) kinds values → AreWaiting m (present m s.objects) ret into callers → (b : Bool) → is_called_as f ret kinds ≡ b
+    → Properly (IsTypedTurn m) (if b then (if nat_le MAX_CALLS (length s.frames) then Err Depth else Ok (record { frames = first_frame number f values into ∷ callers; objects = s.objects; exchange = Nothing })) else Err (Left Callee))
+function_entered m s callers ret kinds values into number f here typed cells globals are waiting false e = tt
+function_entered m s callers ret kinds values into number f here typed cells globals are waiting true e =
     let x = present m s.objects in
+    let parts = and_parts (same_kind (kind_of f.ret) ret) (same_kinds (map (λ (p : Param). kind_of p.ty) f.params) kinds) e in
+    let t : Turn = record { frames = first_frame number f values into ∷ callers; objects = s.objects; exchange = Nothing } in
+    if_gives (IsTypedTurn m) (nat_le MAX_CALLS (length s.frames)) (Err Depth) (Ok t) tt (record {
+      calls = entered_calls m x number f values into callers here (function_at m number f typed here)
+          (subst (λ ks. AreOfKinds x ks values) (sym (kinds_are (map (λ (p : Param). kind_of p.ty) f.params) kinds parts.1)) are)
+          (subst (λ k. AreWaiting m x k into callers) (sym (kind_is (kind_of f.ret) ret parts.0)) waiting);
+      cells = cells;
+      globals = globals;
+    })
+
+-- a call of a value
+pub entered_gives : (m : Module) (s : State) (callers : List Frame) (ret : Kind) (kinds : List Kind) (values : List Value) (into : Option (List ℕ)) → functions_typed m m.functions ≡ true → Each (IsObject (present m s.objects)) s.objects → length m.globals ≤ length s.objects → AreOfKinds (present m s.objects) kinds values → AreWaiting m (present m s.objects) ret into callers → (v : Value) → IsOfKind (present m s.objects) Pointer v → Properly (IsTypedTurn m) (entry_turn m s callers ret kinds values into v)
+entered_gives m s callers ret kinds values into typed cells globals are waiting (Num w n) is = tt
+entered_gives m s callers ret kinds values into typed cells globals are waiting Null is = tt
+entered_gives m s callers ret kinds values into typed cells globals are waiting (At o d) is = tt
+entered_gives m s callers ret kinds values into typed cells globals are waiting (Fun number) is =
     let there = item_at m.functions number is in
-    let f = there.0 in
     let one : Function → Answer Turn = λ g. if is_called_as g ret kinds
     then (if nat_le MAX_CALLS (length s.frames) then Err Depth else Ok (record { frames = first_frame number g values into ∷ callers; objects = s.objects; exchange = Nothing }))
     else Err (Left Callee) in
-    let by_test : (b : Bool) → is_called_as f ret kinds ≡ b → Properly (IsTypedTurn m) (if b then (if nat_le MAX_CALLS (length s.frames) then Err Depth else Ok (record { frames = first_frame number f values into ∷ callers; objects = s.objects; exchange = Nothing })) else Err (Left Callee)) = entered_by m s callers ret kinds values into number f there.1 fits cells globals are waiting in
-    subst (λ o. Properly (IsTypedTurn m) (and_then (found_or Malformed o) one)) (sym there.1) (by_test (is_called_as f ret kinds) refl)
-  where
-    entered_by : (m : Module) (s : State) (callers : List Frame) (ret : Kind) (kinds : List Kind) (values : List Value) (into : Option (List ℕ)) (number : ℕ) (f : Function) → slice_get m.functions number ≡ Some f → list_all (λ f. function_typed m (env_of f) f) m.functions ≡ true → Each (IsObject (present m s.objects)) s.objects → length m.globals ≤ length s.objects → AreOfKinds (present m s.objects) kinds values → AreWaiting m (present m s.objects) ret into callers → (b : Bool) → is_called_as f ret kinds ≡ b → Properly (IsTypedTurn m) (if b then (if nat_le MAX_CALLS (length s.frames) then Err Depth else Ok (record { frames = first_frame number f values into ∷ callers; objects = s.objects; exchange = Nothing })) else Err (Left Callee))
-    entered_by m s callers ret kinds values into number f here fits cells globals are waiting false e = tt
-    entered_by m s callers ret kinds values into number f here fits cells globals are waiting true e =
-        let x = present m s.objects in
-        let parts = and_parts (same_kind (kind_of f.ret) ret) (same_kinds (map (λ (p : Param). kind_of p.ty) f.params) kinds) e in
-        let t : Turn = record { frames = first_frame number f values into ∷ callers; objects = s.objects; exchange = Nothing } in
-        if_gives (IsTypedTurn m) (nat_le MAX_CALLS (length s.frames)) (Err Depth) (Ok t) tt (record {
-          calls = entered_calls m x number f values into callers here (all_at (λ g. function_typed m (env_of g) g) m.functions number f fits here)
-              (subst (λ ks. AreOfKinds x ks values) (sym (kinds_are (map (λ (p : Param). kind_of p.ty) f.params) kinds parts.1)) are)
-              (subst (λ k. AreWaiting m x k into callers) (sym (kind_is (kind_of f.ret) ret parts.0)) waiting);
-          cells = cells;
-          globals = globals;
-        })
+    subst (λ o. Properly (IsTypedTurn m) (and_then (found_or Malformed o) one)) (sym there.1)
+    (function_entered m s callers ret kinds values into number there.0 there.1 typed cells globals are waiting (is_called_as there.0 ret kinds) refl)
 
 -- nothing isn't a number
 no_number : {X : Type 0} → NoValue ≡ Number W32 → X
@@ -139,7 +137,7 @@ named_gives m x c name ret kinds (Some g) f None e fits below =
     none_is there.number (sym e ∙ there.numbered)
 
 -- a call of a target
-pub called_gives : (m : Module) (input : List ℕ) (s : State) (ret : Kind) (kinds : List Kind) (into : Option (List ℕ)) (g : Frame) (gs : List Frame) (vs : List Value) → ((k b : ℕ) → slice_get input k ≡ Some b → b < 256) → list_all (λ f. function_typed m (env_of f) f) m.functions ≡ true → Calling m s ret into g gs → AreOfKinds (present m s.objects) kinds vs → (t : Target) → IsTarget (present m s.objects) ret kinds t → Properly (IsTypedTurn m) (call_turn m input s (g ∷ gs) ret kinds vs into t)
+pub called_gives : (m : Module) (input : List ℕ) (s : State) (ret : Kind) (kinds : List Kind) (into : Option (List ℕ)) (g : Frame) (gs : List Frame) (vs : List Value) → ((k b : ℕ) → slice_get input k ≡ Some b → b < 256) → functions_typed m m.functions ≡ true → Calling m s ret into g gs → AreOfKinds (present m s.objects) kinds vs → (t : Target) → IsTarget (present m s.objects) ret kinds t → Properly (IsTypedTurn m) (call_turn m input s (g ∷ gs) ret kinds vs into t)
 called_gives m input s ret kinds into g gs vs bytes fits c are (Outside outer) is = outer_gives m input s ret kinds into g gs vs bytes c are outer is
 called_gives m input s ret kinds into g gs vs bytes fits c are (Inside v) is = entered_gives m s (g ∷ gs) ret kinds vs into fits c.cells c.globals are c.waiting v is
 

@@ -20,28 +20,29 @@ use Rattle.ir_core.specs.Kinds.{kind_of, same_kind}
 use Rattle.ir_core.specs.State.{Local, Frame, State, Nothing, Turn, with_local}
 use Rattle.ir_core.specs.Operands.{value_of}
 use Rattle.ir_core.specs.Step.{Choice, choices_with, choices_of, chosen, given_at_once, in_block, goes_to, if_true, to_if_equal, switched}
-use Rattle.ir_core.specs.Typing.{Env, is_value, is_number, operand_fits, op_fits, into_fits, inst_fits, case_fits, kind_given, labels_of, term_fits}
+use Rattle.ir_core.specs.Typing.{Env, is_value, is_number, operand_fits, op_fits, into_fits, inst_fits, case_fits, kind_given, labels_of}
 use Rattle.std.specs.List.{list_all, list_any, filter}
 use Rattle.ir_core.specs.Valid.{env_of, is_phi, leads_to, predecessors, entries_fit}
 use Rattle.rd_num.specs.declared.width.Width.TheVariants.{W1}
-use Rattle.ir_sound.specs.Typed.{no_phi, has_label, phi_typed, phis_typed, labels_known, block_typed}
+use Rattle.ir_sound.specs.Typed.{no_phi, has_label, phi_typed, phis_typed, block_typed}
 use Rattle.ir_sound.specs.WellTyped.{Each, Properly, Present, IsOfKind, IsLocal, present, IsTypedTurn}
 use Rattle.ir_sound.proofs.AnswerLaws.{if_gives, then_gives}
 use Rattle.ir_sound.proofs.Frames.{Here, fits_awaits, given_are}
 use Rattle.ir_sound.proofs.Operands.{Covers, value_gives}
+use Rattle.ir_sound.proofs.Parts.{block_at}
 use Rattle.ir_sound.proofs.RowLaws.{all_at, found_any}
 use Rattle.ir_sound.proofs.SameLaws.{kind_is, name_is, none_is, not_true, same_itself, some_is}
 
 -- whether entries have one for a block of that label
-abbrev has_entry : List Entry → List ℕ → Bool
+abbrev pub has_entry : List Entry → List ℕ → Bool
 has_entry entries from = list_any (λ (e : Entry). same_name e.from from) entries
 
 -- operands of entries that are of a kind
-abbrev entries_of : Module → Env → Kind → List Entry → Bool
+abbrev pub entries_of : Module → Env → Kind → List Entry → Bool
 entries_of m env kind entries = list_all (λ (e : Entry). operand_fits m env kind e.value) entries
 
 -- a phi that an edge from a block of that label can take
-abbrev choice_fits : Module → Env → List ℕ → Choice → Bool
+abbrev pub choice_fits : Module → Env → List ℕ → Choice → Bool
 choice_fits m env from c = has_entry c.entries from && (into_fits env c.into c.kind && entries_of m env c.kind c.entries)
 
 -- the value of a phi
@@ -67,7 +68,7 @@ given_gives m x env locals cov all from (c ∷ cs) fits =
     (λ ls q. given_are x env c.into c.kind v ls (fits_awaits env c.into c.kind into) p q))
 
 -- what holds of the labels of all blocks that lead to a label holds of a block's that does
-predecessor_passes : (to : List ℕ) (test : List ℕ → Bool) (blocks : List Block) (number : ℕ) (p : Block) → slice_get blocks number ≡ Some p → leads_to to p ≡ true → list_all test (predecessors blocks to) ≡ true → test p.label ≡ true
+pub predecessor_passes : (to : List ℕ) (test : List ℕ → Bool) (blocks : List Block) (number : ℕ) (p : Block) → slice_get blocks number ≡ Some p → leads_to to p ≡ true → list_all test (predecessors blocks to) ≡ true → test p.label ≡ true
 predecessor_passes to test [] number p at leads all = none_is p at
 predecessor_passes to test (b ∷ bs) zero p at leads all =
     let same = some_is b p at in
@@ -81,7 +82,7 @@ predecessor_passes to test (b ∷ bs) (suc n) p at leads all = predecessor_passe
     rest false e = e
 
 -- the phis of a block fit an edge from a label, of which all holds that holds of the blocks that lead here
-choices_fit : (m : Module) (env : Env) (from : List (List ℕ)) (label : List ℕ) → ((test : List ℕ → Bool) → list_all test from ≡ true → test label ≡ true) → (is : List Inst) → phis_typed from is ≡ true → list_all (inst_fits m env) is ≡ true → list_all (choice_fits m env label) (choices_of is) ≡ true
+pub choices_fit : (m : Module) (env : Env) (from : List (List ℕ)) (label : List ℕ) → ((test : List ℕ → Bool) → list_all test from ≡ true → test label ≡ true) → (is : List Inst) → phis_typed from is ≡ true → list_all (inst_fits m env) is ≡ true → list_all (choice_fits m env label) (choices_of is) ≡ true
 choices_fit m env from label leads [] phis fits = refl
 choices_fit m env from label leads (i ∷ is) phis fits =
     let parts = and_parts (inst_fits m env i) (list_all (inst_fits m env) is) fits in
@@ -99,7 +100,7 @@ choices_fit m env from label leads (i ∷ is) phis fits =
     by_op op fit into phi go = refl
 
 -- no more phis than instructions
-choices_within : (is : List Inst) → length (choices_of is) ≤ length is
+pub choices_within : (is : List Inst) → length (choices_of is) ≤ length is
 choices_within [] = omega arith
 choices_within (i ∷ is) = by_op i.op (choices_within is)
   where
@@ -131,12 +132,9 @@ goes_gives m s f callers h cov fits label leads known =
     let from = h.stands.block in
     let to = found_any (has_label label) fn.blocks known in
     let target = to.item in
-    let block = all_at (block_typed m env fn) fn.blocks to.number target fits to.at_number in
-    let parts = and_parts (list_all (inst_fits m env) target.insts && term_fits m env (kind_of fn.ret) target.end) (phis_typed (predecessors fn.blocks target.label) target.insts && labels_known fn.blocks target) block in
-    let insts = (and_parts (list_all (inst_fits m env) target.insts) (term_fits m env (kind_of fn.ret) target.end) parts.0).0 in
-    let phis = (and_parts (phis_typed (predecessors fn.blocks target.label) target.insts) (labels_known fn.blocks target) parts.1).0 in
+    let parts = block_at m env fn to.number target fits to.at_number in
     let here : leads_to target.label from ≡ true = ap (λ l. leads_to l from) (name_is target.label label to.passes) ∙ leads in
-    let choices = choices_fit m env (predecessors fn.blocks target.label) from.label (λ test. predecessor_passes target.label test fn.blocks f.block from h.stands.in_function here) target.insts phis insts in
+    let choices = choices_fit m env (predecessors fn.blocks target.label) from.label (λ test. predecessor_passes target.label test fn.blocks f.block from h.stands.in_function here) target.insts parts.phis parts.insts in
     let one : Answer Turn = in_block m s f callers from.label to.number target in
     let gives : Properly (IsTypedTurn m) one = then_gives (Each (IsLocal x env)) (IsTypedTurn m) (given_at_once m f.locals from.label (choices_of target.insts))
     (λ locals. Ok (record { frames = record f { block = to.number; next = length (choices_of target.insts); locals = locals } ∷ callers; objects = s.objects; exchange = Nothing }))

@@ -1,6 +1,7 @@
 pub mod AnswerLaws
 pub mod SameLaws
 pub mod RowLaws
+pub mod Parts
 pub mod Leads
 pub mod Operands
 pub mod Objects

@@ -32,17 +32,18 @@ use Rattle.ir_core.specs.Operands.{value_of, named_value, global_number, functio
 use Rattle.ir_core.specs.Calls.{same_kinds, bound}
 use Rattle.ir_core.specs.Globals.{Part, zeros, end_to_end, spread, cells_or_zeros, init_at, element_at, cells_of_init, part_of, global_object, first_objects}
 use Rattle.ir_core.specs.Run.{first_arguments, start_in, start_at, source_start}
-use Rattle.ir_core.specs.Typing.{Env, is_result}
+use Rattle.ir_core.specs.Typing.{Env}
 use Rattle.std.specs.List.{list_all}
 use Rattle.ir_core.specs.Valid.{env_of}
 use Rattle.ir_core.specs.Refusals.{is_main, has_main}
 use Rattle.ir_core.proofs.Fits.{literal_fits}
-use Rattle.ir_sound.specs.Typed.{param_typed, entry_typed, block_typed, function_typed, IsTyped, is_sized}
+use Rattle.ir_sound.specs.Typed.{IsTyped, is_sized}
 use Rattle.ir_sound.specs.WellTyped.{Each, Present, IsOfKind, IsCell, IsObject, IsLocal, present, IsWellTyped}
 use Rattle.ir_sound.proofs.Calls.{bound_are, first_stands}
 use Rattle.ir_sound.proofs.Objects.{cells_are}
 use Rattle.ir_sound.proofs.Operands.{AreOfKinds, Covers, function_below, global_below, truth_is}
-use Rattle.ir_sound.proofs.RowLaws.{Each_both, Each_replicate, all_at, first_passes, found_any, length_map}
+use Rattle.ir_sound.proofs.Parts.{function_at}
+use Rattle.ir_sound.proofs.RowLaws.{Each_both, Each_replicate, first_passes, found_any, length_map}
 use Rattle.ir_sound.proofs.SameLaws.{kind_is, kinds_are, not_true, some_is}
 
 -- an answer that has a property where it is a value
@@ -209,14 +210,13 @@ start_gives m typed number f at main =
     let c : Covers m x = record { globals = omega arith; functions = refl } in
     let kinds = map (λ (p : Param). kind_of p.ty) f.params in
     let parts = and_parts (same_kind (kind_of f.ret) (Number W32)) (same_kinds kinds [] || same_kinds kinds (Number W32 ∷ Pointer ∷ [])) main in
-    let fits = all_at (λ g. function_typed m (env_of g) g) m.functions number f typed.functions at in
-    let params = (and_parts (is_result f.ret) (list_all (param_typed env) f.params) (and_parts (is_result f.ret && list_all (param_typed env) f.params) (entry_typed f.blocks && list_all (block_typed m env f) f.blocks) fits).0).1 in
+    let parts_of_main = function_at m number f typed.functions at in
     let two : AreOfKinds x (Number W32 ∷ Pointer ∷ []) first_arguments = ((refl, omega arith), (tt, tt)) in
     let locals : Each (IsLocal x env) (bound f.params first_arguments) = ⊎_elim
     (λ e. none_bound x env f.params first_arguments (kinds_are kinds [] e))
-    (λ e. bound_are x env f.params first_arguments params (subst (λ ks. AreOfKinds x ks first_arguments) (sym (kinds_are kinds (Number W32 ∷ Pointer ∷ []) e)) two))
+    (λ e. bound_are x env f.params first_arguments parts_of_main.params (subst (λ ks. AreOfKinds x ks first_arguments) (sym (kinds_are kinds (Number W32 ∷ Pointer ∷ []) e)) two))
     (or_cases (same_kinds kinds []) (same_kinds kinds (Number W32 ∷ Pointer ∷ [])) parts.1) in
-    let s = first_stands m x number f first_arguments None at fits locals in (
+    let s = first_stands m x number f first_arguments None at parts_of_main locals in (
       record {
         calls = (s.0, subst (λ g. kind_of g.ret ≡ Number W32) (sym s.1) (kind_is (kind_of f.ret) (Number W32) parts.0));
         cells = globals_hold m x c m.globals typed.sizes typed.inits;

@@ -31,7 +31,7 @@ use Rattle.ir_core.specs.Valid.{env_of, is_phi, predecessors}
 use Rattle.ir_core.proofs.Steps.{turn_here}
 use Rattle.ir_core.specs.Run.{source_start, source_run}
 use Rattle.behavior.specs.Ending as ending
-use Rattle.ir_sound.specs.Typed.{has_label, phis_typed, labels_known, block_typed, entry_typed, param_typed, function_typed, IsTyped}
+use Rattle.ir_sound.specs.Typed.{has_label, block_typed, functions_typed, IsTyped}
 use Rattle.ir_sound.specs.WellTyped.{Each, IsProper, Properly, IsOfKind, present, AreOver, IsTypedTurn, IsProperEnding, IsWellTyped}
 use Rattle.ir_sound.proofs.AnswerLaws.{then_gives}
 use Rattle.ir_sound.proofs.Calls.{IsTarget, called_gives, returned_gives, target_gives}
@@ -41,7 +41,8 @@ use Rattle.ir_sound.proofs.Frames.{Here, alloca_turn, fits_awaits, further, give
 use Rattle.ir_sound.proofs.Objects.{store_gives}
 use Rattle.ir_sound.proofs.Operands.{AreOfKinds, Covers, args_give, value_gives}
 use Rattle.ir_sound.proofs.Operations.{result_gives}
-use Rattle.ir_sound.proofs.RowLaws.{Each_and, Each_from, all_at, below_at}
+use Rattle.ir_sound.proofs.Parts.{BlockParts, block_at, function_at}
+use Rattle.ir_sound.proofs.RowLaws.{Each_and, Each_from, Each_more, all_at, below_at}
 use Rattle.ir_sound.proofs.SameLaws.{kind_is, none_is, not_true, some_is}
 use Rattle.ir_sound.proofs.Start.{start_is}
 
@@ -52,7 +53,7 @@ byte_at (i ∷ is) are zero b e = subst (λ n. n < 256) (some_is i b e) are.0
 byte_at (i ∷ is) are (suc k) b e = byte_at is are.1 k b e
 
 -- an instruction that fits
-instruction_gives : (m : Module) (input : List ℕ) (s : State) (f : Frame) (callers : List Frame) → ((k b : ℕ) → slice_get input k ≡ Some b → b < 256) → list_all (λ g. function_typed m (env_of g) g) m.functions ≡ true → (h : Here m s.objects f callers) → Covers m (present m s.objects) → f.next < length h.stands.block.insts → (into : Option (List ℕ)) (op : Op) → is_phi op ≡ false → op_fits m (env_of h.stands.fn) op ≡ true → into_fits (env_of h.stands.fn) into (kind_given op) ≡ true → Properly (IsTypedTurn m) (instruction_turn m input s f callers into op)
+instruction_gives : (m : Module) (input : List ℕ) (s : State) (f : Frame) (callers : List Frame) → ((k b : ℕ) → slice_get input k ≡ Some b → b < 256) → functions_typed m m.functions ≡ true → (h : Here m s.objects f callers) → Covers m (present m s.objects) → f.next < length h.stands.block.insts → (into : Option (List ℕ)) (op : Op) → is_phi op ≡ false → op_fits m (env_of h.stands.fn) op ≡ true → into_fits (env_of h.stands.fn) into (kind_given op) ≡ true → Properly (IsTypedTurn m) (instruction_turn m input s f callers into op)
 instruction_gives m input s f callers bytes functions h cov below into (Alloca ty count) phi fits in' = alloca_turn m s f callers h into (count * (shape_of m.types ty).size) below in'
 instruction_gives m input s f callers bytes functions h cov below into (Store ty a p) phi fits in' =
     let x = present m s.objects in
@@ -119,36 +120,28 @@ terminator_gives m s f callers h cov (Switch ty a default cases) fits all =
     (λ v p. then_gives P (IsTypedTurn m) (switched m v default cases) (λ to. goes_to m s f callers h.stands.fn h.stands.block.label to) (switched_gives m x cov (kind_of ty) P v default cases parts.0 p both.1 all.0 all.1) (λ to q. q))
 terminator_gives m s f callers h cov Unreachable fits all = tt
 
+-- a terminator of a block that fits
+end_gives : (m : Module) (s : State) (f : Frame) (callers : List Frame) (h : Here m s.objects f callers) → Covers m (present m s.objects) → list_all (block_typed m (env_of h.stands.fn) h.stands.fn) h.stands.fn.blocks ≡ true → BlockParts m (env_of h.stands.fn) h.stands.fn h.stands.block → Properly (IsTypedTurn m) (terminator_turn m s f callers h.stands.fn h.stands.block.label h.stands.block.end)
+end_gives m s f callers h cov blocks parts =
+    let labels = labels_of h.stands.block.end in
+    let known = Each_and (λ to. list_any (λ l. same_name l to) labels ≡ true) (λ to. list_any (has_label to) h.stands.fn.blocks ≡ true) labels (leads_each labels) (Each_from (λ to. list_any (has_label to) h.stands.fn.blocks) labels parts.labels) in
+    terminator_gives m s f callers h cov h.stands.block.end parts.end (Each_more _ (λ to. Properly (IsTypedTurn m) (goes_to m s f callers h.stands.fn h.stands.block.label to)) labels (λ to k. goes_gives m s f callers h cov blocks to k.0 k.1) known)
+
 -- what the innermost call does next
-here_gives : (m : Module) (input : List ℕ) (s : State) (f : Frame) (callers : List Frame) → ((k b : ℕ) → slice_get input k ≡ Some b → b < 256) → list_all (λ g. function_typed m (env_of g) g) m.functions ≡ true → (h : Here m s.objects f callers) → (next : Option Inst) → slice_get h.stands.block.insts f.next ≡ next → Properly (IsTypedTurn m) (turn_at m input s f callers h.stands.fn h.stands.block next)
+here_gives : (m : Module) (input : List ℕ) (s : State) (f : Frame) (callers : List Frame) → ((k b : ℕ) → slice_get input k ≡ Some b → b < 256) → functions_typed m m.functions ≡ true → (h : Here m s.objects f callers) → (next : Option Inst) → slice_get h.stands.block.insts f.next ≡ next → Properly (IsTypedTurn m) (turn_at m input s f callers h.stands.fn h.stands.block next)
 here_gives m input s f callers bytes functions h next at =
-    let fn = h.stands.fn in
-    let b = h.stands.block in
-    let env = env_of fn in
-    let function = all_at (λ g. function_typed m (env_of g) g) m.functions f.function fn functions h.stands.in_module in
-    let blocks = (and_parts (entry_typed fn.blocks) (list_all (block_typed m env fn) fn.blocks) (and_parts (is_result fn.ret && list_all (param_typed env) fn.params) (entry_typed fn.blocks && list_all (block_typed m env fn) fn.blocks) function).1).1 in
-    let block = and_parts (list_all (inst_fits m env) b.insts && term_fits m env (kind_of fn.ret) b.end) (phis_typed (predecessors fn.blocks b.label) b.insts && labels_known fn.blocks b) (all_at (block_typed m env fn) fn.blocks f.block b blocks h.stands.in_function) in
-    let first = and_parts (list_all (inst_fits m env) b.insts) (term_fits m env (kind_of fn.ret) b.end) block.0 in
-    let second = and_parts (phis_typed (predecessors fn.blocks b.label) b.insts) (labels_known fn.blocks b) block.1 in
-    let cov : Covers m (present m s.objects) = record { globals = h.globals; functions = refl } in
-    of_next next at blocks first.0 first.1 second.0 second.1 cov
+    let function = function_at m f.function h.stands.fn functions h.stands.in_module in
+    of_next next at function.blocks (block_at m (env_of h.stands.fn) h.stands.fn f.block h.stands.block function.blocks h.stands.in_function) (record { globals = h.globals; functions = refl })
   where
-    of_next : (o : Option Inst) → slice_get h.stands.block.insts f.next ≡ o → list_all (block_typed m (env_of h.stands.fn) h.stands.fn) h.stands.fn.blocks ≡ true → list_all (inst_fits m (env_of h.stands.fn)) h.stands.block.insts ≡ true → term_fits m (env_of h.stands.fn) (kind_of h.stands.fn.ret) h.stands.block.end ≡ true → phis_typed (predecessors h.stands.fn.blocks h.stands.block.label) h.stands.block.insts ≡ true → labels_known h.stands.fn.blocks h.stands.block ≡ true → Covers m (present m s.objects) → Properly (IsTypedTurn m) (turn_at m input s f callers h.stands.fn h.stands.block o)
-    of_next (Some i) e blocks insts end phis labels cov =
+    of_next : (o : Option Inst) → slice_get h.stands.block.insts f.next ≡ o → list_all (block_typed m (env_of h.stands.fn) h.stands.fn) h.stands.fn.blocks ≡ true → BlockParts m (env_of h.stands.fn) h.stands.fn h.stands.block → Covers m (present m s.objects) → Properly (IsTypedTurn m) (turn_at m input s f callers h.stands.fn h.stands.block o)
+    of_next (Some i) e blocks parts cov =
         let env = env_of h.stands.fn in
-        let one = and_parts (op_fits m env i.op) (into_fits env i.result (kind_given i.op)) (all_at (inst_fits m env) h.stands.block.insts f.next i insts e) in
-        instruction_gives m input s f callers bytes functions h cov (below_at h.stands.block.insts f.next i e) i.result i.op (past_is_none (predecessors h.stands.fn.blocks h.stands.block.label) h.stands.block.insts f.next i phis e h.stands.past_phis) one.0 one.1
-    of_next None e blocks insts end phis labels cov =
-        let ls = labels_of h.stands.block.end in
-        let known = Each_and (λ to. list_any (λ l. same_name l to) ls ≡ true) (λ to. list_any (has_label to) h.stands.fn.blocks ≡ true) ls (leads_each ls) (Each_from (λ to. list_any (has_label to) h.stands.fn.blocks) ls labels) in
-        terminator_gives m s f callers h cov h.stands.block.end end (Each_goes ls known)
-      where
-        Each_goes : (ls : List (List ℕ)) → Each (λ to. (list_any (λ l. same_name l to) (labels_of h.stands.block.end) ≡ true) × (list_any (has_label to) h.stands.fn.blocks ≡ true)) ls → Each (λ to. Properly (IsTypedTurn m) (goes_to m s f callers h.stands.fn h.stands.block.label to)) ls
-        Each_goes [] all = tt
-        Each_goes (l ∷ ls2) all = (goes_gives m s f callers h cov blocks l all.0.0 all.0.1, Each_goes ls2 all.1)
+        let one = and_parts (op_fits m env i.op) (into_fits env i.result (kind_given i.op)) (all_at (inst_fits m env) h.stands.block.insts f.next i parts.insts e) in
+        instruction_gives m input s f callers bytes functions h cov (below_at h.stands.block.insts f.next i e) i.result i.op (past_is_none (predecessors h.stands.fn.blocks h.stands.block.label) h.stands.block.insts f.next i parts.phis e h.stands.past_phis) one.0 one.1
+    of_next None e blocks parts cov = end_gives m s f callers h cov blocks parts
 
 -- a turn of calls over memory
-pub turn_gives : (m : Module) (input : List ℕ) (s : State) → ((k b : ℕ) → slice_get input k ≡ Some b → b < 256) → list_all (λ g. function_typed m (env_of g) g) m.functions ≡ true → (frames : List Frame) → AreOver m frames s.objects → Properly (IsTypedTurn m) (turn_of m input s frames)
+pub turn_gives : (m : Module) (input : List ℕ) (s : State) → ((k b : ℕ) → slice_get input k ≡ Some b → b < 256) → functions_typed m m.functions ≡ true → (frames : List Frame) → AreOver m frames s.objects → Properly (IsTypedTurn m) (turn_of m input s frames)
 turn_gives m input s bytes functions [] over = absurd over.calls
 turn_gives m input s bytes functions (f ∷ callers) over =
     let stands = over.calls.0 in
