@@ -8,6 +8,7 @@ use Rattle.ir_core.specs.declared.instruction.Entry.{Entry}
 use Rattle.ir_core.specs.declared.instruction.Case.{Case}
 use Rattle.ir_core.specs.declared.instruction.Inst.{Inst}
 use Rattle.ir_core.specs.declared.module.Block.{Block}
+use Rattle.ir_core.specs.declared.module.Function.{Function}
 use Rattle.ir_core.specs.declared.module.Module.{Module}
 use Rattle.ir_core.specs.declared.memory.Value.{Value}
 use Rattle.ir_core.specs.declared.memory.Value.TheVariants.{Num, Null, At, Fun}
@@ -68,7 +69,7 @@ given_gives m x env locals cov all from (c ∷ cs) fits =
     (λ ls q. given_are x env c.into c.kind v ls (fits_awaits env c.into c.kind into) p q))
 
 -- what holds of the labels of all blocks that lead to a label holds of a block's that does
-pub predecessor_passes : (to : List ℕ) (test : List ℕ → Bool) (blocks : List Block) (number : ℕ) (p : Block) → slice_get blocks number ≡ Some p → leads_to to p ≡ true → list_all test (predecessors blocks to) ≡ true → test p.label ≡ true
+predecessor_passes : (to : List ℕ) (test : List ℕ → Bool) (blocks : List Block) (number : ℕ) (p : Block) → slice_get blocks number ≡ Some p → leads_to to p ≡ true → list_all test (predecessors blocks to) ≡ true → test p.label ≡ true
 predecessor_passes to test [] number p at leads all = none_is p at
 predecessor_passes to test (b ∷ bs) zero p at leads all =
     let same = some_is b p at in
@@ -82,7 +83,7 @@ predecessor_passes to test (b ∷ bs) (suc n) p at leads all = predecessor_passe
     rest false e = e
 
 -- the phis of a block fit an edge from a label, of which all holds that holds of the blocks that lead here
-pub choices_fit : (m : Module) (env : Env) (from : List (List ℕ)) (label : List ℕ) → ((test : List ℕ → Bool) → list_all test from ≡ true → test label ≡ true) → (is : List Inst) → phis_typed from is ≡ true → list_all (inst_fits m env) is ≡ true → list_all (choice_fits m env label) (choices_of is) ≡ true
+choices_fit : (m : Module) (env : Env) (from : List (List ℕ)) (label : List ℕ) → ((test : List ℕ → Bool) → list_all test from ≡ true → test label ≡ true) → (is : List Inst) → phis_typed from is ≡ true → list_all (inst_fits m env) is ≡ true → list_all (choice_fits m env label) (choices_of is) ≡ true
 choices_fit m env from label leads [] phis fits = refl
 choices_fit m env from label leads (i ∷ is) phis fits =
     let parts = and_parts (inst_fits m env i) (list_all (inst_fits m env) is) fits in
@@ -123,6 +124,12 @@ past_is_none from (j ∷ is) n i fits at past = by_op j.op refl (and_parts (phi_
     by_op op e rest h go zero same = not_phi (is_phi i.op) (subst (λ o. not (is_phi o) ≡ true) (sym e ∙ ap (λ (k : Inst). k.op) (some_is j i (sym (ap (λ n2. slice_get (j ∷ is) n2) same) ∙ at))) refl)
     by_op op e rest h go (suc k) same = not_phi (is_phi i.op) (all_at (λ (q : Inst). not (is_phi q.op)) is k i rest (sym (ap (λ n2. slice_get (j ∷ is) n2) same) ∙ at))
 
+-- along an edge each phi of the block to which it leads has an entry, which fits
+pub edge_choices : (m : Module) (env : Env) (fn : Function) (k n : ℕ) (from to : Block) → list_all (block_typed m env fn) fn.blocks ≡ true → slice_get fn.blocks k ≡ Some from → slice_get fn.blocks n ≡ Some to → leads_to to.label from ≡ true → list_all (choice_fits m env from.label) (choices_of to.insts) ≡ true
+edge_choices m env fn k n from to typed at there leads =
+    let parts = block_at m env fn n to typed there in
+    choices_fit m env (predecessors fn.blocks to.label) from.label (λ test. predecessor_passes to.label test fn.blocks k from at leads) to.insts parts.phis parts.insts
+
 -- along an edge to a label
 pub goes_gives : (m : Module) (s : State) (f : Frame) (callers : List Frame) → (h : Here m s.objects f callers) → Covers m (present m s.objects) → list_all (block_typed m (env_of h.stands.fn) h.stands.fn) h.stands.fn.blocks ≡ true → (label : List ℕ) → list_any (λ to. same_name to label) (labels_of h.stands.block.end) ≡ true → list_any (has_label label) h.stands.fn.blocks ≡ true → Properly (IsTypedTurn m) (goes_to m s f callers h.stands.fn h.stands.block.label label)
 goes_gives m s f callers h cov fits label leads known =
@@ -132,9 +139,8 @@ goes_gives m s f callers h cov fits label leads known =
     let from = h.stands.block in
     let to = found_any (has_label label) fn.blocks known in
     let target = to.item in
-    let parts = block_at m env fn to.number target fits to.at_number in
     let here : leads_to target.label from ≡ true = ap (λ l. leads_to l from) (name_is target.label label to.passes) ∙ leads in
-    let choices = choices_fit m env (predecessors fn.blocks target.label) from.label (λ test. predecessor_passes target.label test fn.blocks f.block from h.stands.in_function here) target.insts parts.phis parts.insts in
+    let choices = edge_choices m env fn f.block to.number from target fits h.stands.in_function to.at_number here in
     let one : Answer Turn = in_block m s f callers from.label to.number target in
     let gives : Properly (IsTypedTurn m) one = then_gives (Each (IsLocal x env)) (IsTypedTurn m) (given_at_once m f.locals from.label (choices_of target.insts))
     (λ locals. Ok (record { frames = record f { block = to.number; next = length (choices_of target.insts); locals = locals } ∷ callers; objects = s.objects; exchange = Nothing }))

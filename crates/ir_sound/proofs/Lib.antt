@@ -11,6 +11,8 @@ pub mod Edges
 pub mod Outside
 pub mod Calls
 pub mod Start
+pub mod Instructions
+pub mod Terminators
 pub mod Steps
 pub mod NoFaults
 pub mod SameTypes

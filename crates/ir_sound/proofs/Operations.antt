@@ -188,17 +188,6 @@ word_gives x (Number w) (Fun f) index is = absurd is
 word_gives x NoValue v index is = not_true index
 word_gives x Pointer v index is = not_true index
 
--- an index that is no literal
-other_gives : (m : Module) (x : Present) (env : Env) (locals : List Local) → Covers m x → Each (IsLocal x env) locals → (kind : Kind) (a : Operand) → is_index kind ≡ true → operand_fits m env kind a ≡ true → known_operand kind a ≡ None → Properly (λ v. Properly (AgreesOne (known_operand kind a)) (index_word v)) (value_of m locals kind a)
-other_gives m x env locals c all kind a index fits none =
-    gives_more (IsOfKind x kind) (λ v. Properly (AgreesOne (known_operand kind a)) (index_word v)) (value_of m locals kind a) (value_gives m x env locals c all kind a fits)
-    (λ v p. subst (λ o. Properly (AgreesOne o) (index_word v)) (sym none) (word_gives x kind v index p))
-
--- an index of an instruction
-index_gives : (m : Module) (x : Present) (env : Env) (locals : List Local) → Covers m x → Each (IsLocal x env) locals → (kind : Kind) (a : Operand) → is_index kind ≡ true → operand_fits m env kind a ≡ true → Properly (λ v. Properly (AgreesOne (known_operand kind a)) (index_word v)) (value_of m locals kind a)
-index_gives m x env locals c all kind (Int n) index fits = literal_gives kind n index
-index_gives m x env locals c all kind a index fits = other_gives m x env locals c all kind a index fits refl
-
 -- the words of indices
 words_give : (args : List Arg) (vs : List Value) → Beside IsIndex args vs → Properly (Agree (map known_arg args)) (index_words vs)
 words_give [] [] p = tt
@@ -208,19 +197,6 @@ words_give (a ∷ args) (v ∷ vs) p =
     let A : List ℕ → Type 0 = Agree (map known_arg (a ∷ args)) in
     then_gives (AgreesOne (known_arg a)) A (index_word v) (λ n. and_then (index_words vs) (λ ns. Ok (n ∷ ns))) p.0
     (λ n q. then_gives (Agree (map known_arg args)) A (index_words vs) (λ ns. Ok (n ∷ ns)) (words_give args vs p.1) (λ ns r. agree_with (known_arg a) (map known_arg args) n ns q r))
-
--- the place to which indices lead
-gep_gives : (m : Module) (x : Present) (env : Env) (locals : List Local) → Covers m x → Each (IsLocal x env) locals → (ty : Ty) (p : Operand) (indices : List Arg) → op_fits m env (Gep ty p indices) ≡ true → (objects : Memory) → Properly (IsOfKind x Pointer) (result_of m objects locals (Gep ty p indices))
-gep_gives m x env locals c all ty p indices fits objects =
-    let test : Arg → Bool = λ a. is_index (kind_of a.ty) && operand_fits m env (kind_of a.ty) a.value in
-    let parts = and_parts (operand_fits m env Pointer p) (list_all test indices && leads_from m.types ty (map known_arg indices)) fits in
-    let both = and_parts (list_all test indices) (leads_from m.types ty (map known_arg indices)) parts.1 in
-    let K : Value → Type 0 = IsOfKind x Pointer in
-    then_gives K K (value_of m locals Pointer p) (λ v. and_then (values_of m locals indices) (λ is. and_then (index_words is) (λ ns. and_then (bytes_to m ty ns) (λ by. moved_pointer by v)))) (value_gives m x env locals c all Pointer p parts.0)
-    (λ v q. then_gives (Beside IsIndex indices) K (values_of m locals indices) (λ is. and_then (index_words is) (λ ns. and_then (bytes_to m ty ns) (λ by. moved_pointer by v)))
-    (values_give m locals IsIndex test (λ a fit. let two = and_parts (is_index (kind_of a.ty)) (operand_fits m env (kind_of a.ty) a.value) fit in index_gives m x env locals c all (kind_of a.ty) a.value two.0 two.1) indices both.0)
-    (λ is r. then_gives (Agree (map known_arg indices)) K (index_words is) (λ ns. and_then (bytes_to m ty ns) (λ by. moved_pointer by v)) (words_give indices is r)
-    (λ ns t. then_gives Anything K (bytes_to m ty ns) (λ by. moved_pointer by v) (bytes_give m ty (map known_arg indices) ns t both.1) (λ by w. moved_gives x by v q))))
 
 -- an instruction that gives a value and changes nothing else
 abbrev pub is_plain : Op → Bool
@@ -233,43 +209,68 @@ is_plain (Load ty p) = true
 is_plain (Gep ty p indices) = true
 is_plain other = false
 
--- gives one of the kind that it says
-pub result_gives : (m : Module) (x : Present) (env : Env) (locals : List Local) (objects : Memory) → Covers m x → Each (IsLocal x env) locals → Each (IsObject x) objects → (op : Op) → is_plain op ≡ true → op_fits m env op ≡ true → Properly (IsOfKind x (kind_given op)) (result_of m objects locals op)
-result_gives m x env locals objects c all held (Bin op ty a b) plain fits =
-    let parts = and_parts (bin_fits op (kind_of ty)) (operand_fits m env (kind_of ty) a && operand_fits m env (kind_of ty) b) fits in
-    let both = and_parts _ _ parts.1 in
-    let K : Value → Type 0 = IsOfKind x (kind_of ty) in
-    then_gives K K (value_of m locals (kind_of ty) a) (λ u. and_then (value_of m locals (kind_of ty) b) (λ v. binary_value op (kind_of ty) u v)) (value_gives m x env locals c all (kind_of ty) a both.0)
-    (λ u p. then_gives K K (value_of m locals (kind_of ty) b) (λ v. binary_value op (kind_of ty) u v) (value_gives m x env locals c all (kind_of ty) b both.1)
-    (λ v q. bin_gives x op (kind_of ty) u v (bin_number op (kind_of ty) parts.0) p q))
-result_gives m x env locals objects c all held (Compare pred ty a b) plain fits =
-    let parts = and_parts (is_value (kind_of ty)) (operand_fits m env (kind_of ty) a && operand_fits m env (kind_of ty) b) fits in
-    let both = and_parts (operand_fits m env (kind_of ty) a) (operand_fits m env (kind_of ty) b) parts.1 in
-    let K : Value → Type 0 = IsOfKind x (kind_of ty) in
-    let R : Value → Type 0 = IsOfKind x (Number W1) in
-    then_gives K R (value_of m locals (kind_of ty) a) (λ u. and_then (value_of m locals (kind_of ty) b) (λ v. compared_value objects pred (kind_of ty) u v)) (value_gives m x env locals c all (kind_of ty) a both.0)
-    (λ u p. then_gives K R (value_of m locals (kind_of ty) b) (λ v. compared_value objects pred (kind_of ty) u v) (value_gives m x env locals c all (kind_of ty) b both.1)
-    (λ v q. compare_gives x objects pred (kind_of ty) u v parts.0 p q))
-result_gives m x env locals objects c all held (Cast op from a to) plain fits =
-    let parts = and_parts (cast_fits op (kind_of from) (kind_of to)) (operand_fits m env (kind_of from) a) fits in
-    then_gives (IsOfKind x (kind_of from)) (IsOfKind x (kind_of to)) (value_of m locals (kind_of from) a) (λ v. cast_value op (kind_of from) (kind_of to) v) (value_gives m x env locals c all (kind_of from) a parts.1)
-    (λ v p. cast_gives x op (kind_of from) (kind_of to) v parts.0 p)
-result_gives m x env locals objects c all held (Select condition ty a ty2 b) plain fits =
-    let parts = and_parts (operand_fits m env (Number W1) condition) ((is_value (kind_of ty) && same_kind (kind_of ty) (kind_of ty2)) && (operand_fits m env (kind_of ty) a && operand_fits m env (kind_of ty2) b)) fits in
-    let more = and_parts (is_value (kind_of ty) && same_kind (kind_of ty) (kind_of ty2)) (operand_fits m env (kind_of ty) a && operand_fits m env (kind_of ty2) b) parts.1 in
-    let both = and_parts (operand_fits m env (kind_of ty) a) (operand_fits m env (kind_of ty2) b) more.1 in
-    let same = kind_is (kind_of ty) (kind_of ty2) (and_parts (is_value (kind_of ty)) (same_kind (kind_of ty) (kind_of ty2)) more.0).1 in
-    let K : Value → Type 0 = IsOfKind x (kind_of ty) in
-    then_gives (IsOfKind x (Number W1)) K (value_of m locals (Number W1) condition) (λ w. and_then (value_of m locals (kind_of ty) a) (λ u. and_then (value_of m locals (kind_of ty2) b) (λ v. selected w u v)))
-    (value_gives m x env locals c all (Number W1) condition parts.0)
-    (λ w o. then_gives K K (value_of m locals (kind_of ty) a) (λ u. and_then (value_of m locals (kind_of ty2) b) (λ v. selected w u v)) (value_gives m x env locals c all (kind_of ty) a both.0)
-    (λ u p. then_gives (IsOfKind x (kind_of ty2)) K (value_of m locals (kind_of ty2) b) (λ v. selected w u v) (value_gives m x env locals c all (kind_of ty2) b both.1)
-    (λ v q. select_gives x (kind_of ty) w u v o p (subst (λ k. IsOfKind x k v) (sym same) q))))
-result_gives m x env locals objects c all held (Freeze ty a) plain fits =
-    value_gives m x env locals c all (kind_of ty) a (and_parts (is_value (kind_of ty)) (operand_fits m env (kind_of ty) a) fits).1
-result_gives m x env locals objects c all held (Load ty p) plain fits =
-    let parts = and_parts (is_value (kind_of ty)) (operand_fits m env Pointer p) fits in
-    then_gives (IsOfKind x Pointer) (IsOfKind x (kind_of ty)) (value_of m locals Pointer p) (λ v. load_at objects (kind_of ty) v) (value_gives m x env locals c all Pointer p parts.1)
-    (λ v q. load_gives x objects held (kind_of ty) v parts.0)
-result_gives m x env locals objects c all held (Gep ty p indices) plain fits = gep_gives m x env locals c all ty p indices fits objects
-result_gives m x env locals objects c all held op plain fits = not_true plain
+module _ (m : Module) (x : Present) (env : Env) (locals : List Local) (c : Covers m x) (all : Each (IsLocal x env) locals) where
+  -- an index that is no literal
+  other_gives : (kind : Kind) (a : Operand) → is_index kind ≡ true → operand_fits m env kind a ≡ true → known_operand kind a ≡ None → Properly (λ v. Properly (AgreesOne (known_operand kind a)) (index_word v)) (value_of m locals kind a)
+  other_gives kind a index fits none =
+      gives_more (IsOfKind x kind) (λ v. Properly (AgreesOne (known_operand kind a)) (index_word v)) (value_of m locals kind a) (value_gives m x env locals c all kind a fits)
+      (λ v p. subst (λ o. Properly (AgreesOne o) (index_word v)) (sym none) (word_gives x kind v index p))
+
+  -- an index of an instruction
+  index_gives : (kind : Kind) (a : Operand) → is_index kind ≡ true → operand_fits m env kind a ≡ true → Properly (λ v. Properly (AgreesOne (known_operand kind a)) (index_word v)) (value_of m locals kind a)
+  index_gives kind (Int n) index fits = literal_gives kind n index
+  index_gives kind a index fits = other_gives kind a index fits refl
+
+  -- the place to which indices lead
+  gep_gives : (ty : Ty) (p : Operand) (indices : List Arg) → op_fits m env (Gep ty p indices) ≡ true → (objects : Memory) → Properly (IsOfKind x Pointer) (result_of m objects locals (Gep ty p indices))
+  gep_gives ty p indices fits objects =
+      let test : Arg → Bool = λ a. is_index (kind_of a.ty) && operand_fits m env (kind_of a.ty) a.value in
+      let parts = and_parts (operand_fits m env Pointer p) (list_all test indices && leads_from m.types ty (map known_arg indices)) fits in
+      let both = and_parts (list_all test indices) (leads_from m.types ty (map known_arg indices)) parts.1 in
+      let K : Value → Type 0 = IsOfKind x Pointer in
+      then_gives K K (value_of m locals Pointer p) (λ v. and_then (values_of m locals indices) (λ is. and_then (index_words is) (λ ns. and_then (bytes_to m ty ns) (λ by. moved_pointer by v)))) (value_gives m x env locals c all Pointer p parts.0)
+      (λ v q. then_gives (Beside IsIndex indices) K (values_of m locals indices) (λ is. and_then (index_words is) (λ ns. and_then (bytes_to m ty ns) (λ by. moved_pointer by v)))
+      (values_give m locals IsIndex test (λ a fit. let two = and_parts (is_index (kind_of a.ty)) (operand_fits m env (kind_of a.ty) a.value) fit in index_gives (kind_of a.ty) a.value two.0 two.1) indices both.0)
+      (λ is r. then_gives (Agree (map known_arg indices)) K (index_words is) (λ ns. and_then (bytes_to m ty ns) (λ by. moved_pointer by v)) (words_give indices is r)
+      (λ ns t. then_gives Anything K (bytes_to m ty ns) (λ by. moved_pointer by v) (bytes_give m ty (map known_arg indices) ns t both.1) (λ by w. moved_gives x by v q))))
+
+  -- gives one of the kind that it says
+  pub result_gives : (objects : Memory) → Each (IsObject x) objects → (op : Op) → is_plain op ≡ true → op_fits m env op ≡ true → Properly (IsOfKind x (kind_given op)) (result_of m objects locals op)
+  result_gives objects held (Bin op ty a b) plain fits =
+      let parts = and_parts (bin_fits op (kind_of ty)) (operand_fits m env (kind_of ty) a && operand_fits m env (kind_of ty) b) fits in
+      let both = and_parts _ _ parts.1 in
+      let K : Value → Type 0 = IsOfKind x (kind_of ty) in
+      then_gives K K (value_of m locals (kind_of ty) a) (λ u. and_then (value_of m locals (kind_of ty) b) (λ v. binary_value op (kind_of ty) u v)) (value_gives m x env locals c all (kind_of ty) a both.0)
+      (λ u p. then_gives K K (value_of m locals (kind_of ty) b) (λ v. binary_value op (kind_of ty) u v) (value_gives m x env locals c all (kind_of ty) b both.1)
+      (λ v q. bin_gives x op (kind_of ty) u v (bin_number op (kind_of ty) parts.0) p q))
+  result_gives objects held (Compare pred ty a b) plain fits =
+      let parts = and_parts (is_value (kind_of ty)) (operand_fits m env (kind_of ty) a && operand_fits m env (kind_of ty) b) fits in
+      let both = and_parts (operand_fits m env (kind_of ty) a) (operand_fits m env (kind_of ty) b) parts.1 in
+      let K : Value → Type 0 = IsOfKind x (kind_of ty) in
+      let R : Value → Type 0 = IsOfKind x (Number W1) in
+      then_gives K R (value_of m locals (kind_of ty) a) (λ u. and_then (value_of m locals (kind_of ty) b) (λ v. compared_value objects pred (kind_of ty) u v)) (value_gives m x env locals c all (kind_of ty) a both.0)
+      (λ u p. then_gives K R (value_of m locals (kind_of ty) b) (λ v. compared_value objects pred (kind_of ty) u v) (value_gives m x env locals c all (kind_of ty) b both.1)
+      (λ v q. compare_gives x objects pred (kind_of ty) u v parts.0 p q))
+  result_gives objects held (Cast op from a to) plain fits =
+      let parts = and_parts (cast_fits op (kind_of from) (kind_of to)) (operand_fits m env (kind_of from) a) fits in
+      then_gives (IsOfKind x (kind_of from)) (IsOfKind x (kind_of to)) (value_of m locals (kind_of from) a) (λ v. cast_value op (kind_of from) (kind_of to) v) (value_gives m x env locals c all (kind_of from) a parts.1)
+      (λ v p. cast_gives x op (kind_of from) (kind_of to) v parts.0 p)
+  result_gives objects held (Select condition ty a ty2 b) plain fits =
+      let parts = and_parts (operand_fits m env (Number W1) condition) ((is_value (kind_of ty) && same_kind (kind_of ty) (kind_of ty2)) && (operand_fits m env (kind_of ty) a && operand_fits m env (kind_of ty2) b)) fits in
+      let more = and_parts (is_value (kind_of ty) && same_kind (kind_of ty) (kind_of ty2)) (operand_fits m env (kind_of ty) a && operand_fits m env (kind_of ty2) b) parts.1 in
+      let both = and_parts (operand_fits m env (kind_of ty) a) (operand_fits m env (kind_of ty2) b) more.1 in
+      let same = kind_is (kind_of ty) (kind_of ty2) (and_parts (is_value (kind_of ty)) (same_kind (kind_of ty) (kind_of ty2)) more.0).1 in
+      let K : Value → Type 0 = IsOfKind x (kind_of ty) in
+      then_gives (IsOfKind x (Number W1)) K (value_of m locals (Number W1) condition) (λ w. and_then (value_of m locals (kind_of ty) a) (λ u. and_then (value_of m locals (kind_of ty2) b) (λ v. selected w u v)))
+      (value_gives m x env locals c all (Number W1) condition parts.0)
+      (λ w o. then_gives K K (value_of m locals (kind_of ty) a) (λ u. and_then (value_of m locals (kind_of ty2) b) (λ v. selected w u v)) (value_gives m x env locals c all (kind_of ty) a both.0)
+      (λ u p. then_gives (IsOfKind x (kind_of ty2)) K (value_of m locals (kind_of ty2) b) (λ v. selected w u v) (value_gives m x env locals c all (kind_of ty2) b both.1)
+      (λ v q. select_gives x (kind_of ty) w u v o p (subst (λ k. IsOfKind x k v) (sym same) q))))
+  result_gives objects held (Freeze ty a) plain fits =
+      value_gives m x env locals c all (kind_of ty) a (and_parts (is_value (kind_of ty)) (operand_fits m env (kind_of ty) a) fits).1
+  result_gives objects held (Load ty p) plain fits =
+      let parts = and_parts (is_value (kind_of ty)) (operand_fits m env Pointer p) fits in
+      then_gives (IsOfKind x Pointer) (IsOfKind x (kind_of ty)) (value_of m locals Pointer p) (λ v. load_at objects (kind_of ty) v) (value_gives m x env locals c all Pointer p parts.1)
+      (λ v q. load_gives x objects held (kind_of ty) v parts.0)
+  result_gives objects held (Gep ty p indices) plain fits = gep_gives ty p indices fits objects
+  result_gives objects held op plain fits = not_true plain
