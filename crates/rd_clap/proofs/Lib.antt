@@ -1,1 +1,6 @@
+pub mod Commands
+pub mod Known
+pub mod Lines
 pub mod Turns
+pub mod Walks
+pub mod Whole

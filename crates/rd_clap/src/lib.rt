@@ -3,15 +3,20 @@
 //!     run FILE --steps N
 //!     run --steps=N FILE
 //!
-//! `rd_words` decides whether words ask for anything: what `clap` takes besides, as `--`, a number with
-//! its sign or an option that is given twice, never comes to it. What does is parsed by the commands of
-//! `program`, and `values` makes one command of what was found.
+//! `rd_words` decides whether words ask for anything, so what `clap` takes besides, as `--`, a number
+//! with its sign or an option that is given twice, never comes to it. Words that ask for something are
+//! parsed by the commands of `program`, and `values` makes one command of what was found: what the words
+//! ask for. Why `clap` takes all those words, and finds that, stands in `proofs/`.
 #![tactic(auto)]
 
-ghost use Rattle.std.specs.Prelude.{IfOk, map, string_bytes};
+ghost use Rattle.std.specs.Prelude.{◌≡◌, IfErr, IfOk, map, string_bytes};
+ghost use Rattle.clap.specs.Words.{kind_of};
+ghost use Rattle.rd_clap.specs.Found.{AreFound};
 ghost use Rattle.rd_words.specs.Asked.{all_asked};
-ghost use Rattle.rd_words.specs.Words.{IsReadingOf};
+ghost use Rattle.rd_words.specs.Words.{IsReading, IsReadingOf, Reading};
 
+use clap::ArgMatches;
+use clap::error::ErrorKind;
 use program::program;
 use rd_num::width::NoMemory;
 use rd_words::{Command, read_words};
@@ -21,32 +26,27 @@ use values::found;
 pub mod program;
 pub mod values;
 
-/// What `clap` reads of the words.
-fn parsed<'a>(alloc: Global, words: &'a [String]) -> Result<Option<Command<'a>>, clap::Error> {
-    let matches = program(alloc)?.try_get_matches_from(words)?;
-    Ok(found(&matches))
-}
-
-/// What `clap` reads of words that ask for a command: that command.
-fn confirmed<'a>(
-    alloc: Global,
-    words: &'a [String],
-    command: Command<'a>,
-) -> Result<Command<'a>, NoMemory>
-    ensures { IfOk result (λ r. r ≡ command) }
+/// What `clap` finds in words; where they ask for something, an error is want of memory.
+fn parsed<'a>(alloc: Global, words: &'a [String]) -> Result<ArgMatches<'a>, clap::Error>
+    ensures found { (r : Reading) → IsReading (map string_bytes words.now) r →
+        IfOk result (AreFound r) }
+    ensures refused { (r : Reading) → IsReading (map string_bytes words.now) r →
+        IfErr result (λ e. kind_of e ≡ ErrorKind.OutOfMemory) }
 {
-    match parsed(alloc, words) {
-        Ok(Some(other)) if other == command => Ok(command),
-        _ => Err(NoMemory),
-    }
+    let command = program(alloc)?;
+    command.try_get_matches_from(words)
 }
 
-/// What the words ask for, read with `clap`; `Ok(None)` comes exactly where they ask for nothing.
+/// What the words ask for; `Ok(None)` comes exactly where they ask for nothing.
 pub fn read_line<'a>(alloc: Global, words: &'a [String]) -> Result<Option<Command<'a>>, NoMemory>
-    ensures { IfOk result (λ r. IsReadingOf (map string_bytes words.now) (all_asked r)) }
+    ensures read { IfOk result (λ r. IsReadingOf (map string_bytes words.now) (all_asked r)) }
+    ensures asked { IfErr result (λ _. (r : Reading) × IsReading (map string_bytes words.now) r) }
 {
-    match read_words(words) {
-        Some(command) => Ok(Some(confirmed(alloc, words, command)?)),
-        None => Ok(None),
+    if read_words(words).is_none() {
+        return Ok(None);
+    }
+    match parsed(alloc, words) {
+        Ok(matches) => Ok(found(&matches)),
+        Err(_) => Err(NoMemory),
     }
 }

@@ -23,7 +23,7 @@ pub mod arguments;
 mod tests;
 
 /// A command with its values.
-#[derive(Clone, Copy, PartialEq)]
+#[derive(Clone, Copy)]
 pub enum Command<'a> {
     Compile {
         file: &'a str,
