@@ -12,7 +12,7 @@
 ghost use Rattle.std.specs.Prelude.{◌≡◌, IfErr, IfOk, map, string_bytes};
 ghost use Rattle.clap.specs.Words.{kind_of};
 ghost use Rattle.rd_clap.specs.Found.{AreFound};
-ghost use Rattle.rd_words.specs.Asked.{all_asked};
+ghost use Rattle.rd_words.specs.Asked.{all_asked, asked};
 ghost use Rattle.rd_words.specs.Words.{IsReading, IsReadingOf, Reading};
 
 use clap::ArgMatches;
@@ -26,27 +26,31 @@ use values::found;
 pub mod program;
 pub mod values;
 
-/// What `clap` finds in words; where they ask for something, an error is want of memory.
-fn parsed<'a>(alloc: Global, words: &'a [String]) -> Result<ArgMatches<'a>, clap::Error>
-    ensures found { (r : Reading) → IsReading (map string_bytes words.now) r →
-        IfOk result (AreFound r) }
-    ensures refused { (r : Reading) → IsReading (map string_bytes words.now) r →
-        IfErr result (λ e. kind_of e ≡ ErrorKind.OutOfMemory) }
+/// What `clap` finds in words that ask for a command; an error is want of memory.
+fn parsed<'a>(
+    alloc: Global,
+    words: &'a [String],
+    command: Command<'a>,
+) -> Result<ArgMatches<'a>, clap::Error>
+    requires { IsReading (map string_bytes words.now) (asked command) }
+    ensures found { IfOk result (AreFound (asked command.entry)) }
+    ensures refused { IfErr result (λ e. kind_of e ≡ ErrorKind.OutOfMemory) }
 {
-    let command = program(alloc)?;
-    command.try_get_matches_from(words)
+    let commands = program(alloc)?;
+    commands.try_get_matches_from(words)
 }
 
 /// What the words ask for; `Ok(None)` comes exactly where they ask for nothing.
+#[tactic(auto, using(crate::proofs::Matches::asked_is_read, crate::proofs::Matches::asks))]
 pub fn read_line<'a>(alloc: Global, words: &'a [String]) -> Result<Option<Command<'a>>, NoMemory>
     ensures read { IfOk result (λ r. IsReadingOf (map string_bytes words.now) (all_asked r)) }
     ensures asked { IfErr result (λ _. (r : Reading) × IsReading (map string_bytes words.now) r) }
 {
-    if read_words(words).is_none() {
-        return Ok(None);
-    }
-    match parsed(alloc, words) {
-        Ok(matches) => Ok(found(&matches)),
-        Err(_) => Err(NoMemory),
+    match read_words(words) {
+        Some(command) => match parsed(alloc, words, command) {
+            Ok(matches) => Ok(found(&matches)),
+            Err(_) => Err(NoMemory),
+        },
+        None => Ok(None),
     }
 }

@@ -116,6 +116,7 @@ fn of_command<'a>(command: &str, matches: &ArgMatches<'a>) -> Option<Command<'a>
 }
 
 /// The command that was found.
+#[tactic(auto, using(crate::proofs::Matches::finds_command, crate::proofs::Matches::finds_none))]
 pub fn found<'a>(matches: &ArgMatches<'a>) -> Option<Command<'a>>
     ensures { all_asked result ≡ found_in (subcommand_rows_of matches.now) }
 {
