@@ -204,7 +204,6 @@ no_defaults (a ∷ rest) rows h =
     either true = refl
     either false = refl
 
-
 walk_finds : (s : Shape) (others : List Text) (rows : List Row) → list_all (λ a. is_empty a.defaults) s.rules ≡ true → Walks s (between nothing_held 1) others rows → rows_at s others ≡ (s.name, rows)
 walk_finds s others rows bare x =
     ap (λ (w : Walk). (s.name, finished s.rules w.held)) x.ends ∙ ap (λ r. (s.name, r)) (no_defaults s.rules (settled s.rules x.end).rows bare ∙ x.rows_are)

@@ -91,7 +91,7 @@ given_walk s has option value rest words front back h place e known ok go (inl t
     let more = go to (settles s has.again i (Some i) None value rows h.skip known.by_id) in
     let last : Walks s (between to place) back (with_arguments rest (with_argument (Given option value) rows)) = subst (λ r. Walks s (between to place) back (with_arguments rest r)) rows_to more in
     let second : Walks s (behind waits place i) (value ∷ back) (with_arguments rest (with_argument (Given option value) rows)) =
-        one_word s (behind waits place i) (between to place) value back _ (value_walked s has.again i (Some i) value rows h.skip place known.by_id apart) (value_passes s has.again i (Some i) value rows h.skip place known.by_id apart) last in
+    one_word s (behind waits place i) (between to place) value back _ (value_walked s has.again i (Some i) value rows h.skip place known.by_id apart) (value_passes s has.again i (Some i) value rows h.skip place known.by_id apart) last in
     subst (Given_walks s option value rest h place) (sym whole)
     (one_word s (between h place) (behind waits place i) option (value ∷ back) _ (alone_walked s has.again i i option h place known.by_long known.dashes known.alone) (alone_passes s has.again i i option h place known.by_long known.dashes known.alone ok) second)
 given_walk s has option value rest words front back h place e known ok go (inr one) =
@@ -117,7 +117,7 @@ module _ (s : Shape) (has : HasFile s) where
       let more = args_walk rest back to 2 e.2 known (inr none) (settles s has.again file_id None (Some 1) name rows h.skip has.by_id) in
       let last : Walks s (between to 2) back (with_arguments rest (with_argument (File name) rows)) = subst (λ r. Walks s (between to 2) back (with_arguments rest r)) rows_to more in
       let here : Walks s (between h 1) (name ∷ back) (with_arguments rest (with_argument (File name) rows)) =
-          one_word s (between h 1) (between to 2) name back _ (file_walked s has.again file_id name h has.by_index apart) (file_passes s has.again file_id name h has.by_index apart ok) last in
+      one_word s (between h 1) (between to 2) name back _ (file_walked s has.again file_id name h has.by_index apart) (file_passes s has.again file_id name h has.by_index apart ok) last in
       subst (λ ws. Walks s (between h place) ws (with_arguments rest (with_argument (File name) rows))) (sym whole)
       (subst (λ p. Walks s (between h p) (name ∷ back) (with_arguments rest (with_argument (File name) rows))) (sym at.0) here)
   args_walk (Given option value ∷ rest) words h place (front, back, e) (known, others) places ok =

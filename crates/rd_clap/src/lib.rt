@@ -3,10 +3,11 @@
 //!     run FILE --steps N
 //!     run --steps=N FILE
 //!
-//! `rd_words` decides whether words ask for anything, so what `clap` takes besides, as `--`, a number
-//! with its sign or an option that is given twice, never comes to it. Words that ask for something are
-//! parsed by the commands of `program`, and `values` makes one command of what was found: what the words
-//! ask for. Why `clap` takes all those words, and finds that, stands in `proofs/`.
+//! `rd_words` decides whether words ask for anything, so what `clap` takes besides, as `--`, a
+//! number with its sign or an option that is given twice, never comes to it. Words that ask for
+//! something are parsed by the commands of `program`, and `values` makes one command of what was
+//! found: what the words ask for. Why `clap` takes all those words, and finds that, stands in
+//! `proofs/`.
 #![tactic(auto)]
 
 ghost use Rattle.std.specs.Prelude.{◌≡◌, IfErr, IfOk, map, string_bytes};

@@ -1,8 +1,8 @@
 //! The commands as `clap` knows them: each with FILE and its options.
 //!
-//! The first word is the command, and no word asks for help or for a version. What is given twice is
-//! taken as it was given last, and nothing is required: which words ask for anything is decided before
-//! `clap` reads them. The same for the proofs stands in `specs/Program.antt`.
+//! The first word is the command, and no word asks for help or for a version. What is given twice
+//! is taken as it was given last, and nothing is required: which words ask for anything is
+//! decided before `clap` reads them. The same for the proofs stands in `specs/Program.antt`.
 
 ghost use Rattle.std.specs.Prelude.{◌≡◌, IfOk, codes, false};
 ghost use Rattle.clap.specs.Words.{rule_of};

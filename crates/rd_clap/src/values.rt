@@ -1,7 +1,7 @@
 //! The command that `clap` found in the words, with its values.
 //!
-//! What is found is read by one name after another, and numbers as `rd_words` reads them. What matches
-//! ask for stands in `specs/Found.antt`.
+//! What is found is read by one name after another, and numbers as `rd_words` reads them. What
+//! matches ask for stands in `specs/Found.antt`.
 
 ghost use Rattle.std.specs.Prelude.{◌≡◌};
 ghost use Rattle.std.specs.Option.{option_copied};
