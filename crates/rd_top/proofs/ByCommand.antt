@@ -1,10 +1,27 @@
 -- What an answer says of a command, by what the command is.
-use Rattle.std.proofs.Common.{◌≡◌, Some, subst, sym}
+use Rattle.std.proofs.Common.{◌≡◌, ℕ, List, Some, inl, refl, subst, sym}
 use Rattle.rd_words.specs.declared.Command.{Command}
 use Rattle.rd_words.specs.Asked.{asked}
+use Rattle.rd_words.specs.Words.{Reading, IsReading, Compile, Build, Lay, Run, Show, Watch, Check, Print}
 use Rattle.rd_top.specs.declared.answer.Answer.{Answer}
+use Rattle.rd_top.specs.declared.answer.Answer.TheVariants.{Memory}
 use Rattle.rd_top.specs.Commands.{Means}
+use Rattle.rd_top.specs.Program.{IsDone}
 use Rattle.rd_top.specs.World.{World}
 
 pub means_as : (c d : Command) (w w2 : World) (a : Answer) → c ≡ d → Means (Some (asked d)) w w2 a → Means (Some (asked c)) w w2 a
 means_as c d w w2 a e h = subst (λ x. Means (Some (asked x)) w w2 a) (sym e) h
+
+-- want of memory before anything is touched is an answer to every command
+unread : (r : Reading) (w : World) → Means (Some r) w w Memory
+unread (Check file) w = (inl (tt, tt), (refl, refl))
+unread (Print file) w = (inl (tt, refl), refl)
+unread (Compile file slot_seed reg_seed) w = (inl (tt, refl), refl)
+unread (Build file slot_seed reg_seed layout_seed) w = (inl (tt, refl), refl)
+unread (Lay file layout_seed) w = (inl (tt, refl), refl)
+unread (Run file steps) w = inl (tt, (refl, refl))
+unread (Show file steps) w = inl (tt, (refl, refl))
+unread (Watch file script) w = inl (tt, (refl, refl))
+
+pub unread_is_done : (words : List (List ℕ)) (w : World) → ((r : Reading) × IsReading words r) → IsDone words w w Memory
+unread_is_done words w (r, is) = record { reading = Some r; read = is; means = unread r w }

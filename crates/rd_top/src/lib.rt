@@ -9,7 +9,7 @@
 //!     read_main show FILE --steps N
 //!     read_main watch FILE --script FILE
 //!
-//! `rd_words` reads the command line and `commands` does the work: over `file`, which reads a file of a
+//! `rd_clap` reads the command line and `commands` does the work: over `file`, which reads a file of a
 //! kind, `put`, which puts a result at once, and `stream`, which puts a run's output as it comes.
 //! `answer` has the statuses and `lines` their lines. What a command does to the outside stands in
 //! `specs/Commands.antt`, and what the whole program does in `specs/Program.antt`.
@@ -27,8 +27,9 @@ use commands::{
     build_file, check_file, compile_file, lay_file, print_file, run_file, show_file, watch_file,
 };
 use lines::line;
+use rd_clap::read_line;
 use rd_io::{Files, PutFail, Sink, Source};
-use rd_words::{Command, read_words};
+use rd_words::Command;
 use std::alloc::Global;
 
 pub mod answer;
@@ -79,6 +80,7 @@ fn work<F: Files, I: Source, O: Sink>(
 }
 
 /// Does what the words ask for.
+#[tactic(auto, using(crate::proofs::ByCommand::unread_is_done))]
 fn answered<F: Files, I: Source, O: Sink>(
     alloc: Global,
     words: &[String],
@@ -92,9 +94,10 @@ fn answered<F: Files, I: Source, O: Sink>(
     ensures keeps { KeepsCounts (world (F.told files.old) (I.told input.old) (O.told out.old))
         (world (F.told files.new) (I.told input.new) (O.told out.new)) result }
 {
-    match read_words(words) {
-        Some(command) => work(alloc, command, files, input, out),
-        None => Answer::Words,
+    match read_line(alloc, words) {
+        Ok(Some(command)) => work(alloc, command, files, input, out),
+        Ok(None) => Answer::Words,
+        Err(_) => Answer::Memory,
     }
 }
 
