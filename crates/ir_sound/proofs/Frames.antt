@@ -49,9 +49,9 @@ further s locals below all = record {
 
 -- the innermost of the callers goes on with a result of the kind for which it waits
 pub resumed_are : (m : Module) (x : Present) (kind : Kind) (into : Option (List ℕ)) (g : Frame) (gs : List Frame) (result : Option Value) → ((v : Value) → result ≡ Some v → IsOfKind x kind v) → AreWaiting m x kind into (g ∷ gs) → AreCalls m x (resumed (g ∷ gs) into result)
-resumed_are m x kind into g gs None is waiting = (waiting.0, waiting.2)
+resumed_are m x kind into g gs None is waiting = (waiting.0.stands, waiting.1)
 resumed_are m x kind into g gs (Some v) is waiting =
-    let s = waiting.0 in (
+    let s = waiting.0.stands in (
       record {
         fn = s.fn;
         block = s.block;
@@ -60,9 +60,9 @@ resumed_are m x kind into g gs (Some v) is waiting =
         past_phis = s.past_phis;
         within = s.within;
         objects = s.objects;
-        locals = given_are x (env_of s.fn) into kind v g.locals waiting.1 (is v refl) s.locals;
+        locals = given_are x (env_of s.fn) into kind v g.locals waiting.0.awaits (is v refl) s.locals;
       },
-      waiting.2,
+      waiting.1,
     )
 
 -- memory of as many objects
@@ -101,7 +101,9 @@ standing_wider {f = f} x y w s = record {
 -- and those that wait
 pub waiting_wider : (m : Module) (x y : Present) → Wider x y → (kind : Kind) (into : Option (List ℕ)) (gs : List Frame) → AreWaiting m x kind into gs → AreWaiting m y kind into gs
 waiting_wider m x y w kind into [] waiting = waiting
-waiting_wider m x y w kind into (g ∷ gs) waiting = (standing_wider x y w waiting.0, waiting.1, waiting_wider m x y w (kind_of waiting.0.fn.ret) g.into gs waiting.2)
+waiting_wider m x y w kind into (g ∷ gs) waiting =
+    let one = waiting.0 in
+    (record { stands = standing_wider x y w one.stands; past = one.past; awaits = one.awaits }, waiting_wider m x y w (kind_of one.stands.fn.ret) g.into gs waiting.1)
 
 -- a call that stands, the calls that wait for it, and memory
 pub record Here (m : Module) (objects : Memory) (f : Frame) (callers : List Frame) : Type 0 where

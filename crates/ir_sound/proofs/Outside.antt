@@ -148,13 +148,13 @@ exit_gives m input s into g gs vs n are = subst (λ us. Properly (IsTypedTurn m)
 copy_gives : (m : Module) (input : List ℕ) (s : State) (ret : Kind) (into : Option (List ℕ)) (g : Frame) (gs : List Frame) (vs : List Value) → Calling m s ret into g gs → RangeArguments (present m s.objects) Pointer vs → Properly (IsTypedTurn m) (outer_turn input s (g ∷ gs) into Memcpy vs)
 copy_gives m input s ret into g gs vs c a =
     subst (λ us. Properly (IsTypedTurn m) (outer_turn input s (g ∷ gs) into Memcpy us)) (sym a.are)
-    (memory_turn m s.objects (g ∷ gs) (copied s.objects a.to a.from a.count) (copied_gives (present m s.objects) s.objects c.cells a.to a.from a.count) (c.waiting.0, c.waiting.2) c.globals)
+    (memory_turn m s.objects (g ∷ gs) (copied s.objects a.to a.from a.count) (copied_gives (present m s.objects) s.objects c.cells a.to a.from a.count) (c.waiting.0.stands, c.waiting.1) c.globals)
 
 -- `memset` with a byte
 fill_gives : (m : Module) (input : List ℕ) (s : State) (ret : Kind) (into : Option (List ℕ)) (g : Frame) (gs : List Frame) (vs : List Value) → Calling m s ret into g gs → (a : RangeArguments (present m s.objects) (Number W8) vs) → (byte : ℕ) × (a.from ≡ Num W8 byte) × (byte < 2 ^ 8) → Properly (IsTypedTurn m) (outer_turn input s (g ∷ gs) into Memset vs)
 fill_gives m input s ret into g gs vs c a b =
     subst (λ us. Properly (IsTypedTurn m) (outer_turn input s (g ∷ gs) into Memset us)) (sym (a.are ∙ ap (λ v. a.to ∷ v ∷ Num W64 a.count ∷ a.volatile ∷ []) b.1))
-    (memory_turn m s.objects (g ∷ gs) (filled s.objects a.to b.0 a.count) (filled_gives (present m s.objects) s.objects c.cells a.to b.0 a.count b.2) (c.waiting.0, c.waiting.2) c.globals)
+    (memory_turn m s.objects (g ∷ gs) (filled s.objects a.to b.0 a.count) (filled_gives (present m s.objects) s.objects c.cells a.to b.0 a.count b.2) (c.waiting.0.stands, c.waiting.1) c.globals)
 
 -- what the callers get from an outside function
 pub outer_gives : (m : Module) (input : List ℕ) (s : State) (ret : Kind) (kinds : List Kind) (into : Option (List ℕ)) (g : Frame) (gs : List Frame) (vs : List Value) → ((k b : ℕ) → slice_get input k ≡ Some b → b < 256) → Calling m s ret into g gs → AreOfKinds (present m s.objects) kinds vs → (o : Outer) → outer_fits o ret kinds ≡ true → Properly (IsTypedTurn m) (outer_turn input s (g ∷ gs) into o vs)

@@ -1,8 +1,12 @@
 -- What holds of every state of a run of a module that fits the rules of types.
-use Rattle.std.specs.Prelude.{◌≡◌, ◌≢◌, ℕ, ◌<◌, ◌≤◌, ◌^◌, List, [], ◌∷◌, length, slice_get, if◌then◌else◌, Option, Some, None, Ok, Err}
+use Rattle.std.specs.Prelude.{◌≡◌, ◌≢◌, ℕ, ◌+◌, ◌<◌, ◌≤◌, ◌^◌, List, [], ◌∷◌, length, slice_get, if◌then◌else◌, Option, Some, None, Ok, Err}
 use Rattle.rd_num.specs.declared.width.Width.TheVariants.{W32}
 use Rattle.behavior.specs.Ending.{Ending}
 use Rattle.behavior.specs.Ending as ending
+use Rattle.ir_core.specs.declared.ty.Ty.{Ty}
+use Rattle.ir_core.specs.declared.operand.Operand.{Operand}
+use Rattle.ir_core.specs.declared.instruction.Arg.{Arg}
+use Rattle.ir_core.specs.declared.instruction.Op.TheVariants.{Call}
 use Rattle.ir_core.specs.declared.module.Block.{Block}
 use Rattle.ir_core.specs.declared.module.Function.{Function}
 use Rattle.ir_core.specs.declared.module.Module.{Module}
@@ -89,10 +93,26 @@ abbrev pub Awaits : Env → Option (List ℕ) → Kind → Type 0
 Awaits env (Some name) kind = env name ≡ Some kind
 Awaits env None kind = Unit {0}
 
--- calls that wait for a result of a kind in a local; the first one of the run gives an i32
+-- a place of a block is just behind a call that gives a result of a kind to a local
+pub record IsPastCall (b : Block) (next : ℕ) (into : Option (List ℕ)) (kind : Kind) : Type 0 where
+  pub place : ℕ
+  pub ret : Ty
+  pub callee : Operand
+  pub arguments : List Arg
+  pub at_place : slice_get b.insts place ≡ Some (record { result = into; op = Call ret callee arguments })
+  pub behind : next ≡ place + 1
+  pub gives : kind_of ret ≡ kind
+
+-- a call waits for a result of a kind in a local
+pub record IsWaiting (m : Module) (x : Present) (kind : Kind) (into : Option (List ℕ)) (g : Frame) : Type 0 where
+  pub stands : IsInBlock m x g
+  pub past : IsPastCall stands.block g.next into kind
+  pub awaits : Awaits (env_of stands.fn) into kind
+
+-- so do calls, each for the result of the one inside it; the first call of the run gives an i32
 abbrev pub AreWaiting : Module → Present → Kind → Option (List ℕ) → List Frame → Type 0
 AreWaiting m x kind into [] = kind ≡ Number W32
-AreWaiting m x kind into (g ∷ gs) = (s : IsInBlock m x g) × Awaits (env_of s.fn) into kind × AreWaiting m x (kind_of s.fn.ret) g.into gs
+AreWaiting m x kind into (g ∷ gs) = (w : IsWaiting m x kind into g) × AreWaiting m x (kind_of w.stands.fn.ret) g.into gs
 
 -- the calls of a run that goes on: there is one
 abbrev pub AreCalls : Module → Present → List Frame → Type 0
