@@ -112,6 +112,16 @@ pub record Here (m : Module) (objects : Memory) (f : Frame) (callers : List Fram
   pub cells : Each (IsObject (present m objects)) objects
   pub globals : length m.globals ≤ length objects
 
+-- calls that wait for a result of a kind, and memory
+pub record Calling (m : Module) (s : State) (kind : Kind) (into : Option (List ℕ)) (callers : List Frame) : Type 0 where
+  pub waiting : AreWaiting m (present m s.objects) kind into callers
+  pub cells : Each (IsObject (present m s.objects)) s.objects
+  pub globals : length m.globals ≤ length s.objects
+
+-- those of a call that stands
+pub callers_of : (m : Module) (s : State) (f : Frame) (callers : List Frame) (h : Here m s.objects f callers) → Calling m s (kind_of h.stands.fn.ret) f.into callers
+callers_of m s f callers h = record { waiting = h.waiting; cells = h.cells; globals = h.globals }
+
 -- an instruction that gives a value
 pub gives_turn : (m : Module) (s : State) (f : Frame) (callers : List Frame) (h : Here m s.objects f callers) (into : Option (List ℕ)) (kind : Kind) (v : Value) → f.next < length h.stands.block.insts → into_fits (env_of h.stands.fn) into kind ≡ true → IsOfKind (present m s.objects) kind v → Properly (IsTypedTurn m) (gives s f callers into v)
 gives_turn m s f callers h into kind v below fits is = record {

@@ -25,8 +25,7 @@ use Rattle.ir_sound.specs.Typed.{functions_typed}
 use Rattle.ir_sound.specs.WellTyped.{Present, IsPastCall, Properly, IsOfKind, present, IsTypedTurn}
 use Rattle.ir_sound.proofs.AnswerLaws.{then_gives}
 use Rattle.ir_sound.proofs.Calls.{IsTarget, called_gives, target_gives}
-use Rattle.ir_sound.proofs.Outside.{Calling}
-use Rattle.ir_sound.proofs.Frames.{Here, alloca_turn, fits_awaits, further, gives_turn, stores_turn}
+use Rattle.ir_sound.proofs.Frames.{Calling, Here, alloca_turn, fits_awaits, further, gives_turn, stores_turn}
 use Rattle.ir_sound.proofs.Objects.{store_gives}
 use Rattle.ir_sound.proofs.Operands.{AreOfKinds, Covers, args_give, value_gives}
 use Rattle.ir_sound.proofs.Operations.{result_gives}
@@ -66,7 +65,7 @@ module _ (m : Module) (s : State) (f : Frame) (callers : List Frame) (h : Here m
         let parts = and_parts (is_result ret) (callee_fits m env (kind_of ret) kinds callee && list_all (arg_fits m env) arguments) fits in
         let both = and_parts (callee_fits m env (kind_of ret) kinds callee) (list_all (arg_fits m env) arguments) parts.1 in
         let past_call : IsPastCall h.stands.block (f.next + 1) into (kind_of ret) = record { place = f.next; ret = ret; callee = callee; arguments = arguments; at_place = at; behind = refl; gives = refl } in
-        let calling : Calling m s (kind_of ret) into (past f) callers = record { waiting = (record { stands = further h.stands f.locals below h.stands.locals; past = past_call; awaits = fits_awaits env into (kind_of ret) in' }, h.waiting); cells = h.cells; globals = h.globals } in
+        let calling : Calling m s (kind_of ret) into (past f ∷ callers) = record { waiting = (record { stands = further h.stands f.locals below h.stands.locals; past = past_call; awaits = fits_awaits env into (kind_of ret) in' }, h.waiting); cells = h.cells; globals = h.globals } in
         let rest : Target → Answer Turn = λ t. and_then (values_of m f.locals arguments) (λ vs. call_turn m input s (past f ∷ callers) (kind_of ret) kinds vs into t) in
         then_gives (IsTarget here (kind_of ret) kinds) (IsTypedTurn m) (target_of m f.locals callee) rest (target_gives m here env f.locals covered h.stands.locals (kind_of ret) kinds callee both.0)
         (λ t q. then_gives (AreOfKinds here kinds) (IsTypedTurn m) (values_of m f.locals arguments) (λ vs. call_turn m input s (past f ∷ callers) (kind_of ret) kinds vs into t) (args_give m here env f.locals covered h.stands.locals arguments both.1)
