@@ -18,7 +18,7 @@ use Rattle.ir_core.specs.Calls.{resumed, with_memory}
 use Rattle.ir_core.specs.Step.{past, gives, gives_alloca, stores}
 use Rattle.ir_core.specs.Typing.{Env, is_value, has_kind, into_fits}
 use Rattle.ir_core.specs.Valid.{env_of}
-use Rattle.ir_sound.specs.WellTyped.{Each, Properly, Present, IsOfKind, IsCell, IsObject, IsLocal, IsInBlock, Awaits, AreWaiting, AreCalls, present, AreOver, IsTypedTurn}
+use Rattle.ir_sound.specs.WellTyped.{Each, Properly, Present, IsOfKind, IsCell, IsObject, IsLocal, IsOwn, IsInBlock, Awaits, AreWaiting, AreCalls, present, AreOver, IsTypedTurn}
 use Rattle.ir_sound.proofs.AnswerLaws.{then_gives}
 use Rattle.ir_sound.proofs.Objects.{IsMemory, Wider, kind_wider, objects_wider}
 use Rattle.ir_sound.proofs.RowLaws.{Each_both, Each_more, Each_replicate}
@@ -87,7 +87,7 @@ locals_wider x y w env locals all = Each_more (IsLocal x env) (IsLocal y env) lo
 
 -- so are calls
 abbrev pub standing_wider : {m : Module} {f : Frame} (x y : Present) → Wider x y → (s : IsInBlock m x f) → IsInBlock m y f
-standing_wider {f = f} x y w s = record {
+standing_wider {m = m} {f = f} x y w s = record {
   fn = s.fn;
   block = s.block;
   in_module = s.in_module;
@@ -95,7 +95,7 @@ standing_wider {f = f} x y w s = record {
   past_phis = s.past_phis;
   within = s.within;
   locals = locals_wider x y w (env_of s.fn) f.locals s.locals;
-  objects = Each_more (λ o. o < x.objects) (λ o. o < y.objects) f.objects (λ o p. let h = w.objects in omega arith) s.objects;
+  objects = Each_more (IsOwn m x) (IsOwn m y) f.objects (λ o p. let q = p.1 in let h = w.objects in (p.0, omega arith)) s.objects;
 }
 
 -- and those that wait
@@ -155,7 +155,7 @@ alloca_turn m s f callers h into size below fits =
           past_phis = let p = h.stands.past_phis in omega arith;
           within = omega arith;
           locals = given_are new env into Pointer (At (length s.objects) 0) f.locals (fits_awaits env into Pointer fits) at stands.locals;
-          objects = (omega arith, stands.objects);
+          objects = ((h.globals, omega arith), stands.objects);
         },
         waiting_wider m old new w (kind_of h.stands.fn.ret) f.into callers h.waiting,
       );

@@ -77,6 +77,10 @@ pub record IsObject (x : Present) (o : Object0) : Type 0 where
 abbrev pub IsLocal : Present → Env → Local → Type 0
 IsLocal x env l = (kind : Kind) × (env l.name ≡ Some kind) × IsOfKind x kind l.value
 
+-- an object that an alloca made: it is there, and no global
+abbrev pub IsOwn : Module → Present → ℕ → Type 0
+IsOwn m x o = (length m.globals ≤ o) × (o < x.objects)
+
 -- a call stands in a function and a block of it, past the phis and at most at the terminator
 pub record IsInBlock (m : Module) (x : Present) (f : Frame) : Type 0 where
   pub fn : Function
@@ -86,7 +90,7 @@ pub record IsInBlock (m : Module) (x : Present) (f : Frame) : Type 0 where
   pub past_phis : length (choices_of block.insts) ≤ f.next
   pub within : f.next ≤ length block.insts
   pub locals : Each (IsLocal x (env_of fn)) f.locals
-  pub objects : Each (λ o. o < x.objects) f.objects
+  pub objects : Each (IsOwn m x) f.objects
 
 -- the local that waits for a result is of the result's kind
 abbrev pub Awaits : Env → Option (List ℕ) → Kind → Type 0
