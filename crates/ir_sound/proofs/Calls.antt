@@ -30,7 +30,7 @@ use Rattle.ir_core.specs.Typing.{Env, has_kind, is_value, outer_fits, named_fits
 use Rattle.std.specs.List.{list_all}
 use Rattle.ir_core.specs.Valid.{env_of, is_phi, leads_to}
 use Rattle.ir_sound.specs.Typed.{no_phi, param_typed, entry_typed, functions_typed}
-use Rattle.ir_sound.specs.WellTyped.{Each, Properly, Present, IsOfKind, IsLocal, IsInBlock, AreWaiting, AreCalls, present, IsTypedTurn}
+use Rattle.ir_sound.specs.WellTyped.{IsOwn, Each, Properly, Present, IsOfKind, IsLocal, IsInBlock, AreWaiting, AreCalls, present, IsTypedTurn}
 use Rattle.ir_sound.proofs.AnswerLaws.{if_gives, then_gives}
 use Rattle.ir_sound.proofs.Frames.{Calling, over_changed, resumed_are}
 use Rattle.ir_sound.proofs.Objects.{without_is}
@@ -113,15 +113,15 @@ no_number : {X : Type 0} → NoValue ≡ Number W32 → X
 no_number e = absurd (cc)
 
 -- a return
-pub returned_gives : (m : Module) (s : State) (f : Frame) (callers : List Frame) (kind : Kind) (result : Option Value) → ((v : Value) → result ≡ Some v → IsOfKind (present m s.objects) kind v) → ((result ≡ None) → kind ≡ NoValue) → Calling m s kind f.into callers → Properly (IsTypedTurn m) (return_turn s f callers result)
-returned_gives m s f (g ∷ gs) kind result is void c =
-    over_changed m s.objects (without s.objects f.objects) (resumed (g ∷ gs) f.into result) (without_is (present m s.objects) f.objects s.objects c.cells)
+pub returned_gives : (m : Module) (s : State) (f : Frame) (callers : List Frame) (kind : Kind) (result : Option Value) → ((v : Value) → result ≡ Some v → IsOfKind (present m s.objects) kind v) → ((result ≡ None) → kind ≡ NoValue) → Each (IsOwn (present m s.objects)) f.objects → Calling m s kind f.into callers → Properly (IsTypedTurn m) (return_turn s f callers result)
+returned_gives m s f (g ∷ gs) kind result is void own c =
+    over_changed m s.objects (without s.objects f.objects) (resumed (g ∷ gs) f.into result) (without_is (present m s.objects) f.objects s.objects own c.cells)
     (resumed_are m (present m s.objects) kind f.into g gs result is c.waiting) c.globals
-returned_gives m s f [] kind (Some (Num w n)) is void c = tt
-returned_gives m s f [] kind (Some Null) is void c = absurd (subst (λ k. IsOfKind (present m s.objects) k Null) c.waiting (is Null refl))
-returned_gives m s f [] kind (Some (At o d)) is void c = absurd (subst (λ k. IsOfKind (present m s.objects) k (At o d)) c.waiting (is (At o d) refl))
-returned_gives m s f [] kind (Some (Fun g)) is void c = absurd (subst (λ k. IsOfKind (present m s.objects) k (Fun g)) c.waiting (is (Fun g) refl))
-returned_gives m s f [] kind None is void c = no_number (sym (void refl) ∙ c.waiting)
+returned_gives m s f [] kind (Some (Num w n)) is void own c = tt
+returned_gives m s f [] kind (Some Null) is void own c = absurd (subst (λ k. IsOfKind (present m s.objects) k Null) c.waiting (is Null refl))
+returned_gives m s f [] kind (Some (At o d)) is void own c = absurd (subst (λ k. IsOfKind (present m s.objects) k (At o d)) c.waiting (is (At o d) refl))
+returned_gives m s f [] kind (Some (Fun g)) is void own c = absurd (subst (λ k. IsOfKind (present m s.objects) k (Fun g)) c.waiting (is (Fun g) refl))
+returned_gives m s f [] kind None is void own c = no_number (sym (void refl) ∙ c.waiting)
 
 -- where a call may go
 abbrev pub IsTarget : Present → Kind → List Kind → Target → Type 0

@@ -26,7 +26,7 @@ use Rattle.ir_sound.specs.WellTyped.{Present, IsPastCall, Properly, IsOfKind, pr
 use Rattle.ir_sound.proofs.AnswerLaws.{then_gives}
 use Rattle.ir_sound.proofs.Calls.{IsTarget, called_gives, target_gives}
 use Rattle.ir_sound.proofs.Frames.{Calling, Here, alloca_turn, fits_awaits, further, gives_turn, stores_turn}
-use Rattle.ir_sound.proofs.Objects.{store_gives}
+use Rattle.ir_sound.proofs.Objects.{globals_within, store_gives}
 use Rattle.ir_sound.proofs.Operands.{AreOfKinds, Covers, args_give, value_gives}
 use Rattle.ir_sound.proofs.Operations.{result_gives}
 use Rattle.ir_sound.proofs.SameLaws.{not_true}
@@ -42,7 +42,7 @@ module _ (m : Module) (s : State) (f : Frame) (callers : List Frame) (h : Here m
 
   -- the globals and functions of the module are there
   pub covered : Covers m here
-  covered = record { globals = h.globals; functions = refl }
+  covered = record { globals = globals_within m m.globals s.objects h.globals; functions = refl }
 
   -- an operand of the call
   pub operand_gives : (kind : Kind) (a : Operand) → operand_fits m env kind a ≡ true → Properly (IsOfKind here kind) (value_of m f.locals kind a)
