@@ -7,9 +7,3 @@ pub mod Loops
 pub mod Present
 pub mod Tails
 pub mod Whole
-pub mod Small
-pub mod Always
-pub mod BuiltTypes
-pub mod BuiltValues
-pub mod BuiltInstructions
-pub mod BuiltModule

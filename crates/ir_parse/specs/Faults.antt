@@ -1,5 +1,5 @@
 -- What a fault says of the tokens of a text.
-use Rattle.std.specs.Prelude.{◌≡◌, ◌<◌, ◌^◌, ℕ, All, Bool, true, false, List, [], ◌∷◌, ◌++◌, length, Option, Some, None}
+use Rattle.std.specs.Prelude.{◌≡◌, ℕ, Bool, true, false, List, [], ◌∷◌, ◌++◌, length, Option, Some, None}
 use Rattle.ir_lex.specs.declared.token.Token.{Token}
 use Rattle.ir_lex.specs.declared.token.TokenKind.{TokenKind}
 use Rattle.ir_lex.specs.declared.token.TokenKind.TheVariants as kind
@@ -60,10 +60,6 @@ Faults tokens end NoMemory = Unit {0}
 -- the tokens are those of some text of this length
 abbrev pub AreOfText : List Token → ℕ → Type 0
 AreOfText tokens end = (text : List ℕ) × (length text ≡ end) × Scans text tokens
-
--- the same, of a text of fewer than 2^32 bytes
-abbrev pub AreOfSmallText : List Token → Type 0
-AreOfSmallText tokens = (text : List ℕ) × All (λ b. b < 256) text × (length text < 2 ^ 32) × Scans text tokens
 
 -- how a private call leaves tokens that are no module's: so many are left from the first stray one on
 abbrev pub LeavesStray : List TokenKind → Stop → Type 0

@@ -17,5 +17,3 @@ pub mod laws;
 pub mod module;
 pub mod parse;
 pub mod terminator;
-#[cfg(test)]
-mod tests;

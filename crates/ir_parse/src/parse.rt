@@ -8,7 +8,8 @@ ghost use Rattle.ir_grammar.specs.Tokens.{kinds};
 ghost use Rattle.ir_grammar.specs.Grammar.{Derives};
 ghost use Rattle.ir_syntax.specs.ModuleText.{module_text as a_module_text};
 ghost use Rattle.ir_core.specs.Built.{IsBuilt};
-ghost use Rattle.ir_parse.specs.Faults.{Faults, LeavesStray, Tells, AreOfText, AreOfSmallText, is_unsupported as is_unsupported_at};
+ghost use Rattle.ir_built.specs.SmallTexts.{AreOfSmallText};
+ghost use Rattle.ir_parse.specs.Faults.{Faults, LeavesStray, Tells, AreOfText, is_unsupported as is_unsupported_at};
 
 use crate::module::module_text;
 use ir_core::module::Module;
@@ -178,7 +179,7 @@ fn told(alloc: Global, tokens: &[Token], stop: Stop, end: u64) -> ParseFault
 /// one with which no module's text goes on, or `end`; `Unsupported` exactly where that token is a word
 /// that is known and not supported. A text of fewer than 2^32 bytes says none but built modules. Takes
 /// time and memory linear in the tokens.
-#[tactic(auto, using(crate::proofs::BuiltModule::small_built))]
+#[tactic(auto, using(ir_built::proofs::BuiltModule::small_built))]
 pub fn parse(alloc: Global, tokens: &List<Token>, end: u64) -> Result<Module, ParseFault>
     requires { AreOfText tokens.now end }
     ensures text { IfOk result (λ m. Derives a_module_text m (kinds tokens.now)) }

@@ -26,8 +26,6 @@ mod instruction;
 pub mod law;
 mod names;
 mod terminator;
-#[cfg(test)]
-mod tests;
 mod types;
 mod values;
 

@@ -147,7 +147,8 @@ fn do_fit(firsts: &Firsts, row: &NameSet, entries: &[Entry]) -> bool
 
 /// Whether the entries of a phi are for the blocks of a row, and those for one block agree.
 pub fn fits_edges(alloc: Global, row: &NameSet, entries: &[Entry]) -> Result<bool, NoMemory>
-    ensures { IfOk result (λ r. r ≡ (entries_fit row.now entries.now && entries_agree entries.now)) }
+    ensures { IfOk result (λ r. r ≡
+        (entries_fit row.now entries.now && entries_agree entries.now)) }
 {
     let firsts = first_entries(alloc, entries)?;
     let fit = do_fit(&firsts, row, entries);

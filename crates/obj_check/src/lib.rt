@@ -27,8 +27,6 @@ mod marks;
 mod notes;
 mod saved;
 mod slots;
-#[cfg(test)]
-mod tests;
 
 use code::{CodeRule, first_in_functions};
 use disassembly::{AllNoted, note_all};

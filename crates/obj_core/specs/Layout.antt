@@ -1,7 +1,9 @@
 -- The image of an object for a layout seed: slots, data, and code where the seed places it.
-use Rattle.std.specs.Prelude.{ℕ, ◌+◌, ◌-◌, List, [], ◌∷◌, ◌++◌, length, Option, Some, None, slice_get}
+use Rattle.std.specs.Prelude.{ℕ, ◌+◌, ◌-◌, List, [], ◌∷◌, ◌++◌, length, take, Option, Some, None, slice_get, pos}
 use Rattle.x86_core.specs.declared.image.Segment.{Segment}
 use Rattle.x86_core.specs.declared.image.Image.{Image}
+use Rattle.x86_core.specs.declared.instr.Instr.TheVariants.{Jmp, Call, CallR11, Syscall, Nop}
+use Rattle.x86_core.specs.Encoding.{encoding}
 use Rattle.x86_core.specs.Data.{ro_start, rw_start, segment}
 use Rattle.obj_core.specs.declared.object.Object.{Object}
 use Rattle.obj_core.specs.declared.object.Link.{Link}
@@ -24,12 +26,19 @@ code_from at end starts ps = filler (up16 end - end)
 unfoldable pub code_bytes : Object → ℕ → List ℕ
 code_bytes o seed = code_from (positions o) (code_base seed) (starts o seed) (pieces_in o.functions (order o seed))
 
--- JMP rel32 and CALL rel32 that end at an address
+-- JMP rel32 and CALL rel32 that end at an address: the opcode, and the displacement from there
 abbrev pub jump : ℕ → ℕ → List ℕ
-jump to end = 0xE9 ∷ displacement_bytes to end
+jump to end = take 1 (encoding (Jmp (pos 0))) ++ displacement_bytes to end
 
 abbrev pub call : ℕ → ℕ → List ℕ
-call to end = 0xE8 ∷ displacement_bytes to end
+call to end = take 1 (encoding (Call (pos 0))) ++ displacement_bytes to end
+
+-- five bytes that call through r11, and five that ask the system
+abbrev pub call_through_r11 : List ℕ
+call_through_r11 = encoding Nop ++ (encoding Nop ++ encoding CallR11)
+
+abbrev pub system_call : List ℕ
+system_call = encoding Syscall ++ (encoding Nop ++ (encoding Nop ++ encoding Nop))
 
 -- the sixteen bytes of a slot at an address, where code has these addresses
 abbrev pub trampoline : (CodeAt → ℕ) → ℕ → Option Slot → List ℕ
@@ -37,10 +46,8 @@ trampoline code at None = filler 16
 trampoline code at (Some (Slot.Entry target)) = jump (code (start_of target)) (at + 5) ++ filler 11
 trampoline code at (Some (Slot.Jump target)) = jump (code (start_of target)) (at + 5) ++ filler 11
 trampoline code at (Some (Slot.Call target back)) = call (code (start_of target)) (at + 5) ++ (jump (code back) (at + 10) ++ filler 6)
--- NOP, NOP, CALL r11
-trampoline code at (Some (Slot.Indirect back)) = (0x90 ∷ 0x90 ∷ 0x41 ∷ 0xFF ∷ 0xD3 ∷ []) ++ (jump (code back) (at + 10) ++ filler 6)
--- SYSCALL, NOP, NOP, NOP
-trampoline code at (Some (Slot.System back)) = (0x0F ∷ 0x05 ∷ 0x90 ∷ 0x90 ∷ 0x90 ∷ []) ++ (jump (code back) (at + 10) ++ filler 6)
+trampoline code at (Some (Slot.Indirect back)) = call_through_r11 ++ (jump (code back) (at + 10) ++ filler 6)
+trampoline code at (Some (Slot.System back)) = system_call ++ (jump (code back) (at + 10) ++ filler 6)
 
 -- slots of these numbers, one behind the other
 abbrev pub trampolines : (CodeAt → ℕ) → List ℕ → List Slot → List ℕ → List ℕ

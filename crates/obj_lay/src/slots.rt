@@ -20,6 +20,15 @@ use rd_num::width::NoMemory;
 use std::alloc::Global;
 use x86_core::image::Segment;
 
+/// JMP rel32, without its displacement.
+const JMP: u8 = 0xE9;
+/// CALL rel32, without its displacement.
+const CALL: u8 = 0xE8;
+/// NOP, NOP, CALL r11.
+const CALL_THROUGH_R11: [u8; 5] = [0x90, 0x90, 0x41, 0xFF, 0xD3];
+/// SYSCALL, NOP, NOP, NOP.
+const SYSTEM_CALL: [u8; 5] = [0x0F, 0x05, 0x90, 0x90, 0x90];
+
 /// The segment of all slots.
 pub fn slot_segment(
     alloc: Global,
@@ -54,19 +63,19 @@ fn put_slot(builder: &mut CodeBuilder, plan: &CodePlan, at: u32, slot: &Slot)
     } }
 {
     match slot {
-        Slot::Entry { target } => put_branch(builder, plan, at, 0xE9, &start(*target)),
-        Slot::Jump { target } => put_branch(builder, plan, at, 0xE9, &start(*target)),
+        Slot::Entry { target } => put_branch(builder, plan, at, JMP, &start(*target)),
+        Slot::Jump { target } => put_branch(builder, plan, at, JMP, &start(*target)),
         Slot::Call { target, back } => {
-            put_branch(builder, plan, at, 0xE8, &start(*target));
-            put_branch(builder, plan, at + 5, 0xE9, back);
+            put_branch(builder, plan, at, CALL, &start(*target));
+            put_branch(builder, plan, at + 5, JMP, back);
         }
         Slot::Indirect { back } => {
-            builder.bytes(at, &[0x90, 0x90, 0x41, 0xFF, 0xD3]);
-            put_branch(builder, plan, at + 5, 0xE9, back);
+            builder.bytes(at, &CALL_THROUGH_R11);
+            put_branch(builder, plan, at + 5, JMP, back);
         }
         Slot::System { back } => {
-            builder.bytes(at, &[0x0F, 0x05, 0x90, 0x90, 0x90]);
-            put_branch(builder, plan, at + 5, 0xE9, back);
+            builder.bytes(at, &SYSTEM_CALL);
+            put_branch(builder, plan, at + 5, JMP, back);
         }
     }
 }

@@ -42,8 +42,6 @@ pub mod making;
 pub mod put;
 pub mod report;
 pub mod stream;
-#[cfg(test)]
-mod tests;
 
 /// Does what a command asks for; puts nothing on the sink for messages.
 fn work<F: Files, I: Source, O: Sink>(

@@ -20,6 +20,4 @@ pub mod report_text;
 pub mod script;
 pub mod show;
 mod state;
-#[cfg(test)]
-mod tests;
 pub mod watch;

@@ -57,6 +57,3 @@ fn first_instruction(bytes: &[u8]) -> Decoded
         }
     }
 }
-
-#[cfg(test)]
-mod tests;

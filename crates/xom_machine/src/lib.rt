@@ -9,5 +9,3 @@
 pub mod kernel;
 pub mod machine;
 pub mod step;
-#[cfg(test)]
-mod tests;

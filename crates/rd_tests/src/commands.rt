@@ -1,12 +1,12 @@
 //! The top call over files and streams in memory: words, texts, and an outside that fails.
 
-use crate::top;
 use rd_io::memory::{File, MemFiles, MemSink};
 use rd_io::sure::{SureFiles, SureSink, SureSource};
 use rd_io::{Files, Sink};
 use rd_num::copied::copy_list;
 use rd_num::list::List;
 use rd_num::width::NoMemory;
+use rd_top::top;
 use std::alloc::{AllocError, Global};
 use std::test::Fail;
 

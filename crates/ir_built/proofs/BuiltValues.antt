@@ -21,8 +21,8 @@ use Rattle.ir_grammar.specs.Grammar.{Grammar}
 use Rattle.ir_syntax.specs.Values.{const_value, plain_value, place_index, place, fixed_value, value}
 use Rattle.ir_syntax.specs.Initialisers.{element, simple_init, array_init, struct_init, packed_init, deep_init, init_at, init}
 use Rattle.ir_syntax.specs.Parameters.{declared_param, declared_params, arg, args}
-use Rattle.ir_parse.proofs.Always.{Always, Passes, given, with_such, with, before, one_of_two, weaker, FewEach, Each, built_each, worded, several, comma_before, commas}
-use Rattle.ir_parse.proofs.BuiltTypes.{local_always, global_always, int_always, string_always, type_always}
+use Rattle.ir_built.proofs.Always.{Always, Passes, given, with_such, with, before, one_of_two, weaker, FewEach, Each, built_each, worded, several, comma_before, commas}
+use Rattle.ir_built.proofs.BuiltTypes.{local_always, global_always, int_always, string_always, type_always}
 
 -- constants
 pub const_always : Passes const_value case_value_built

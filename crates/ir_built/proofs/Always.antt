@@ -10,7 +10,7 @@ use Rattle.ir_grammar.specs.Grammar.{Grammar, give, token, either, many, Row, De
 use Rattle.ir_grammar.specs.Parts.{behind_comma, listed}
 use Rattle.ir_grammar.specs.Reading.{null}
 use Rattle.ir_grammar.proofs.Heads.{nulls}
-use Rattle.ir_parse.proofs.Small.{is_small, AreSmall, small_left, small_right}
+use Rattle.ir_built.proofs.Small.{is_small, AreSmall, small_left, small_right}
 
 -- each value has the property
 pub record Always {A : Type 0} (g : Grammar A) (P : A → Type 0) : Type 0 where

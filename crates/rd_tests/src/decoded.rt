@@ -3,9 +3,11 @@
 //!
 //! A `rex` before the mnemonic gave the forms of bytes whose registers don't ask for one.
 
-use super::*;
-use x86_core::instr::{AluOp, Cond, HighSize, ImmOp, Instr, Mem, ShiftOp, Size, Wide, WidenKind};
+use x86_core::instr::{
+    AluOp, Cond, Decoded, HighSize, ImmOp, Instr, Mem, ShiftOp, Size, Wide, WidenKind,
+};
 use x86_core::reg::Reg;
+use x86_decode::decode_one;
 
 // How many instructions the bytes spell one after another, up to the first that isn't the next of
 // the list. Nothing may be left over.

@@ -34,12 +34,12 @@ use Rattle.ir_syntax.specs.Items.{source_item, target_item, type_item, global_it
 use Rattle.ir_syntax.specs.ModuleText.{types_in, globals_in, externs_in, functions_in, module_text}
 use Rattle.ir_syntax.proofs.FineInstructions.{item-inst}
 use Rattle.ir_syntax.proofs.FineModule.{known-block, item-labelled, item-item}
-use Rattle.ir_parse.specs.Faults.{AreOfSmallText}
-use Rattle.ir_parse.proofs.Small.{AreSmall, small_left, small_right, name_is, text_small}
-use Rattle.ir_parse.proofs.Always.{Always, Passes, given, with_such, with, with_any, before, one_of_two, perhaps, FewEach, Each, WhereSome, built_each, several, rows, some_tokens, some_each, commas}
-use Rattle.ir_parse.proofs.BuiltTypes.{local_always, global_always, label_always, plain_name, plain_global_always, type_always, struct_built, fields_always, result_always}
-use Rattle.ir_parse.proofs.BuiltValues.{declared_params_always, init_always}
-use Rattle.ir_parse.proofs.BuiltInstructions.{InstBuilt, inst_always, term_always}
+use Rattle.ir_built.specs.SmallTexts.{AreOfSmallText}
+use Rattle.ir_built.proofs.Small.{AreSmall, small_left, small_right, name_is, text_small}
+use Rattle.ir_built.proofs.Always.{Always, Passes, given, with_such, with, with_any, before, one_of_two, perhaps, FewEach, Each, WhereSome, built_each, several, rows, some_tokens, some_each, commas}
+use Rattle.ir_built.proofs.BuiltTypes.{local_always, global_always, label_always, plain_name, plain_global_always, type_always, struct_built, fields_always, result_always}
+use Rattle.ir_built.proofs.BuiltValues.{declared_params_always, init_always}
+use Rattle.ir_built.proofs.BuiltInstructions.{InstBuilt, inst_always, term_always}
 
 -- decimal numbers as names
 digit_byte : (c : ℕ) → digit_value c < 10 → is_name_byte c ≡ true

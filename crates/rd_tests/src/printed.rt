@@ -3,12 +3,12 @@
 //! The modules behind the first are never run: their lines are all forms that a text can have, a line
 //! for each, and names and bytes that can't stand as they are.
 
-use crate::module_text;
 use ir_core::init::{Elem, Init};
 use ir_core::instruction::{Arg, BinOp, Case, CastOp, Entry, Inst, Op, Pred, Term};
 use ir_core::module::{Block, Extern, Function, GlobalVar, Module, Param};
 use ir_core::operand::{Index0, Operand, Place0};
 use ir_core::ty::{Name, NamedTy, Ty};
+use ir_print::module_text;
 use rd_num::boxed::Boxed;
 use rd_num::copied::copy_list;
 use rd_num::list::List;

@@ -20,8 +20,8 @@ use Rattle.ir_grammar.specs.Grammar.{Grammar}
 use Rattle.ir_grammar.specs.Parts.{a_count, a_local, a_global, a_label}
 use Rattle.ir_syntax.specs.Words.{an_int, int_of, a_cstr, bytes_of, plain_global}
 use Rattle.ir_syntax.specs.Types.{simple_type, array_type, plain_struct, packed_struct, struct_type, type_at, ty, fields_type, rtype}
-use Rattle.ir_parse.proofs.Small.{is_small}
-use Rattle.ir_parse.proofs.Always.{Always, Passes, given, tokened, with_such, with, before, one_of_two, weaker, FewEach, Each, worded, commas}
+use Rattle.ir_built.proofs.Small.{is_small}
+use Rattle.ir_built.proofs.Always.{Always, Passes, given, tokened, with_such, with, before, one_of_two, weaker, FewEach, Each, worded, commas}
 
 -- a sort that is one of two, of which neither is asked for
 neither : (ss : List Sort) (s r : Sort) (b : Bool) → has ss s ≡ false → has ss r ≡ false → has ss (chosen b s r) ≡ true → ⊥

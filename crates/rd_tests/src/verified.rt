@@ -5,8 +5,8 @@
 
 ghost use Rattle.std.specs.Prelude.{◌<◌, length};
 
-use crate::check;
-use crate::fault::{ShapeFault, ShapeSpot};
+use obj_check::check;
+use obj_check::fault::{ShapeFault, ShapeSpot};
 use obj_file::read::read;
 use rd_num::bytes::put_u32_le;
 use rd_num::list::List;

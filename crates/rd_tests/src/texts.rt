@@ -1,8 +1,8 @@
 //! Tables of texts, each with what is read of it: the shape of the module, or the fault.
 
-use crate::parse::{ParseFault, parse};
 use ir_core::module::{Block, Function, Module};
 use ir_lex::{LexFault, lex};
+use ir_parse::parse::{ParseFault, parse};
 use std::alloc::{AllocError, Global};
 use std::test::Fail;
 

@@ -1,6 +1,5 @@
 //! Short programs, spelled by hand, and how the machine stands after them.
 
-use crate::machine::Machine;
 use bitflags::Flags;
 use rd_io::RunFault;
 use rd_io::memory::{MemSink, MemSource};
@@ -11,6 +10,7 @@ use rd_num::width::NoMemory;
 use std::alloc::Global;
 use x86_core::image::{Image, MachOutcome, Rights, STACK_END, STACK_START, Segment};
 use x86_core::reg::Reg;
+use xom_machine::machine::Machine;
 
 /// Where code, constants and data of these tests stand.
 const CODE: u64 = 0x4000_0000;

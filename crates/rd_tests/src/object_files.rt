@@ -3,9 +3,9 @@
 //! The bytes were put together by hand from docs/object-format.md. A file is read, and its object is
 //! written again; a file that is spoiled must name the place where it leaves the format.
 
-use crate::fault::FormFault;
-use crate::read::read;
-use crate::write::write;
+use obj_file::fault::FormFault;
+use obj_file::read::read;
+use obj_file::write::write;
 use rd_num::list::List;
 use std::alloc::Global;
 

@@ -20,10 +20,10 @@ use Rattle.ir_syntax.specs.Words.{a_comma}
 use Rattle.ir_syntax.specs.Instructions.{binary, compare, cast, select, freeze, counted, alloca_tail, alloca, load, index, index_rows, indices, gep, entry, entry_rows, entries, phi, call_head, callee, call, op, store, void_callee, void_call, without_name, named_inst, void_inst, debug_inst, inst}
 use Rattle.ir_syntax.specs.Terminators.{target, ret, br, case, switch, unreachable, ending, term}
 use Rattle.ir_syntax.proofs.FineModule.{item-case}
-use Rattle.ir_parse.proofs.Small.{AreSmall, small_left, small_right}
-use Rattle.ir_parse.proofs.Always.{Always, Passes, given, with_such, with, with_any, before, one_of_two, FewEach, Each, WhereSome, built_each, several, some_tokens, some_each, row_each}
-use Rattle.ir_parse.proofs.BuiltTypes.{count_always, local_always, plain_name, plain_global_always, type_always, result_always}
-use Rattle.ir_parse.proofs.BuiltValues.{ArgBuilt, value_always, const_always, args_always}
+use Rattle.ir_built.proofs.Small.{AreSmall, small_left, small_right}
+use Rattle.ir_built.proofs.Always.{Always, Passes, given, with_such, with, with_any, before, one_of_two, FewEach, Each, WhereSome, built_each, several, some_tokens, some_each, row_each}
+use Rattle.ir_built.proofs.BuiltTypes.{count_always, local_always, plain_name, plain_global_always, type_always, result_always}
+use Rattle.ir_built.proofs.BuiltValues.{ArgBuilt, value_always, const_always, args_always}
 
 -- an operation that gives a value
 abbrev gives_value : Op → Bool

@@ -1,16 +1,16 @@
 //! One machine whose text has every kind of line: unknown flags, a stop, zeros, and a short piece; scripts
 //! that are good and bad; and one report.
 
-use crate::parse::{ScriptFault, parse_script};
-use crate::report_text::report_text;
-use crate::show::show_text;
-use crate::watch::watch;
 use bitflags::Flags;
 use rd_io::sure::{CountSink, SureSource};
 use rd_num::copied::copy_list;
 use rd_num::list::List;
 use rd_num::width::NoMemory;
 use std::alloc::Global;
+use watch_script::parse::{ScriptFault, parse_script};
+use watch_script::report_text::report_text;
+use watch_script::show::show_text;
+use watch_script::watch::watch;
 use x86_core::image::{Image, MachOutcome, Rights, Segment};
 use xom_machine::machine::Machine;
 
