@@ -32,7 +32,7 @@ kinds_of_params (p ∷ ps) = ap (λ ks. kind_of p.ty ∷ ks) (kinds_of_params ps
 
 -- a declaration that is called
 extern_rules : (m : Module) (name : List ℕ) (ret : Ty) (args : List Arg) → extern_called ret (types_of args) (first_where (λ (e : Extern). same_name e.name name) m.externs) ≡ true → outer_fits (outer_of name) (kind_of ret) (kinds_of args) ≡ true
-extern_rules m name ret args call_turn = of_externs m.externs call_turn
+extern_rules m name ret args rules = of_externs m.externs rules
   where
     one : (e : Extern) → same_name e.name name ≡ true → extern_called ret (types_of args) (Some e) ≡ true → outer_fits (outer_of name) (kind_of ret) (kinds_of args) ≡ true
     one e same c =

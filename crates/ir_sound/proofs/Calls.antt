@@ -1,5 +1,5 @@
 -- Calls and returns keep calls over memory.
-use Rattle.std.proofs.Common.{◌≡◌, ℕ, ◌<◌, ◌≤◌, Bool, true, false, List, [], ◌∷◌, length, map, Option, Some, None, Ok, Err, refl, ap, sym, ◌∙◌, subst, arith}
+use Rattle.std.proofs.Common.{◌≡◌, ℕ, ◌<◌, Bool, true, false, List, [], ◌∷◌, length, map, Option, Some, None, Ok, Err, refl, ap, sym, ◌∙◌, subst, arith}
 use Rattle.std.specs.Prelude.{not, nat_le, slice_get, if◌then◌else◌}
 use Rattle.std.proofs.lemmas.Bool.{and_parts}
 use Rattle.rd_num.specs.declared.width.Width.TheVariants.{W32}
@@ -30,15 +30,15 @@ use Rattle.ir_core.specs.Typing.{Env, has_kind, is_value, outer_fits, named_fits
 use Rattle.std.specs.List.{list_all}
 use Rattle.ir_core.specs.Valid.{env_of, is_phi, leads_to}
 use Rattle.ir_sound.specs.Typed.{no_phi, param_typed, entry_typed, functions_typed}
-use Rattle.ir_sound.specs.WellTyped.{Each, Properly, Present, IsOfKind, IsObject, IsLocal, IsInBlock, AreWaiting, AreCalls, present, IsTypedTurn}
+use Rattle.ir_sound.specs.WellTyped.{IsOwn, Each, Properly, Present, IsOfKind, IsLocal, IsInBlock, AreWaiting, AreCalls, present, IsTypedTurn}
 use Rattle.ir_sound.proofs.AnswerLaws.{if_gives, then_gives}
-use Rattle.ir_sound.proofs.Frames.{over_changed, resumed_are}
+use Rattle.ir_sound.proofs.Frames.{Calling, over_changed, resumed_are}
 use Rattle.ir_sound.proofs.Objects.{without_is}
 use Rattle.ir_sound.proofs.Operands.{AreOfKinds, Covers, function_below, local_gives}
 use Rattle.ir_sound.proofs.Parts.{FunctionParts, function_at}
 use Rattle.ir_sound.proofs.RowLaws.{first_passes, found_any, item_at}
 use Rattle.ir_sound.proofs.SameLaws.{has_kind_is, kind_is, kinds_are, none_is, not_true}
-use Rattle.ir_sound.proofs.Outside.{Calling, outer_gives}
+use Rattle.ir_sound.proofs.Outside.{outer_gives}
 
 -- parameters are locals of their kinds
 pub bound_are : (x : Present) (env : Env) (ps : List Param) (vs : List Value) → list_all (param_typed env) ps ≡ true → AreOfKinds x (map (λ (p : Param). kind_of p.ty) ps) vs → Each (IsLocal x env) (bound ps vs)
@@ -80,48 +80,48 @@ entered_calls m x number fn values into callers here parts are waiting =
     (s.0, subst (λ f. AreWaiting m x (kind_of f.ret) into callers) (sym s.1) waiting)
 
 -- a call of a function, if it has the call's types and there are not too many
-function_entered : (m : Module) (s : State) (callers : List Frame) (ret : Kind) (kinds : List Kind) (values : List Value) (into : Option (List ℕ)) (number : ℕ) (f : Function) → slice_get m.functions number ≡ Some f → functions_typed m m.functions ≡ true → Each (IsObject (present m s.objects)) s.objects → length m.globals ≤ length s.objects → AreOfKinds (present m s.objects) kinds values → AreWaiting m (present m s.objects) ret into callers → (b : Bool) → is_called_as f ret kinds ≡ b
+function_entered : (m : Module) (s : State) (callers : List Frame) (ret : Kind) (kinds : List Kind) (values : List Value) (into : Option (List ℕ)) (number : ℕ) (f : Function) → slice_get m.functions number ≡ Some f → functions_typed m m.functions ≡ true → AreOfKinds (present m s.objects) kinds values → Calling m s ret into callers → (b : Bool) → is_called_as f ret kinds ≡ b
     → Properly (IsTypedTurn m) (if b then (if nat_le MAX_CALLS (length s.frames) then Err Depth else Ok (record { frames = first_frame number f values into ∷ callers; objects = s.objects; exchange = Nothing })) else Err (Left Callee))
-function_entered m s callers ret kinds values into number f here typed cells globals are waiting false e = tt
-function_entered m s callers ret kinds values into number f here typed cells globals are waiting true e =
+function_entered m s callers ret kinds values into number f here typed are c false e = tt
+function_entered m s callers ret kinds values into number f here typed are c true e =
     let x = present m s.objects in
     let parts = and_parts (same_kind (kind_of f.ret) ret) (same_kinds (map (λ (p : Param). kind_of p.ty) f.params) kinds) e in
     let t : Turn = record { frames = first_frame number f values into ∷ callers; objects = s.objects; exchange = Nothing } in
     if_gives (IsTypedTurn m) (nat_le MAX_CALLS (length s.frames)) (Err Depth) (Ok t) tt (record {
       calls = entered_calls m x number f values into callers here (function_at m number f typed here)
           (subst (λ ks. AreOfKinds x ks values) (sym (kinds_are (map (λ (p : Param). kind_of p.ty) f.params) kinds parts.1)) are)
-          (subst (λ k. AreWaiting m x k into callers) (sym (kind_is (kind_of f.ret) ret parts.0)) waiting);
-      cells = cells;
-      globals = globals;
+          (subst (λ k. AreWaiting m x k into callers) (sym (kind_is (kind_of f.ret) ret parts.0)) c.waiting);
+      cells = c.cells;
+      globals = c.globals;
     })
 
 -- a call of a value
-pub entered_gives : (m : Module) (s : State) (callers : List Frame) (ret : Kind) (kinds : List Kind) (values : List Value) (into : Option (List ℕ)) → functions_typed m m.functions ≡ true → Each (IsObject (present m s.objects)) s.objects → length m.globals ≤ length s.objects → AreOfKinds (present m s.objects) kinds values → AreWaiting m (present m s.objects) ret into callers → (v : Value) → IsOfKind (present m s.objects) Pointer v → Properly (IsTypedTurn m) (entry_turn m s callers ret kinds values into v)
-entered_gives m s callers ret kinds values into typed cells globals are waiting (Num w n) is = tt
-entered_gives m s callers ret kinds values into typed cells globals are waiting Null is = tt
-entered_gives m s callers ret kinds values into typed cells globals are waiting (At o d) is = tt
-entered_gives m s callers ret kinds values into typed cells globals are waiting (Fun number) is =
+pub entered_gives : (m : Module) (s : State) (callers : List Frame) (ret : Kind) (kinds : List Kind) (values : List Value) (into : Option (List ℕ)) → functions_typed m m.functions ≡ true → AreOfKinds (present m s.objects) kinds values → Calling m s ret into callers → (v : Value) → IsOfKind (present m s.objects) Pointer v → Properly (IsTypedTurn m) (entry_turn m s callers ret kinds values into v)
+entered_gives m s callers ret kinds values into typed are c (Num w n) is = tt
+entered_gives m s callers ret kinds values into typed are c Null is = tt
+entered_gives m s callers ret kinds values into typed are c (At o d) is = tt
+entered_gives m s callers ret kinds values into typed are c (Fun number) is =
     let there = item_at m.functions number is in
     let one : Function → Answer Turn = λ g. if is_called_as g ret kinds
     then (if nat_le MAX_CALLS (length s.frames) then Err Depth else Ok (record { frames = first_frame number g values into ∷ callers; objects = s.objects; exchange = Nothing }))
     else Err (Left Callee) in
     subst (λ o. Properly (IsTypedTurn m) (and_then (found_or Malformed o) one)) (sym there.1)
-    (function_entered m s callers ret kinds values into number there.0 there.1 typed cells globals are waiting (is_called_as there.0 ret kinds) refl)
+    (function_entered m s callers ret kinds values into number there.0 there.1 typed are c (is_called_as there.0 ret kinds) refl)
 
 -- nothing isn't a number
 no_number : {X : Type 0} → NoValue ≡ Number W32 → X
 no_number e = absurd (cc)
 
 -- a return
-pub returned_gives : (m : Module) (s : State) (f : Frame) (callers : List Frame) (kind : Kind) (result : Option Value) → ((v : Value) → result ≡ Some v → IsOfKind (present m s.objects) kind v) → ((result ≡ None) → kind ≡ NoValue) → AreWaiting m (present m s.objects) kind f.into callers → Each (IsObject (present m s.objects)) s.objects → length m.globals ≤ length s.objects → Properly (IsTypedTurn m) (return_turn s f callers result)
-returned_gives m s f (g ∷ gs) kind result is list_any waiting cells globals =
-    over_changed m s.objects (without s.objects f.objects) (resumed (g ∷ gs) f.into result) (without_is (present m s.objects) f.objects s.objects cells)
-    (resumed_are m (present m s.objects) kind f.into g gs result is waiting) globals
-returned_gives m s f [] kind (Some (Num w n)) is list_any waiting cells globals = tt
-returned_gives m s f [] kind (Some Null) is list_any waiting cells globals = absurd (subst (λ k. IsOfKind (present m s.objects) k Null) waiting (is Null refl))
-returned_gives m s f [] kind (Some (At o d)) is list_any waiting cells globals = absurd (subst (λ k. IsOfKind (present m s.objects) k (At o d)) waiting (is (At o d) refl))
-returned_gives m s f [] kind (Some (Fun g)) is list_any waiting cells globals = absurd (subst (λ k. IsOfKind (present m s.objects) k (Fun g)) waiting (is (Fun g) refl))
-returned_gives m s f [] kind None is list_any waiting cells globals = no_number (sym (list_any refl) ∙ waiting)
+pub returned_gives : (m : Module) (s : State) (f : Frame) (callers : List Frame) (kind : Kind) (result : Option Value) → ((v : Value) → result ≡ Some v → IsOfKind (present m s.objects) kind v) → ((result ≡ None) → kind ≡ NoValue) → Each (IsOwn (present m s.objects)) f.objects → Calling m s kind f.into callers → Properly (IsTypedTurn m) (return_turn s f callers result)
+returned_gives m s f (g ∷ gs) kind result is void own c =
+    over_changed m s.objects (without s.objects f.objects) (resumed (g ∷ gs) f.into result) (without_is (present m s.objects) f.objects s.objects own c.cells)
+    (resumed_are m (present m s.objects) kind f.into g gs result is c.waiting) c.globals
+returned_gives m s f [] kind (Some (Num w n)) is void own c = tt
+returned_gives m s f [] kind (Some Null) is void own c = absurd (subst (λ k. IsOfKind (present m s.objects) k Null) c.waiting (is Null refl))
+returned_gives m s f [] kind (Some (At o d)) is void own c = absurd (subst (λ k. IsOfKind (present m s.objects) k (At o d)) c.waiting (is (At o d) refl))
+returned_gives m s f [] kind (Some (Fun g)) is void own c = absurd (subst (λ k. IsOfKind (present m s.objects) k (Fun g)) c.waiting (is (Fun g) refl))
+returned_gives m s f [] kind None is void own c = no_number (sym (void refl) ∙ c.waiting)
 
 -- where a call may go
 abbrev pub IsTarget : Present → Kind → List Kind → Target → Type 0
@@ -137,9 +137,9 @@ named_gives m x c name ret kinds (Some g) f None e fits below =
     none_is there.number (sym e ∙ there.numbered)
 
 -- a call of a target
-pub called_gives : (m : Module) (input : List ℕ) (s : State) (ret : Kind) (kinds : List Kind) (into : Option (List ℕ)) (g : Frame) (gs : List Frame) (vs : List Value) → ((k b : ℕ) → slice_get input k ≡ Some b → b < 256) → functions_typed m m.functions ≡ true → Calling m s ret into g gs → AreOfKinds (present m s.objects) kinds vs → (t : Target) → IsTarget (present m s.objects) ret kinds t → Properly (IsTypedTurn m) (call_turn m input s (g ∷ gs) ret kinds vs into t)
+pub called_gives : (m : Module) (input : List ℕ) (s : State) (ret : Kind) (kinds : List Kind) (into : Option (List ℕ)) (g : Frame) (gs : List Frame) (vs : List Value) → ((k b : ℕ) → slice_get input k ≡ Some b → b < 256) → functions_typed m m.functions ≡ true → Calling m s ret into (g ∷ gs) → AreOfKinds (present m s.objects) kinds vs → (t : Target) → IsTarget (present m s.objects) ret kinds t → Properly (IsTypedTurn m) (call_turn m input s (g ∷ gs) ret kinds vs into t)
 called_gives m input s ret kinds into g gs vs bytes fits c are (Outside outer) is = outer_gives m input s ret kinds into g gs vs bytes c are outer is
-called_gives m input s ret kinds into g gs vs bytes fits c are (Inside v) is = entered_gives m s (g ∷ gs) ret kinds vs into fits c.cells c.globals are c.waiting v is
+called_gives m input s ret kinds into g gs vs bytes fits c are (Inside v) is = entered_gives m s (g ∷ gs) ret kinds vs into fits are c v is
 
 -- the callee of a call that fits
 pub target_gives : (m : Module) (x : Present) (env : Env) (locals : List Local) → Covers m x → Each (IsLocal x env) locals → (ret : Kind) (kinds : List Kind) (callee : Operand) → callee_fits m env ret kinds callee ≡ true → Properly (IsTarget x ret kinds) (target_of m locals callee)

@@ -1,5 +1,5 @@
 -- Calls over memory, and how single changes keep them.
-use Rattle.std.proofs.Common.{◌≡◌, ℕ, ◌+◌, ◌<◌, ◌≤◌, true, false, List, [], ◌∷◌, ◌++◌, length, Option, Some, None, Ok, refl, sym, subst, arith, length-append}
+use Rattle.std.proofs.Common.{◌≡◌, ℕ, ◌+◌, ◌<◌, true, false, List, [], ◌∷◌, ◌++◌, length, Option, Some, None, Ok, refl, sym, subst, arith, length-append}
 use Rattle.std.proofs.lemmas.List.{length-replicate}
 use Rattle.std.specs.Prelude.{replicate}
 use Rattle.std.proofs.lemmas.Bool.{and_parts}
@@ -18,9 +18,9 @@ use Rattle.ir_core.specs.Calls.{resumed, with_memory}
 use Rattle.ir_core.specs.Step.{past, gives, gives_alloca, stores}
 use Rattle.ir_core.specs.Typing.{Env, is_value, has_kind, into_fits}
 use Rattle.ir_core.specs.Valid.{env_of}
-use Rattle.ir_sound.specs.WellTyped.{Each, Properly, Present, IsOfKind, IsCell, IsObject, IsLocal, IsInBlock, Awaits, AreWaiting, AreCalls, present, AreOver, IsTypedTurn}
+use Rattle.ir_sound.specs.WellTyped.{Each, Properly, Present, IsOfKind, IsCell, IsObject, IsLocal, IsOwn, AreGlobals, IsInBlock, Awaits, AreWaiting, AreCalls, present, AreOver, IsTypedTurn}
 use Rattle.ir_sound.proofs.AnswerLaws.{then_gives}
-use Rattle.ir_sound.proofs.Objects.{IsMemory, Wider, kind_wider, objects_wider}
+use Rattle.ir_sound.proofs.Objects.{globals_before, globals_within, IsMemory, Wider, kind_wider, objects_wider}
 use Rattle.ir_sound.proofs.RowLaws.{Each_both, Each_more, Each_replicate}
 use Rattle.ir_sound.proofs.SameLaws.{has_kind_is}
 
@@ -49,9 +49,9 @@ further s locals below all = record {
 
 -- the innermost of the callers goes on with a result of the kind for which it waits
 pub resumed_are : (m : Module) (x : Present) (kind : Kind) (into : Option (List ℕ)) (g : Frame) (gs : List Frame) (result : Option Value) → ((v : Value) → result ≡ Some v → IsOfKind x kind v) → AreWaiting m x kind into (g ∷ gs) → AreCalls m x (resumed (g ∷ gs) into result)
-resumed_are m x kind into g gs None is waiting = (waiting.0, waiting.2)
+resumed_are m x kind into g gs None is waiting = (waiting.0.stands, waiting.1)
 resumed_are m x kind into g gs (Some v) is waiting =
-    let s = waiting.0 in (
+    let s = waiting.0.stands in (
       record {
         fn = s.fn;
         block = s.block;
@@ -60,25 +60,25 @@ resumed_are m x kind into g gs (Some v) is waiting =
         past_phis = s.past_phis;
         within = s.within;
         objects = s.objects;
-        locals = given_are x (env_of s.fn) into kind v g.locals waiting.1 (is v refl) s.locals;
+        locals = given_are x (env_of s.fn) into kind v g.locals waiting.0.awaits (is v refl) s.locals;
       },
-      waiting.2,
+      waiting.1,
     )
 
 -- memory of as many objects
-pub over_changed : (m : Module) (old new : Memory) (frames : List Frame) → IsMemory (present m old) (length old) new → AreCalls m (present m old) frames → length m.globals ≤ length old → AreOver m frames new
+pub over_changed : (m : Module) (old new : Memory) (frames : List Frame) → IsMemory (present m old) old new → AreCalls m (present m old) frames → AreGlobals m m.globals old → AreOver m frames new
 over_changed m old new frames kept calls globals =
-    let X : ℕ → Present = λ n. record { objects = n; functions = length m.functions } in
+    let X : ℕ → Present = λ n. record { globals = length m.globals; objects = n; functions = length m.functions } in
     record {
       calls = subst (λ n. AreCalls m (X n) frames) (sym kept.many) calls;
       cells = subst (λ n. Each (IsObject (X n)) new) (sym kept.many) kept.cells;
-      globals = subst (λ n. length m.globals ≤ n) (sym kept.many) globals;
+      globals = kept.globals m m.globals (omega arith) globals;
     }
 
 -- a step that changes memory alone
-pub memory_turn : (m : Module) (old : Memory) (frames : List Frame) (new : Answer Memory) → Properly (IsMemory (present m old) (length old)) new → AreCalls m (present m old) frames → length m.globals ≤ length old → Properly (IsTypedTurn m) (with_memory frames new)
+pub memory_turn : (m : Module) (old : Memory) (frames : List Frame) (new : Answer Memory) → Properly (IsMemory (present m old) old) new → AreCalls m (present m old) frames → AreGlobals m m.globals old → Properly (IsTypedTurn m) (with_memory frames new)
 memory_turn m old frames new kept calls globals =
-    then_gives (IsMemory (present m old) (length old)) (IsTypedTurn m) new (λ objects. Ok (record { frames = frames; objects = objects; exchange = Nothing })) kept
+    then_gives (IsMemory (present m old) old) (IsTypedTurn m) new (λ objects. Ok (record { frames = frames; objects = objects; exchange = Nothing })) kept
     (λ objects k. over_changed m old objects frames k calls globals)
 
 -- among more objects locals are what they are
@@ -87,7 +87,7 @@ locals_wider x y w env locals all = Each_more (IsLocal x env) (IsLocal y env) lo
 
 -- so are calls
 abbrev pub standing_wider : {m : Module} {f : Frame} (x y : Present) → Wider x y → (s : IsInBlock m x f) → IsInBlock m y f
-standing_wider {f = f} x y w s = record {
+standing_wider {m = m} {f = f} x y w s = record {
   fn = s.fn;
   block = s.block;
   in_module = s.in_module;
@@ -95,20 +95,32 @@ standing_wider {f = f} x y w s = record {
   past_phis = s.past_phis;
   within = s.within;
   locals = locals_wider x y w (env_of s.fn) f.locals s.locals;
-  objects = Each_more (λ o. o < x.objects) (λ o. o < y.objects) f.objects (λ o p. let h = w.objects in omega arith) s.objects;
+  objects = Each_more (IsOwn x) (IsOwn y) f.objects (λ o p. let r = p.0 in let q = p.1 in let h = w.objects in let g = w.globals in (omega arith, omega arith)) s.objects;
 }
 
 -- and those that wait
 pub waiting_wider : (m : Module) (x y : Present) → Wider x y → (kind : Kind) (into : Option (List ℕ)) (gs : List Frame) → AreWaiting m x kind into gs → AreWaiting m y kind into gs
 waiting_wider m x y w kind into [] waiting = waiting
-waiting_wider m x y w kind into (g ∷ gs) waiting = (standing_wider x y w waiting.0, waiting.1, waiting_wider m x y w (kind_of waiting.0.fn.ret) g.into gs waiting.2)
+waiting_wider m x y w kind into (g ∷ gs) waiting =
+    let one = waiting.0 in
+    (record { stands = standing_wider x y w one.stands; past = one.past; awaits = one.awaits }, waiting_wider m x y w (kind_of one.stands.fn.ret) g.into gs waiting.1)
 
 -- a call that stands, the calls that wait for it, and memory
 pub record Here (m : Module) (objects : Memory) (f : Frame) (callers : List Frame) : Type 0 where
   pub stands : IsInBlock m (present m objects) f
   pub waiting : AreWaiting m (present m objects) (kind_of stands.fn.ret) f.into callers
   pub cells : Each (IsObject (present m objects)) objects
-  pub globals : length m.globals ≤ length objects
+  pub globals : AreGlobals m m.globals objects
+
+-- calls that wait for a result of a kind, and memory
+pub record Calling (m : Module) (s : State) (kind : Kind) (into : Option (List ℕ)) (callers : List Frame) : Type 0 where
+  pub waiting : AreWaiting m (present m s.objects) kind into callers
+  pub cells : Each (IsObject (present m s.objects)) s.objects
+  pub globals : AreGlobals m m.globals s.objects
+
+-- those of a call that stands
+pub callers_of : (m : Module) (s : State) (f : Frame) (callers : List Frame) (h : Here m s.objects f callers) → Calling m s (kind_of h.stands.fn.ret) f.into callers
+callers_of m s f callers h = record { waiting = h.waiting; cells = h.cells; globals = h.globals }
 
 -- an instruction that gives a value
 pub gives_turn : (m : Module) (s : State) (f : Frame) (callers : List Frame) (h : Here m s.objects f callers) (into : Option (List ℕ)) (kind : Kind) (v : Value) → f.next < length h.stands.block.insts → into_fits (env_of h.stands.fn) into kind ≡ true → IsOfKind (present m s.objects) kind v → Properly (IsTypedTurn m) (gives s f callers into v)
@@ -119,7 +131,7 @@ gives_turn m s f callers h into kind v below fits is = record {
 }
 
 -- an instruction that changes memory
-pub stores_turn : (m : Module) (s : State) (f : Frame) (callers : List Frame) (h : Here m s.objects f callers) (new : Answer Memory) → f.next < length h.stands.block.insts → Properly (IsMemory (present m s.objects) (length s.objects)) new → Properly (IsTypedTurn m) (stores s f callers new)
+pub stores_turn : (m : Module) (s : State) (f : Frame) (callers : List Frame) (h : Here m s.objects f callers) (new : Answer Memory) → f.next < length h.stands.block.insts → Properly (IsMemory (present m s.objects) s.objects) new → Properly (IsTypedTurn m) (stores s f callers new)
 stores_turn m s f callers h new below kept = memory_turn m s.objects (past f ∷ callers) new kept (further h.stands f.locals below h.stands.locals, h.waiting) h.globals
 
 -- a new object
@@ -129,7 +141,8 @@ alloca_turn m s f callers h into size below fits =
     let new = present m (with_alloca s.objects size) in
     let object : Object0 = record { live = true; constant = false; size = size; cells = replicate size Unset } in
     let longer : length (s.objects ++ object ∷ []) ≡ length s.objects + 1 = length-append s.objects (object ∷ []) in
-    let w : Wider old new = record { objects = omega arith; functions = refl } in
+    let few = globals_within m m.globals s.objects h.globals in
+    let w : Wider old new = record { objects = omega arith; functions = refl; globals = refl } in
     let env = env_of h.stands.fn in
     let at : IsOfKind new Pointer (At (length s.objects) 0) = (omega arith, omega arith) in
     let stands : IsInBlock m new f = standing_wider old new w h.stands in
@@ -143,10 +156,10 @@ alloca_turn m s f callers h into size below fits =
           past_phis = let p = h.stands.past_phis in omega arith;
           within = omega arith;
           locals = given_are new env into Pointer (At (length s.objects) 0) f.locals (fits_awaits env into Pointer fits) at stands.locals;
-          objects = (omega arith, stands.objects);
+          objects = ((few, omega arith), stands.objects);
         },
         waiting_wider m old new w (kind_of h.stands.fn.ret) f.into callers h.waiting,
       );
       cells = Each_both (IsObject new) s.objects (object ∷ []) (objects_wider old new w s.objects h.cells) (record { count = length-replicate size Unset; cells = Each_replicate (IsCell new) size Unset tt }, tt);
-      globals = let g = h.globals in omega arith;
+      globals = globals_before m m.globals s.objects (object ∷ []) h.globals;
     }

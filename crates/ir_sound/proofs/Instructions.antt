@@ -1,5 +1,5 @@
 -- An instruction of a block that fits keeps calls over memory.
-use Rattle.std.proofs.Common.{◌≡◌, ℕ, ◌*◌, ◌<◌, true, false, List, ◌∷◌, length, Option, Some, refl, sym}
+use Rattle.std.proofs.Common.{◌≡◌, ℕ, ◌*◌, ◌+◌, ◌<◌, true, false, List, ◌∷◌, length, Option, Some, refl, sym}
 use Rattle.std.specs.Prelude.{◌&&◌, slice_get}
 use Rattle.std.proofs.lemmas.Bool.{and_parts}
 use Rattle.ir_core.specs.declared.ty.Ty.{Ty}
@@ -22,12 +22,11 @@ use Rattle.std.specs.List.{list_all}
 use Rattle.ir_core.specs.Typing.{Env, is_value, operand_fits, arg_fits, kinds_of, op_fits, kind_given, into_fits, callee_fits, is_result}
 use Rattle.ir_core.specs.Valid.{env_of, is_phi}
 use Rattle.ir_sound.specs.Typed.{functions_typed}
-use Rattle.ir_sound.specs.WellTyped.{Present, Properly, IsOfKind, present, IsTypedTurn}
+use Rattle.ir_sound.specs.WellTyped.{Present, IsPastCall, Properly, IsOfKind, present, IsTypedTurn}
 use Rattle.ir_sound.proofs.AnswerLaws.{then_gives}
 use Rattle.ir_sound.proofs.Calls.{IsTarget, called_gives, target_gives}
-use Rattle.ir_sound.proofs.Outside.{Calling}
-use Rattle.ir_sound.proofs.Frames.{Here, alloca_turn, fits_awaits, further, gives_turn, stores_turn}
-use Rattle.ir_sound.proofs.Objects.{store_gives}
+use Rattle.ir_sound.proofs.Frames.{Calling, Here, alloca_turn, fits_awaits, further, gives_turn, stores_turn}
+use Rattle.ir_sound.proofs.Objects.{globals_within, store_gives}
 use Rattle.ir_sound.proofs.Operands.{AreOfKinds, Covers, args_give, value_gives}
 use Rattle.ir_sound.proofs.Operations.{result_gives}
 use Rattle.ir_sound.proofs.SameLaws.{not_true}
@@ -43,7 +42,7 @@ module _ (m : Module) (s : State) (f : Frame) (callers : List Frame) (h : Here m
 
   -- the globals and functions of the module are there
   pub covered : Covers m here
-  covered = record { globals = h.globals; functions = refl }
+  covered = record { globals = globals_within m m.globals s.objects h.globals; functions = refl }
 
   -- an operand of the call
   pub operand_gives : (kind : Kind) (a : Operand) → operand_fits m env kind a ≡ true → Properly (IsOfKind here kind) (value_of m f.locals kind a)
@@ -60,24 +59,25 @@ module _ (m : Module) (s : State) (f : Frame) (callers : List Frame) (h : Here m
         (λ v r. stores_turn m s f callers h (store_at s.objects u v) below (store_gives here s.objects h.cells (kind_of ty) u v q)))
 
     -- a call
-    call_gives : (ret : Ty) (callee : Operand) (arguments : List Arg) → op_fits m env (Call ret callee arguments) ≡ true → into_fits env into (kind_of ret) ≡ true → Properly (IsTypedTurn m) (instruction_turn m input s f callers into (Call ret callee arguments))
-    call_gives ret callee arguments fits in' =
+    call_gives : (ret : Ty) (callee : Operand) (arguments : List Arg) → slice_get h.stands.block.insts f.next ≡ Some (record { result = into; op = Call ret callee arguments }) → op_fits m env (Call ret callee arguments) ≡ true → into_fits env into (kind_of ret) ≡ true → Properly (IsTypedTurn m) (instruction_turn m input s f callers into (Call ret callee arguments))
+    call_gives ret callee arguments at fits in' =
         let kinds = kinds_of arguments in
         let parts = and_parts (is_result ret) (callee_fits m env (kind_of ret) kinds callee && list_all (arg_fits m env) arguments) fits in
         let both = and_parts (callee_fits m env (kind_of ret) kinds callee) (list_all (arg_fits m env) arguments) parts.1 in
-        let calling : Calling m s (kind_of ret) into (past f) callers = record { waiting = (further h.stands f.locals below h.stands.locals, fits_awaits env into (kind_of ret) in', h.waiting); cells = h.cells; globals = h.globals } in
+        let past_call : IsPastCall h.stands.block (f.next + 1) into (kind_of ret) = record { place = f.next; ret = ret; callee = callee; arguments = arguments; at_place = at; behind = refl; gives = refl } in
+        let calling : Calling m s (kind_of ret) into (past f ∷ callers) = record { waiting = (record { stands = further h.stands f.locals below h.stands.locals; past = past_call; awaits = fits_awaits env into (kind_of ret) in' }, h.waiting); cells = h.cells; globals = h.globals } in
         let rest : Target → Answer Turn = λ t. and_then (values_of m f.locals arguments) (λ vs. call_turn m input s (past f ∷ callers) (kind_of ret) kinds vs into t) in
         then_gives (IsTarget here (kind_of ret) kinds) (IsTypedTurn m) (target_of m f.locals callee) rest (target_gives m here env f.locals covered h.stands.locals (kind_of ret) kinds callee both.0)
         (λ t q. then_gives (AreOfKinds here kinds) (IsTypedTurn m) (values_of m f.locals arguments) (λ vs. call_turn m input s (past f ∷ callers) (kind_of ret) kinds vs into t) (args_give m here env f.locals covered h.stands.locals arguments both.1)
         (λ vs r. called_gives m input s (kind_of ret) kinds into (past f) callers vs bytes functions calling r t q))
 
     -- any instruction but a phi
-    pub instruction_gives : (op : Op) → is_phi op ≡ false → op_fits m env op ≡ true → into_fits env into (kind_given op) ≡ true → Properly (IsTypedTurn m) (instruction_turn m input s f callers into op)
-    instruction_gives (Alloca ty count) phi fits in' = alloca_turn m s f callers h into (count * (shape_of m.types ty).size) below in'
-    instruction_gives (Store ty a p) phi fits in' = store_gives_turn ty a p fits
-    instruction_gives (Call ret callee arguments) phi fits in' = call_gives ret callee arguments fits in'
-    instruction_gives (Phi ty entries) phi fits in' = not_true (sym phi)
-    instruction_gives op phi fits in' =
+    pub instruction_gives : (op : Op) → slice_get h.stands.block.insts f.next ≡ Some (record { result = into; op = op }) → is_phi op ≡ false → op_fits m env op ≡ true → into_fits env into (kind_given op) ≡ true → Properly (IsTypedTurn m) (instruction_turn m input s f callers into op)
+    instruction_gives (Alloca ty count) at phi fits in' = alloca_turn m s f callers h into (count * (shape_of m.types ty).size) below in'
+    instruction_gives (Store ty a p) at phi fits in' = store_gives_turn ty a p fits
+    instruction_gives (Call ret callee arguments) at phi fits in' = call_gives ret callee arguments at fits in'
+    instruction_gives (Phi ty entries) at phi fits in' = not_true (sym phi)
+    instruction_gives op at phi fits in' =
         then_gives (IsOfKind here (kind_given op)) (IsTypedTurn m) (result_of m s.objects f.locals op) (λ v. gives s f callers into v)
         (result_gives m here env f.locals covered h.stands.locals s.objects h.cells op refl fits)
         (λ v p. gives_turn m s f callers h into (kind_given op) v below in' p)

@@ -23,3 +23,4 @@ pub mod Nesting
 pub mod Sizes
 pub mod Limits
 pub mod ValidTyped
+pub mod MoreNames

@@ -13,7 +13,8 @@ use Rattle.ir_core.specs.declared.operand.Index0.{Index0}
 use Rattle.ir_core.specs.declared.instruction.Arg.{Arg}
 use Rattle.ir_core.specs.declared.module.Module.{Module}
 use Rattle.ir_core.specs.declared.memory.Value.{Value}
-use Rattle.ir_core.specs.declared.memory.Value.TheVariants.{Null, At}
+use Rattle.ir_core.specs.declared.memory.Value.TheVariants.{Num, Null, At, Fun}
+use Rattle.rd_num.specs.Number.{bits}
 use Rattle.ir_core.specs.declared.memory.Reason.TheVariants.{Unset}
 use Rattle.ir_core.specs.Names.{same_name, first_where}
 use Rattle.ir_core.specs.Stops.{Left, Malformed, and_then, found_or}
@@ -51,6 +52,13 @@ int_gives x NoValue n fits = not_true fits
 pub truth_is : (x : Present) (b : Bool) → IsOfKind x (Number W1) (truth b)
 truth_is x true = (refl, omega arith)
 truth_is x false = (refl, omega arith)
+
+-- a value of a width is a number
+pub number_of : (x : Present) (w : Width) (v : Value) → IsOfKind x (Number w) v → (n : ℕ) × (v ≡ Num w n) × (n < 2 ^ bits w)
+number_of x w (Num u n) is = (n, ap (λ k. Num k n) is.0, is.1)
+number_of x w Null is = absurd is
+number_of x w (At o d) is = absurd is
+number_of x w (Fun f) is = absurd is
 
 -- zeros
 zero_gives : (x : Present) (kind : Kind) → is_value kind ≡ true → Properly (IsOfKind x kind) (zero_of kind)

@@ -38,7 +38,7 @@ use Rattle.ir_core.specs.Valid.{env_of}
 use Rattle.ir_core.specs.Refusals.{is_main, has_main}
 use Rattle.ir_core.proofs.Fits.{literal_fits}
 use Rattle.ir_sound.specs.Typed.{IsTyped, is_sized}
-use Rattle.ir_sound.specs.WellTyped.{Each, Present, IsOfKind, IsCell, IsObject, IsLocal, present, IsWellTyped}
+use Rattle.ir_sound.specs.WellTyped.{AreGlobals, Each, Present, IsOfKind, IsCell, IsObject, IsLocal, present, IsWellTyped}
 use Rattle.ir_sound.proofs.Calls.{bound_are, first_stands}
 use Rattle.ir_sound.proofs.Objects.{cells_are}
 use Rattle.ir_sound.proofs.Operands.{AreOfKinds, Covers, function_below, global_below, truth_is}
@@ -195,6 +195,11 @@ module _ (m : Module) (x : Present) (c : Covers m x) where
         globals_hold gs (and_parts (is_sized m g) (list_all (is_sized m) gs) so).1 p.1,
       )
 
+-- globals stand in the objects that are theirs
+globals_first : (m : Module) (gs : List GlobalVar) → AreGlobals m gs (map (global_object m) gs)
+globals_first m [] = tt
+globals_first m (g ∷ gs) = ((refl, refl, refl), globals_first m gs)
+
 -- without parameters nothing is bound
 none_bound : (x : Present) (env : Env) (ps : List Param) (vs : List Value) → map (λ (p : Param). kind_of p.ty) ps ≡ [] → Each (IsLocal x env) (bound ps vs)
 none_bound x env [] [] e = tt
@@ -220,7 +225,7 @@ start_gives m typed number f at main =
       record {
         calls = (s.0, subst (λ g. kind_of g.ret ≡ Number W32) (sym s.1) (kind_is (kind_of f.ret) (Number W32) parts.0));
         cells = globals_hold m x c m.globals typed.sizes typed.inits;
-        globals = omega arith;
+        globals = globals_first m m.globals;
       },
       λ e. absurd (cc),
     )

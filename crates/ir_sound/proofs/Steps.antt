@@ -47,7 +47,7 @@ here_gives m input s f callers bytes functions h next at =
         let b = h.stands.block in
         let one = and_parts (op_fits m env i.op) (into_fits env i.result (kind_given i.op)) (all_at (inst_fits m env) b.insts f.next i parts.insts e) in
         let other = past_is_none (predecessors h.stands.fn.blocks b.label) b.insts f.next i parts.phis e h.stands.past_phis in
-        instruction_gives m s f callers h input bytes functions (below_at b.insts f.next i e) i.result i.op other one.0 one.1
+        instruction_gives m s f callers h input bytes functions (below_at b.insts f.next i e) i.result i.op e other one.0 one.1
     of_next None e blocks parts = end_gives m s f callers h blocks parts
 
 -- a turn of calls over memory

@@ -27,7 +27,7 @@ use Rattle.ir_sound.specs.WellTyped.{Present, Each, Properly, IsOfKind, present,
 use Rattle.ir_sound.proofs.AnswerLaws.{then_gives}
 use Rattle.ir_sound.proofs.Calls.{returned_gives}
 use Rattle.ir_sound.proofs.Edges.{goes_gives, leads_each, one_of_two, switched_gives}
-use Rattle.ir_sound.proofs.Frames.{Here}
+use Rattle.ir_sound.proofs.Frames.{callers_of, Here}
 use Rattle.ir_sound.proofs.Parts.{BlockParts}
 use Rattle.ir_sound.proofs.RowLaws.{Each_and, Each_from, Each_more}
 use Rattle.ir_sound.proofs.SameLaws.{kind_is, none_is, not_true, some_is}
@@ -69,7 +69,7 @@ module _ (m : Module) (s : State) (f : Frame) (callers : List Frame) (h : Here m
       let both = and_parts (same_kind (kind_of ty) ret) (operand_fits m env ret a) parts.1 in
       then_gives (IsOfKind here ret) (IsTypedTurn m) (value_of m f.locals (kind_of ty) a) (λ v. return_turn s f callers (Some v))
       (subst (λ k. Properly (IsOfKind here ret) (value_of m f.locals k a)) (sym (kind_is (kind_of ty) ret both.0)) (operand_gives m s f callers h ret a both.1))
-      (λ v p. returned_gives m s f callers ret (Some v) (λ u e. subst (IsOfKind here ret) (some_is v u e) p) (λ e. none_is v (sym e)) h.waiting h.cells h.globals)
+      (λ v p. returned_gives m s f callers ret (Some v) (λ u e. subst (IsOfKind here ret) (some_is v u e) p) (λ e. none_is v (sym e)) h.stands.objects (callers_of m s f callers h))
 
   -- one of two edges
   one_taken : (condition : Operand) (taken other : List ℕ) → operand_fits m env (Number W1) condition ≡ true → Goes taken → Goes other → Properly (IsTypedTurn m) (terminator_turn m s f callers fn h.stands.block.label (BrIf condition taken other))
@@ -88,7 +88,7 @@ module _ (m : Module) (s : State) (f : Frame) (callers : List Frame) (h : Here m
 
   -- a terminator whose edges keep calls over memory
   terminator_gives : (t : Term) → term_fits m env ret t ≡ true → Each Goes (labels_of t) → Properly (IsTypedTurn m) (terminator_turn m s f callers fn h.stands.block.label t)
-  terminator_gives Ret fits all = returned_gives m s f callers ret None (λ v e. none_is v e) (λ e. nothing_is ret fits) h.waiting h.cells h.globals
+  terminator_gives Ret fits all = returned_gives m s f callers ret None (λ v e. none_is v e) (λ e. nothing_is ret fits) h.stands.objects (callers_of m s f callers h)
   terminator_gives (RetValue ty a) fits all = value_returned ty a fits
   terminator_gives (Br to) fits all = all.0
   terminator_gives (BrIf condition taken other) fits all = one_taken condition taken other fits all.0 all.1.0

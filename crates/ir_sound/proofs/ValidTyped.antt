@@ -165,7 +165,7 @@ valid_typed m valid =
       functions = functions_are m 0 m.functions faults.1 (locals_of_functions m u.doubled) (each_empty (λ (f : Function). flat_map (unknown_in m (inside f)) (of_function f)) m.functions missed) (all_built function_built m.functions functions);
       main = u.main;
       inits = inits_built m.globals (all_built global_built m.globals globals);
-      sizes = globals_sized m (record { objects = length m.globals; functions = length m.functions }) (record { globals = omega arith; functions = refl }) (types_within m u.limited (all_built named_built m.types types)) m.globals
+      sizes = globals_sized m (record { globals = length m.globals; objects = length m.globals; functions = length m.functions }) (record { globals = omega arith; functions = refl }) (types_within m u.limited (all_built named_built m.types types)) m.globals
           (globals_fit m 0 m.globals (both_empty (flat_map (λ (p : ℕ × GlobalVar). unless (init_fits m p.1.init p.1.ty) (Spot.Global p.0)) (enumerate_from 0 m.globals)) (flat_map (λ (p : ℕ × Extern). unless (declaration_fits p.1) (Spot.Extern p.0)) (enumerate_from 0 m.externs)) faults.0).0);
     }
 

@@ -2,8 +2,9 @@
 //!
 //! The functions below are laws and do nothing. `specs/Typed` says block by block what the rules of
 //! types leave of a valid module, `specs/WellTyped` what then holds of every state of its runs: where
-//! calls stand, of which kinds their locals are, what objects hold, and for what callers wait.
-//! Passes stand on these. What a step does and which modules are valid stands in `ir_core`.
+//! calls stand, of which kinds their locals are, what objects hold, which of them are those of
+//! globals, and behind which calls callers wait. Passes stand on these. What a step does and which
+//! modules are valid stands in `ir_core`.
 #![tactic(auto)]
 
 ghost use Rattle.std.specs.Prelude.{◌≢◌, ℕ, List, Err};
