@@ -375,7 +375,12 @@ fn images_run_to_these_lines(rt: HostRuntime) -> Result<(), Fail> {
         (b"\xC3", "9", 22, b"stopped pagefault\n"),
         (b"\x06", "9", 22, b"stopped noform\n"),
         (b"\xB8\x63\0\0\0\x0F\x05", "9", 22, b"stopped badcall\n"),
-        (b"\x48\x0F\xAF\xC0\x0F\x84\0\0\0\0", "9", 22, b"stopped noflag\n"),
+        (
+            b"\x48\x0F\xAF\xC0\x0F\x84\0\0\0\0",
+            "9",
+            22,
+            b"stopped noflag\n",
+        ),
     ];
     for (code, steps, want, line) in rows {
         let file = image_of(alloc, code)?;

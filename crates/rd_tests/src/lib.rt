@@ -1,10 +1,9 @@
 //! Tests of public calls, from the bottom to the top: worked rows, real files and streams.
 //!
 //! They stand apart from the crates that they are about, since a crate with tests is proved once more
-//! with them. Each file is about one crate: `texts` and `printed` are about `ir_parse` and
-//! `ir_print`, `decoded` about `x86_decode`, `object_files` and `verified` about `obj_file` and
+//! with them. `decoded` is about `x86_decode`, `object_files` and `verified` about `obj_file` and
 //! `obj_check`, `machine` and `watched` about `xom_machine` and `watch_script`, and `commands` about
-//! `rd_top`.
+//! `rd_top`. Tests of texts stand in `ir_tests`.
 #![tactic(auto)]
 
 #[cfg(test)]
@@ -15,10 +14,6 @@ mod decoded;
 mod machine;
 #[cfg(test)]
 mod object_files;
-#[cfg(test)]
-mod printed;
-#[cfg(test)]
-mod texts;
 #[cfg(test)]
 mod verified;
 #[cfg(test)]
