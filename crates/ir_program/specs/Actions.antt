@@ -1,6 +1,5 @@
 -- What instructions do, with numbers in place of names.
 use Rattle.std.specs.Prelude.{ℕ, ◌*◌, List, map, Option, Some, None}
-use Rattle.ir_core.specs.declared.ty.Ty.{Ty}
 use Rattle.ir_core.specs.declared.operand.Operand.{Operand}
 use Rattle.ir_core.specs.declared.operand.Operand.TheVariants.{Local as LocalName, Global}
 use Rattle.ir_core.specs.declared.instruction.Op.{Op}
@@ -10,7 +9,8 @@ use Rattle.ir_core.specs.declared.instruction.Inst.{Inst}
 use Rattle.ir_core.specs.declared.module.Module.{Module}
 use Rattle.ir_core.specs.declared.memory.Value.TheVariants.{Fun}
 use Rattle.rd_num.specs.declared.width.Width.TheVariants.{W1}
-use Rattle.ir_core.specs.Kinds.{Kind, Number, Pointer, kind_of}
+use Rattle.ir_core.specs.declared.kind.Kind.TheVariants.{Number, Pointer}
+use Rattle.ir_core.specs.Kinds.{kind_of}
 use Rattle.ir_core.specs.Counts.{told}
 use Rattle.ir_core.specs.Operands.{function_number}
 use Rattle.ir_core.specs.Calls.{outer_of}

@@ -26,5 +26,5 @@ pub struct Body {
 #[derive(Drop)]
 pub struct Program {
     pub bodies: List<Body>,
-    pub main: Option<usize>,
+    pub main: Option<u32>,
 }
