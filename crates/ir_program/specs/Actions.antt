@@ -10,7 +10,9 @@ use Rattle.ir_core.specs.declared.instruction.Inst.{Inst}
 use Rattle.ir_core.specs.declared.module.Module.{Module}
 use Rattle.ir_core.specs.declared.memory.Value.TheVariants.{Fun}
 use Rattle.rd_num.specs.declared.width.Width.TheVariants.{W1}
-use Rattle.ir_core.specs.Kinds.{Kind, Number, Pointer, kind_of}
+use Rattle.ir_core.specs.declared.kind.Kind.{Kind}
+use Rattle.ir_core.specs.declared.kind.Kind.TheVariants.{Number, Pointer}
+use Rattle.ir_core.specs.Kinds.{kind_of}
 use Rattle.ir_core.specs.Counts.{told}
 use Rattle.ir_core.specs.Operands.{function_number}
 use Rattle.ir_core.specs.Calls.{outer_of}

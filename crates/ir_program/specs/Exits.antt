@@ -1,5 +1,6 @@
 -- How blocks end, with numbers in place of labels.
-use Rattle.std.specs.Prelude.{ℕ, List, [], ◌∷◌, ◌++◌, length, map, fold, slice_get, option_map, unwrap_or, Option, Some, None, if◌then◌else◌}
+use Rattle.std.specs.Prelude.{ℕ, List, [], ◌∷◌, ◌++◌, length, map, fold, not, slice_get, unwrap_or, Option, Some, None, if◌then◌else◌}
+use Rattle.std.specs.List.{list_any}
 use Rattle.rd_num.specs.declared.width.Width.TheVariants.{W1}
 use Rattle.ir_core.specs.declared.instruction.Case.{Case}
 use Rattle.ir_core.specs.declared.instruction.Entry.{Entry}
@@ -10,8 +11,9 @@ use Rattle.ir_core.specs.declared.module.Block.{Block}
 use Rattle.ir_core.specs.declared.module.Function.{Function}
 use Rattle.ir_core.specs.declared.module.Module.{Module}
 use Rattle.ir_core.specs.Names.{same_name, number_where, first_where}
-use Rattle.ir_core.specs.Definitions.{is_among}
-use Rattle.ir_core.specs.Kinds.{Kind, Number, kind_of}
+use Rattle.ir_core.specs.declared.kind.Kind.{Kind}
+use Rattle.ir_core.specs.declared.kind.Kind.TheVariants.{Number}
+use Rattle.ir_core.specs.Kinds.{kind_of}
 use Rattle.ir_core.specs.Step.{Choice, choices_of}
 use Rattle.ir_memory.specs.Registers.{number_of}
 use Rattle.ir_program.specs.declared.origin.Origin.{Origin}
@@ -26,7 +28,7 @@ use Rattle.ir_program.specs.Actions.{into_of}
 
 -- names, and one more that isn't among them yet
 abbrev pub with_new : List (List ℕ) → List ℕ → List (List ℕ)
-with_new names name = if is_among names name then names else names ++ name ∷ []
+with_new names name = if not (list_any (same_name name) names) then names ++ name ∷ [] else names
 
 -- names without those that stand behind the same name
 abbrev pub distinct : List (List ℕ) → List (List ℕ)

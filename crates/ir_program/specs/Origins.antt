@@ -8,7 +8,8 @@ use Rattle.ir_core.specs.declared.module.Module.{Module}
 use Rattle.ir_core.specs.declared.memory.Value.{Value}
 use Rattle.ir_core.specs.declared.memory.Value.TheVariants.{Null, At}
 use Rattle.ir_core.specs.Stops.{Answer}
-use Rattle.ir_core.specs.Kinds.{Kind, kind_of, truth, zero_of}
+use Rattle.ir_core.specs.declared.kind.Kind.{Kind}
+use Rattle.ir_core.specs.Kinds.{kind_of, truth, zero_of}
 use Rattle.ir_core.specs.Operands.{global_number, function_number, named_value, int_value}
 use Rattle.ir_memory.specs.Registers.{number_of}
 use Rattle.ir_program.specs.declared.origin.Origin.{Origin}

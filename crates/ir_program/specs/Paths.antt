@@ -38,38 +38,53 @@ over_elements (Register k) size p = with_stride (Register k) size p
 over_elements Unset size p = with_stride Unset size p
 over_elements Malformed size p = with_stride Malformed size p
 
+-- a part of a type, and the path that leads to it
+pub record Led : Type 0 where
+  pub part : Ty
+  pub path : Path
+
+-- where there is a part
+abbrev pub led : Option Ty → Path → Option Led
+led (Some part) p = Some (record { part = part; path = p })
+led None p = None
+
 -- into a field, where there is one
-abbrev pub into_found : List NamedTy → Bool → List Ty → ℕ → Option Ty → Path → (Ty → Path → Option Path) → Option Path
-into_found types packed fields k None p go = None
-into_found types packed fields k (Some ty) p go =
-    go ty (farther (field_place packed (map (extent_of types) (take k fields)) (extent_of types ty)) p)
+abbrev pub into_found : List NamedTy → Bool → List Ty → ℕ → Option Ty → Path → Option Led
+into_found types packed fields k None p = None
+into_found types packed fields k (Some ty) p =
+    Some (record { part = ty; path = farther (field_place packed (map (extent_of types) (take k fields)) (extent_of types ty)) p })
 
 -- into the field of a number
-abbrev pub into_number : List NamedTy → Bool → List Ty → Answer ℕ → Path → (Ty → Path → Option Path) → Option Path
-into_number types packed fields (Ok k) p go = into_found types packed fields k (slice_get fields k) p go
-into_number types packed fields (Err stop) p go = None
+abbrev pub into_number : List NamedTy → Bool → List Ty → Answer ℕ → Path → Option Led
+into_number types packed fields (Ok k) p = into_found types packed fields k (slice_get fields k) p
+into_number types packed fields (Err stop) p = None
 
 -- into the field of an index that is known
-abbrev pub into_field : List NamedTy → Bool → List Ty → Origin → Path → (Ty → Path → Option Path) → Option Path
-into_field types packed fields (Known v) p go = into_number types packed fields (low_word (index_word v)) p go
-into_field types packed fields (Register k) p go = None
-into_field types packed fields Unset p go = None
-into_field types packed fields Malformed p go = None
+abbrev pub into_field : List NamedTy → Bool → List Ty → Origin → Path → Option Led
+into_field types packed fields (Known v) p = into_number types packed fields (low_word (index_word v)) p
+into_field types packed fields (Register k) p = None
+into_field types packed fields Unset p = None
+into_field types packed fields Malformed p = None
 
 -- one index into a type
-abbrev pub into_type : List NamedTy → Ty-F Ty → Origin → Path → (Ty → Path → Option Path) → Option Path
-into_type types Ty-F.Void i p go = None
-into_type types (Ty-F.Int w) i p go = None
-into_type types Ty-F.Ptr i p go = None
-into_type types (Ty-F.Array n of) i p go = go of (over_elements i (extent_of types of).size p)
-into_type types (Ty-F.Struct fields) i p go = into_field types false fields i p go
-into_type types (Ty-F.Packed fields) i p go = into_field types true fields i p go
-into_type types (Ty-F.Named name) i p go = None
+abbrev pub into_type : List NamedTy → Ty-F Ty → Origin → Path → Option Led
+into_type types Ty-F.Void i p = None
+into_type types (Ty-F.Int w) i p = None
+into_type types Ty-F.Ptr i p = None
+into_type types (Ty-F.Array n of) i p = Some (record { part = of; path = over_elements i (extent_of types of).size p })
+into_type types (Ty-F.Struct fields) i p = into_field types false fields i p
+into_type types (Ty-F.Packed fields) i p = into_field types true fields i p
+into_type types (Ty-F.Named name) i p = None
+
+-- on from a part, where there is one
+abbrev pub onward : Option Led → (Ty → Path → Option Path) → Option Path
+onward (Some l) go = go l.part l.path
+onward None go = None
 
 -- a row of indices into a type, behind a path to it
 abbrev pub path_into : List NamedTy → Ty → List Origin → Path → Option Path
 path_into types ty [] p = Some p
-path_into types ty (i ∷ is) p = into_type types (opened types (out-Ty ty)) i p (λ part q. path_into types part is q)
+path_into types ty (i ∷ is) p = onward (into_type types (opened types (out-Ty ty)) i p) (λ part q. path_into types part is q)
 
 -- a row of indices from a pointer to a type: the first counts whole ones of it
 abbrev pub path_of : List NamedTy → Ty → List Origin → Option Path
