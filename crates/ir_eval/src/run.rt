@@ -30,8 +30,8 @@ fn byte_value(byte: Option<u8>) -> Value
 
 /// A byte is put.
 fn put<O: Sink>(byte: u8, sink: &mut O) -> Result<(), RunFault>
-    ensures put { (source : SourceTold) (s : Standing) → Exchanged s (PrintAsked byte) s source source
-        (O.told sink.old) (O.told sink.new) result }
+    ensures put { (source : SourceTold) (s : Standing) → Exchanged s (PrintAsked byte) s
+        source source (O.told sink.old) (O.told sink.new) result }
     ensures charged { (source : SourceTold) → Charged source source
         (O.told sink.old) (O.told sink.new) result }
 {
@@ -102,10 +102,10 @@ impl State {
         }
     }
 
-    /// Takes `n` steps, or as many as there are before one that stops the run, and hands out that stop.
+    /// Takes `n` steps, or fewer where one of them stops the run, and hands out that stop.
     ///
-    /// `Input` comes only where the source has failed, at a step that asks for a byte; `Output` only
-    /// where the sink has failed, at a step that prints.
+    /// `Input` comes only where the source has failed, at a step that asks for a byte; `Output`
+    /// only where the sink has failed, at a step that prints.
     pub fn run<I: Source, O: Sink>(
         &mut self,
         alloc: Global,

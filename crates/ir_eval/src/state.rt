@@ -4,8 +4,8 @@ use crate::stack::Stack;
 use ir_memory::memory::Memory;
 use ir_memory::registers::Registers;
 
-/// A call that is active: where it stands, its registers, the objects that its allocas made, and the
-/// register of its caller that gets its result.
+/// A call that is active: where it stands, its registers, the objects that its allocas made, and
+/// the register of its caller that gets its result.
 #[derive(Drop)]
 pub struct Frame {
     pub function: usize,
