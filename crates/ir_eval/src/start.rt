@@ -52,9 +52,9 @@ pub fn start(alloc: Global, program: &Program, memory: Memory) -> Result<Option<
     ensures { IfOk result (λ s. Starts program.now memory s) }
 {
     match program.main {
-        Some(number) => match program.bodies.get(number) {
+        Some(number) => match program.bodies.get(number as usize) {
             Some(body) => {
-                let s = first_call(alloc, number, body, memory)?;
+                let s = first_call(alloc, number as usize, body, memory)?;
                 Ok(Some(s))
             }
             None => Ok(None),
