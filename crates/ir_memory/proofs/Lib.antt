@@ -3,3 +3,4 @@ pub mod CellLaws
 pub mod MemoryLaws
 pub mod Fills
 pub mod RegisterLaws
+pub mod CopyLaws

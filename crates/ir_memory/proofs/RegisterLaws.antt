@@ -21,19 +21,19 @@ stands_first names count name = by (number_of names name)
     by (Some n) = sym (empty_register count n)
 
 -- names that are the same are one name
-name_is : (a b : List ℕ) → same_name a b ≡ true → a ≡ b
+pub name_is : (a b : List ℕ) → same_name a b ≡ true → a ≡ b
 name_is [] [] e = refl
 name_is [] (b ∷ bs) e = absurd (cc)
 name_is (a ∷ as') [] e = absurd (cc)
 name_is (a ∷ as') (b ∷ bs) e = let p = and_parts _ _ e in let q = eqb-true a b p.0 in let r = name_is as' bs p.1 in cc
 
 -- a name is the same as itself
-same_itself : (a : List ℕ) → same_name a a ≡ true
+pub same_itself : (a : List ℕ) → same_name a a ≡ true
 same_itself [] = refl
 same_itself (a ∷ as') = ap (λ b. b && same_name as' as') (eq-eqb a a refl) ∙ same_itself as'
 
 -- the name at a number that was looked up
-named_there : (names : List (List ℕ)) (q : List ℕ) (j : ℕ) → number_of names q ≡ Some j → slice_get names j ≡ Some q
+pub named_there : (names : List (List ℕ)) (q : List ℕ) (j : ℕ) → number_of names q ≡ Some j → slice_get names j ≡ Some q
 named_there [] q j e = absurd (cc)
 named_there (n ∷ names) q j e = by (same_name n q) (number_of names q) j refl (λ i. named_there names q i) refl e
   where

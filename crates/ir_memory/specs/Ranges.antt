@@ -1,5 +1,5 @@
 -- Ranges of one object: what the tests say, and what a change leaves.
-use Rattle.std.specs.Prelude.{ℕ, ◌+◌, List, Bool, true, false, not, ◌&&◌, ◌++◌, nat_eq, nat_lt, nat_le, length, take, drop, replicate, slice_set, Option, Some, None, Ok, Err, if◌then◌else◌}
+use Rattle.std.specs.Prelude.{ℕ, ◌+◌, List, Bool, true, false, not, ◌&&◌, ◌++◌, nat_eq, nat_lt, nat_le, length, take, drop, replicate, slice_get, slice_set, Option, Some, None, Ok, Err, if◌then◌else◌}
 use Rattle.ir_core.specs.declared.memory.Value.{Value}
 use Rattle.ir_core.specs.declared.memory.Cell.{Cell}
 use Rattle.ir_core.specs.declared.memory.Cell.TheVariants.{Unset}
@@ -7,7 +7,7 @@ use Rattle.ir_core.specs.declared.memory.Object0.{Object0}
 use Rattle.ir_core.specs.declared.memory.Reason.TheVariants.{Bounds, Dead, Constant, Overlap}
 use Rattle.ir_core.specs.Stops.{Left, Answer, and_then}
 use Rattle.ir_core.specs.declared.kind.Kind.{Kind}
-use Rattle.ir_core.specs.Memory.{Memory, Range, kind_size, readable_range, writable_range, cells_at, written, overlaps}
+use Rattle.ir_core.specs.Memory.{Memory, Range, kind_size, range_of, readable_range, writable_range, cells_at, written, overlaps}
 use Rattle.ir_memory.specs.Reads.{row_read}
 
 -- a live object of these cells
@@ -86,3 +86,7 @@ copied_to m count to a =
 -- memory once some bytes were copied from a pointer to another
 abbrev pub copied_some : Memory → Value → Value → ℕ → Answer Memory
 copied_some m to from count = and_then (readable_range m count from) (copied_to m count to)
+
+-- a copy of a range of memory that has no target
+abbrev pub without_place : Memory → ℕ → ℕ → ℕ → Answer Memory
+without_place m o d count = and_then (range_of o d count (slice_get m o)) (λ r. Err (Left Bounds))

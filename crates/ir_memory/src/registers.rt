@@ -4,11 +4,11 @@
 //! value yet. `specs/Registers` says which list stands for the locals of a call. A read or a write
 //! takes constant time and no memory.
 
-ghost use Rattle.std.specs.Prelude.{◌≡◌, ◌<◌, None, Some, length, replicate, slice_get, slice_set, option_and_then, IfOk};
+ghost use Rattle.std.specs.Prelude.{◌≡◌, ◌<◌, ◌-◌, ◌++◌, None, Some, length, map, replicate, slice_get, slice_set, option_and_then, IfOk};
 ghost use Rattle.ir_core.specs.declared.memory.Reason.TheVariants.{Unset as UnsetReason};
 ghost use Rattle.ir_core.specs.Stops.{Left as LeftStop, found_or};
 ghost use Rattle.ir_memory.specs.Answers.{answered};
-ghost use Rattle.ir_memory.specs.Registers.{register};
+ghost use Rattle.ir_memory.specs.Registers.{register, with_register};
 
 use crate::stop::Stop;
 use ir_core::memory::{Reason, Value};
@@ -50,6 +50,39 @@ impl Registers {
             Some(Some(v)) => Ok(*v),
             Some(None) => Err(Stop::Left(Reason::Unset)),
             None => Err(Stop::Left(Reason::Unset)),
+        }
+    }
+
+    /// So many places, the first of which have these values.
+    #[tactic(auto, using(crate::proofs::Fills::one_more_place))]
+    pub fn with_values(alloc: Global, values: &[Value], count: usize) -> Result<Registers, NoMemory>
+        ensures { IfOk result (λ r. r ≡ map Some values.now ++
+            replicate (count - length values.now) None) }
+    {
+        let mut kept = Vec::new(alloc);
+        for v in values {
+            match kept.push(Some(*v)) {
+                Ok(()) => {}
+                Err(_) => return Err(NoMemory),
+            }
+        }
+        'rest: for _ in 0..count.saturating_sub(values.len()) {
+            match kept.push(None) {
+                Ok(()) => {}
+                Err(_) => return Err(NoMemory),
+            }
+        }
+        Ok(Registers { kept })
+    }
+
+    /// Gives a place its value, where there is one.
+    pub fn give(&mut self, into: Option<usize>, v: Value)
+        ensures { self.new ≡ with_register into v self.old }
+    {
+        if let Some(number) = into {
+            if number < self.kept.len() {
+                self.kept[number] = Some(v);
+            }
         }
     }
 
