@@ -37,9 +37,9 @@ module _ (image : Image) (events : List Event) (input input2 : SourceTold) where
   pub not_reported : (T : Type 0) (e : RunFault) → InputCharged {T = T} input.faults input2.faults (Err e) → WatchedOf image events input.left input2.left (Err e) → Reported (machine_course image) (last_after 0 events) (report_on image events) input input2 (Err e)
   unfolding machine_course
   not_reported T fault.Input charged h =
-      (charged.0, λ xs e. let c = h xs e in record { steps = c.steps; early = c.early; asks = c.asks; took = c.took })
+      (charged.0, λ xs e. let c = h xs e in record { steps = c.taken; early = c.early; asks = c.asks; took = c.took })
   not_reported T fault.Output charged h = charged
-  not_reported T fault.NoMemory charged h = λ xs e. let c = h xs e in record { steps = c.steps; within = c.within; took = c.took }
+  not_reported T fault.NoMemory charged h = λ xs e. let c = h xs e in record { steps = c.taken; within = c.within; took = c.took }
 
   -- all reads were made, and then memory was wanting
   pub all_taken : (report : Report) → WatchedOf image events input.left input2.left (Ok report) → WhereTold input (λ xs. StopsWithin (machine_course image) (last_after 0 events) xs input2)
