@@ -3,13 +3,12 @@ that clang makes of the C programs in programs/ are valid, are printed as LLVM r
 interpreter runs what was printed."""
 
 import os
-import shutil
-import subprocess
 import sys
 import tempfile
 
-HERE = os.path.dirname(os.path.abspath(__file__))
-PROGRAM = os.path.join(HERE, "..", "crates", "read_main", "out", "read_main")
+import clang
+
+PROGRAM = os.path.join(clang.HERE, "..", "crates", "read_main", "out", "read_main")
 
 # Each form of a line, once at least, as it is printed.
 FORMS = r"""%pair = type { i32, ptr }
@@ -125,13 +124,8 @@ NOISY = [
 ]
 
 
-def run(words, data=b""):
-    done = subprocess.run(words, input=data, stdout=subprocess.PIPE, stderr=subprocess.PIPE, check=False)
-    return done.returncode, done.stdout, done.stderr
-
-
 def ours(command, path, *more):
-    return run([PROGRAM, command, path, *more])
+    return clang.run([PROGRAM, command, path, *more])
 
 
 def canonical(work, text, want, problems, name):
@@ -147,32 +141,27 @@ def canonical(work, text, want, problems, name):
             problems.append(f"{name}: print answers {printed[0]} {printed[2]!r}\n{printed[1].decode()}")
 
 
-def programs(work, problems):
+def compiled(work, problems):
     """What clang makes of C programs, if LLVM's tools are there."""
-    if any(shutil.which(tool) is None for tool in ("clang", "opt", "lli")):
-        print("left out: programs that clang compiles; clang, opt or lli isn't here")
+    if not clang.are_here("clang", "opt", "lli"):
         return 0
-    folder = os.path.join(HERE, "programs")
-    names = sorted(name for name in os.listdir(folder) if name.endswith(".c"))
     source, printed = os.path.join(work, "source.ll"), os.path.join(work, "printed.ll")
-    for name in names:
-        made = run(["clang", "-O0", "-S", "-emit-llvm", os.path.join(folder, name), "-o", "-"])
-        code, text, said = run(["opt", "-opaque-pointers", "-S", "-o", source, "-"], made[1])
-        if made[0] or code:
-            problems.append(f"{name}: clang or opt answers {made[2]!r} {said!r}")
+    for name, path in clang.programs():
+        failed = clang.module_of(path, source)
+        if failed:
+            problems.append(f"{name}: clang answers {failed!r}")
             continue
         if ours("check", source) != (0, b"", b"valid\n"):
             problems.append(f"{name}: check answers {ours('check', source)}")
             continue
         with open(printed, "wb") as file:
             file.write(ours("print", source)[1])
-        if run(["opt", "-opaque-pointers", "-passes=verify", "-disable-output", printed])[0]:
+        if clang.run(["opt", "-opaque-pointers", "-passes=verify", "-disable-output", printed])[0]:
             problems.append(f"{name}: opt refuses what is printed")
-        data = b"the quick brown fox"
-        meant, done = run(["lli", "-opaque-pointers", source], data), run(["lli", "-opaque-pointers", printed], data)
+        meant, done = (clang.run(["lli", "-opaque-pointers", text], clang.INPUT) for text in (source, printed))
         if meant[:2] != done[:2]:
             problems.append(f"{name}: LLVM's interpreter gives {meant} of the source and {done} of what is printed")
-    return len(names)
+    return len(clang.programs())
 
 
 def main():
@@ -181,7 +170,7 @@ def main():
         canonical(work, FORMS, FORMS, problems, "each form")
         for number, (text, want) in enumerate(NOISY):
             canonical(work, text, want, problems, f"noise {number}")
-        count = programs(work, problems)
+        count = compiled(work, problems)
     for problem in problems:
         print(problem)
     print(f"{1 + len(NOISY)} texts, {count} programs, {len(problems)} problems")

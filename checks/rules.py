@@ -97,7 +97,7 @@ ORDER = [
     ("declare { i8 } @f() @g = global i8 256 " + MAIN, "type global 0"),
     ("define { i8 } @f() { unreachable } declare { i8 } @g()" + MAIN, "type extern 0"),
     ("define { i8 } @f() { ret i8 0 }" + MAIN, "type function 0"),
-    ("@g = global i8 0 @g = global i8 0 %t = type i8 %t = type i8", "doubled %t"),
+    ("@g = global i8 0 @g = global i8 0 %t = type { i8 } %t = type { i8 }", "doubled %t"),
     ("define void @f(i8 %x, i8 %x) { ret void } define void @f() { ret void }", "doubled %x"),
 ]
 
@@ -163,7 +163,7 @@ OUTSIDE = {
 
 # A name that has no definition of its kind, in each place where one may stand; of two the first in the text.
 UNKNOWN = [
-    ("@h = global ptr @nope" + MAIN, "unknown @nope"),
+    ("@h = global ptr @nope " + MAIN, "unknown @nope"),
     ("@h = global ptr getelementptr (i8, ptr @main, i64 0)" + MAIN, "unknown @main"),
     ("@h = global ptr getelementptr (%t, ptr @h, i64 0)" + MAIN, "unknown %t"),
     (body("%a = add i8 %u, %v"), "unknown %u"),
