@@ -1,5 +1,5 @@
 -- What instructions give is what their actions give.
-use Rattle.std.proofs.Common.{◌≡◌, ℕ, ◌+◌, ◌*◌, ◌-◌, ◌/◌, ◌≤◌, ◌<◌, ◌^◌, Bool, true, false, List, [], ◌∷◌, ◌++◌, map, Option, Some, None, Ok, Err, refl, ap, sym, ◌∙◌, subst, arith}
+use Rattle.std.proofs.Common.{◌≡◌, ℕ, ◌*◌, ◌≤◌, Bool, true, List, [], ◌∷◌, ◌++◌, map, refl, ap, sym, ◌∙◌, arith}
 use Rattle.std.specs.Prelude.{◌&&◌}
 use Rattle.std.specs.List.{list_all}
 use Rattle.std.proofs.lemmas.Bool.{and_parts}
@@ -14,25 +14,20 @@ use Rattle.ir_core.specs.declared.instruction.Pred.{Pred}
 use Rattle.ir_core.specs.declared.instruction.CastOp.{CastOp}
 use Rattle.ir_core.specs.declared.instruction.Arg.{Arg}
 use Rattle.ir_core.specs.declared.module.Module.{Module}
-use Rattle.ir_core.specs.declared.memory.Value.{Value}
 use Rattle.ir_core.specs.declared.kind.Kind.{Kind}
 use Rattle.ir_core.specs.declared.kind.Kind.TheVariants.{Number, Pointer}
 use Rattle.ir_core.specs.Kinds.{kind_of, same_kind}
 use Rattle.ir_core.specs.Stops.{Answer, and_then}
 use Rattle.ir_core.specs.Counts.{told, spaced, alloca_bytes}
-use Rattle.ir_core.specs.Shapes.{shape_of, rounded}
-use Rattle.ir_core.specs.Memory.{Memory, load_at}
-use Rattle.ir_core.specs.State.{Local}
+use Rattle.ir_core.specs.Shapes.{shape_of}
+use Rattle.ir_core.specs.Memory.{load_at}
 use Rattle.ir_core.specs.Typing.{Env, is_value, is_result, is_index, known_arg, kinds_of, leads_from, operand_fits, arg_fits, callee_fits, bin_fits, cast_fits, op_fits}
 use Rattle.ir_core.specs.Mentions.{OfType, of_operand, of_typed, of_args, of_callee, of_op}
-use Rattle.ir_core.specs.Step.{binary_value, compared_value, cast_value, selected, result_of}
-use Rattle.ir_memory.specs.Registers.{StandFor}
-use Rattle.ir_program.specs.declared.path.Path.{Path}
+use Rattle.ir_core.specs.Step.{binary_value, compared_value, cast_value, selected}
 use Rattle.ir_program.specs.Extents.{extent_of}
 use Rattle.ir_program.specs.Origins.{origin_of}
-use Rattle.ir_program.specs.Paths.{path_of}
-use Rattle.ir_program.specs.Actions.{arg_origin, move_by, action_of}
-use Rattle.ir_program.specs.Reads.{origin_value, ArePlaced, IsPlaced}
+use Rattle.ir_program.specs.Actions.{arg_origin, move_by}
+use Rattle.ir_program.specs.Reads.{ArePlaced, IsPlaced}
 use Rattle.ir_sound.specs.WellTyped.{Each}
 use Rattle.ir_sound.proofs.RowLaws.{Each_parts}
 use Rattle.ir_agree.specs.Small.{FieldsAreSmall, IsSmall, IsSmallMention}
@@ -40,7 +35,7 @@ use Rattle.ir_agree.specs.Values.{action_value}
 use Rattle.ir_agree.specs.Agreement.{IsReadAs, GivesAs, ActsAs}
 use Rattle.ir_agree.proofs.ShapeLaws.{rounded_up}
 use Rattle.ir_agree.proofs.PathLaws.{size_is}
-use Rattle.ir_agree.proofs.LeadLaws.{HasPath, has_path_from}
+use Rattle.ir_agree.proofs.LeadLaws.{has_path_from}
 use Rattle.ir_agree.proofs.WideLaws.{wide_args, args_known}
 use Rattle.ir_agree.proofs.MoveLaws.{move_read}
 use Rattle.ir_agree.proofs.PartLaws.{is_placed, is_read, are_placed, calls_as}

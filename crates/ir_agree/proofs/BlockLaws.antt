@@ -1,14 +1,13 @@
 -- The parts of the program of a typed, small module give what the parts of the module give.
-use Rattle.std.proofs.Common.{◌≡◌, ℕ, zero, suc, ◌+◌, ◌*◌, ◌≤◌, ◌^◌, ◌-◌, Bool, true, false, List, [], ◌∷◌, ◌++◌, length, map, Option, Some, None, refl, ap, sym, ◌∙◌, subst, arith, if◌then◌else◌}
+use Rattle.std.proofs.Common.{◌≡◌, ℕ, zero, suc, ◌+◌, ◌*◌, ◌≤◌, Bool, true, false, List, [], ◌∷◌, length, Option, Some, None, refl, ap, sym, ◌∙◌, subst, arith, if◌then◌else◌}
 use Rattle.std.specs.Prelude.{◌&&◌, option_map, slice_get}
 use Rattle.std.specs.List.{list_all, flat_map, sum_by}
 use Rattle.std.proofs.lemmas.Bool.{and_parts}
 use Rattle.std.proofs.lemmas.List.Sums.{sum_by-cons}
 use Rattle.ir_core.specs.declared.limit.TheConstants.{MAX_FRAME}
-use Rattle.ir_core.specs.declared.ty.Ty.{Ty}
 use Rattle.ir_core.specs.declared.ty.NamedTy.{NamedTy}
 use Rattle.ir_core.specs.declared.instruction.Op.{Op}
-use Rattle.ir_core.specs.declared.instruction.Op.TheVariants.{Bin, Compare, Cast, Select, Freeze, Alloca, Load, Store, Gep, Phi, Call}
+use Rattle.ir_core.specs.declared.instruction.Op.TheVariants.{Phi}
 use Rattle.ir_core.specs.declared.instruction.Inst.{Inst}
 use Rattle.ir_core.specs.declared.instruction.Entry.{Entry}
 use Rattle.ir_core.specs.declared.module.Block.{Block}
@@ -16,16 +15,16 @@ use Rattle.ir_core.specs.declared.module.Function.{Function}
 use Rattle.ir_core.specs.declared.module.Module.{Module}
 use Rattle.ir_core.specs.declared.kind.Kind.{Kind}
 use Rattle.ir_core.specs.Kinds.{kind_of}
-use Rattle.ir_core.specs.Names.{same_name, number_where, first_where}
-use Rattle.ir_core.specs.Counts.{told, spaced, alloca_bytes, inst_frame, result_count, phi_count, stack_arguments, frame_count}
-use Rattle.ir_core.specs.Typing.{Env, is_value, is_result, has_kind, kind_given, into_fits, op_fits, operand_fits, inst_fits, term_fits}
+use Rattle.ir_core.specs.Names.{same_name, first_where}
+use Rattle.ir_core.specs.Counts.{told, alloca_bytes, inst_frame, stack_arguments, frame_count}
+use Rattle.ir_core.specs.Typing.{is_value, is_result, has_kind, kind_given, into_fits, op_fits, operand_fits, inst_fits, term_fits}
 use Rattle.ir_core.specs.Valid.{LocalKind, kind_in, named_locals, locals_of, env_of, predecessors}
-use Rattle.ir_core.specs.Mentions.{OfType, of_entries, of_op, of_end, of_block, of_function}
+use Rattle.ir_core.specs.Mentions.{of_op, of_end, of_block, of_function}
 use Rattle.ir_core.specs.Step.{Choice, choices_of}
 use Rattle.ir_memory.specs.Registers.{number_of}
 use Rattle.ir_program.specs.Actions.{into_of}
 use Rattle.ir_program.specs.Programs.{register_names}
-use Rattle.ir_sound.specs.Typed.{param_typed, phis_typed, labels_known, block_typed, entry_typed, function_typed, functions_typed, IsTyped}
+use Rattle.ir_sound.specs.Typed.{param_typed, phis_typed, labels_known, block_typed, entry_typed, function_typed, IsTyped}
 use Rattle.ir_sound.specs.WellTyped.{Each}
 use Rattle.ir_sound.proofs.RowLaws.{all_at, Each_at, Each_parts, Each_rows}
 use Rattle.ir_sound.proofs.SameLaws.{none_is, not_true, some_is}

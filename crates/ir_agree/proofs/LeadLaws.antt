@@ -1,16 +1,14 @@
 -- Indices that lead to a part of a type have a path.
-use Rattle.std.proofs.Common.{◌≡◌, ℕ, zero, suc, ◌+◌, ◌-◌, ◌%◌, ◌^◌, ◌<◌, ◌≤◌, Bool, true, false, List, [], ◌∷◌, map, take, Option, Some, None, Ok, Err, refl, ap, sym, ◌∙◌, subst, arith, if◌then◌else◌}
+use Rattle.std.proofs.Common.{◌≡◌, ℕ, zero, suc, ◌%◌, ◌^◌, ◌<◌, Bool, true, false, List, [], ◌∷◌, map, take, Option, Some, None, Ok, refl, ap, sym, ◌∙◌, subst, arith}
 use Rattle.std.specs.Prelude.{slice_get}
 use Rattle.ir_core.specs.declared.limit.TheConstants.{MAX_NESTING}
-use Rattle.ir_core.specs.declared.ty.Ty.{Ty, fold-Ty, roll-Ty, out-Ty, roll-out-Ty, fold-roll-Ty}
+use Rattle.ir_core.specs.declared.ty.Ty.{Ty, roll-Ty, out-Ty, roll-out-Ty, fold-roll-Ty}
 use Rattle.ir_core.specs.declared.ty.Ty.TheVariants.{Array, Struct, Packed, rolls-Array, rolls-Struct, rolls-Packed}
 use Rattle.ir_core.specs.declared.ty.Ty.TheOpen.{Ty-F}
 use Rattle.ir_core.specs.declared.ty.Ty.TheFolds.{map-Ty}
 use Rattle.ir_core.specs.declared.ty.NamedTy.{NamedTy}
 use Rattle.ir_core.specs.declared.memory.Value.{Value}
-use Rattle.ir_core.specs.Stops.{Answer}
 use Rattle.ir_core.specs.Operands.{index_word}
-use Rattle.ir_core.specs.Valid.{opened}
 use Rattle.ir_core.specs.Typing.{Leads, leads_field, leads_struct, leads_at, leads_named, leads_into, leads_from}
 use Rattle.ir_memory.specs.Words.{low_word}
 use Rattle.ir_program.specs.declared.origin.Origin.{Origin}
@@ -19,7 +17,7 @@ use Rattle.ir_program.specs.declared.path.Path.{Path}
 use Rattle.ir_program.specs.Extents.{extent_of, field_place}
 use Rattle.ir_program.specs.Paths.{empty_path, farther, over_elements, into_found, into_number, into_field, into_type, onward, path_into, path_of}
 use Rattle.ir_agree.specs.Small.{IsSmall, FieldsAreSmall, is_plain}
-use Rattle.ir_agree.proofs.OpenLaws.{Opens, opens, elements_small, field_small, packed_small}
+use Rattle.ir_agree.proofs.OpenLaws.{opens, elements_small, field_small, packed_small}
 
 -- an index that is known to be a number
 pub record IsNumber (n : ℕ) (o : Origin) : Type 0 where

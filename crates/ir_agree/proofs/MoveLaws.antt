@@ -1,8 +1,7 @@
 -- A pointer that moves along a path comes where its indices lead.
-use Rattle.std.proofs.Common.{◌≡◌, ℕ, ◌+◌, ◌*◌, ◌%◌, ◌^◌, ◌<◌, Bool, true, false, List, [], ◌∷◌, map, Option, Some, None, Ok, Err, refl, ap, sym, ◌∙◌, subst, arith, if◌then◌else◌}
-use Rattle.std.specs.Prelude.{nat_eq, option_map}
+use Rattle.std.proofs.Common.{◌≡◌, ℕ, ◌+◌, ◌%◌, ◌^◌, List, [], ◌∷◌, map, Option, Some, Ok, Err, refl, ap, sym, ◌∙◌, arith, if◌then◌else◌}
+use Rattle.std.specs.Prelude.{nat_eq}
 use Rattle.ir_core.specs.declared.ty.Ty.{Ty}
-use Rattle.ir_core.specs.declared.ty.NamedTy.{NamedTy}
 use Rattle.ir_core.specs.declared.operand.Operand.{Operand}
 use Rattle.ir_core.specs.declared.instruction.Op.TheVariants.{Gep}
 use Rattle.ir_core.specs.declared.instruction.Arg.{Arg}
@@ -15,14 +14,13 @@ use Rattle.ir_core.specs.Stops.{Left, Answer, and_then, found_or}
 use Rattle.ir_core.specs.Stops as stop
 use Rattle.ir_core.specs.Kinds.{kind_of}
 use Rattle.ir_core.specs.Memory.{Memory}
-use Rattle.ir_core.specs.Shapes.{Shape, part_of_array, shape_of}
+use Rattle.ir_core.specs.Shapes.{part_of_array, shape_of}
 use Rattle.ir_core.specs.State.{Local}
-use Rattle.ir_core.specs.Operands.{index_words, bytes_to, value_of, values_of}
-use Rattle.ir_core.specs.Pointers.{moved_pointer, unmoved_pointer}
+use Rattle.ir_core.specs.Operands.{index_words, bytes_to, values_of}
+use Rattle.ir_core.specs.Pointers.{moved_pointer}
 use Rattle.ir_core.specs.Step.{result_of}
 use Rattle.ir_memory.specs.Registers.{StandFor}
 use Rattle.ir_memory.specs.Words.{low_word}
-use Rattle.ir_program.specs.declared.origin.Origin.{Origin}
 use Rattle.ir_program.specs.declared.path.Path.{Path}
 use Rattle.ir_program.specs.declared.path.Stride.{Stride}
 use Rattle.ir_program.specs.Paths.{empty_path, path_of}

@@ -1,12 +1,11 @@
 -- A type with its name replaced has the same shape, and what stands in it is small too.
-use Rattle.std.proofs.Common.{◌≡◌, ℕ, zero, suc, ◌+◌, ◌≤◌, Bool, true, false, List, [], ◌∷◌, ◌++◌, map, Option, Some, None, refl, ap, sym, ◌∙◌, subst, arith, if◌then◌else◌}
-use Rattle.std.specs.Prelude.{max, slice_get}
+use Rattle.std.proofs.Common.{◌≡◌, ℕ, zero, suc, ◌≤◌, Bool, true, false, List, [], ◌∷◌, ◌++◌, map, Option, Some, None, refl, ap, sym, ◌∙◌, subst, arith, if◌then◌else◌}
+use Rattle.std.specs.Prelude.{slice_get}
 use Rattle.std.specs.List.{flat_map}
 use Rattle.ir_core.specs.declared.limit.TheConstants.{MAX_NESTING, MAX_SIZE}
 use Rattle.ir_core.specs.declared.ty.Ty.{Ty, roll-Ty, out-Ty, roll-out-Ty, out-roll-Ty, fold-roll-Ty}
 use Rattle.ir_core.specs.declared.ty.Ty.TheVariants.{Void, Int, Ptr, Array, Struct, Packed, Named, rolls-Void, rolls-Int, rolls-Ptr, rolls-Array, rolls-Struct, rolls-Packed, rolls-Named}
 use Rattle.ir_core.specs.declared.ty.Ty.TheOpen.{Ty-F}
-use Rattle.ir_core.specs.declared.ty.Ty.TheFolds.{map-Ty}
 use Rattle.ir_core.specs.declared.ty.NamedTy.{NamedTy}
 use Rattle.ir_core.specs.Names.{same_name, first_where}
 use Rattle.ir_core.specs.Shapes.{Shape, nothing, shape_at, shape_or_nothing, named_shape, shape_of}

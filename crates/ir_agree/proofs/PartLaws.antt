@@ -1,10 +1,9 @@
 -- What instructions, phis and ends of blocks read is what their parts in the program give.
-use Rattle.std.proofs.Common.{◌≡◌, ℕ, Bool, true, false, List, [], ◌∷◌, ◌++◌, map, Option, Some, None, Ok, Err, refl, ap, sym, ◌∙◌, subst}
-use Rattle.std.specs.Prelude.{◌&&◌, ◌||◌, is_some}
-use Rattle.std.specs.List.{list_all, flat_map}
+use Rattle.std.proofs.Common.{◌≡◌, ℕ, Bool, true, List, [], ◌∷◌, ◌++◌, map, Option, Some, None, Ok, refl, ap, sym, ◌∙◌}
+use Rattle.std.specs.Prelude.{◌&&◌, is_some}
+use Rattle.std.specs.List.{list_all}
 use Rattle.std.proofs.lemmas.Bool.{and_parts}
 use Rattle.rd_num.specs.declared.width.Width.TheVariants.{W1}
-use Rattle.ir_core.specs.declared.ty.Ty.{Ty}
 use Rattle.ir_core.specs.declared.operand.Operand.{Operand}
 use Rattle.ir_core.specs.declared.operand.Operand.TheVariants.{Int, Bool as Truth, Null as NullWord, Undef, Poison, Local as LocalName, Global, Const}
 use Rattle.ir_core.specs.declared.operand.Place0.{Place0}
@@ -15,7 +14,6 @@ use Rattle.ir_core.specs.declared.instruction.Term.{Term}
 use Rattle.ir_core.specs.declared.instruction.Term.TheVariants.{Ret, RetValue, Br, BrIf, Switch, Unreachable}
 use Rattle.ir_core.specs.declared.module.Module.{Module}
 use Rattle.ir_core.specs.declared.memory.Value.{Value}
-use Rattle.ir_core.specs.declared.memory.Value.TheVariants.{Fun}
 use Rattle.ir_core.specs.declared.kind.Kind.{Kind}
 use Rattle.ir_core.specs.declared.kind.Kind.TheVariants.{Number, Pointer}
 use Rattle.ir_core.specs.Kinds.{kind_of, same_kind}
@@ -23,14 +21,13 @@ use Rattle.ir_core.specs.Names.{same_name, first_where}
 use Rattle.ir_core.specs.Stops.{Answer, and_then, found_or}
 use Rattle.ir_core.specs.Stops as stop
 use Rattle.ir_core.specs.State.{Local}
-use Rattle.ir_core.specs.Operands.{global_number, function_number, value_of, values_of}
+use Rattle.ir_core.specs.Operands.{global_number, function_number, value_of}
 use Rattle.ir_core.specs.Calls.{Target, target_of, target_named}
 use Rattle.ir_core.specs.Calls as target
-use Rattle.ir_core.specs.Typing.{Env, is_index, known_index, leads_from, place_fits, operand_fits, case_fits, term_fits, is_value, is_number}
-use Rattle.ir_core.specs.Mentions.{Mention, OfType, OfLabel, of_operand, of_typed, of_args, of_entries, of_cases, of_end}
+use Rattle.ir_core.specs.Typing.{Env, known_index, leads_from, place_fits, operand_fits, case_fits, term_fits, is_value, is_number}
+use Rattle.ir_core.specs.Mentions.{OfLabel, of_operand, of_typed, of_args, of_entries, of_cases, of_end}
 use Rattle.ir_core.specs.Step.{Choice, chosen}
-use Rattle.ir_memory.specs.Registers.{number_of, StandFor}
-use Rattle.ir_program.specs.Origins.{register_of, origin_of}
+use Rattle.ir_memory.specs.Registers.{StandFor}
 use Rattle.ir_program.specs.Actions.{argument_of, arg_origin, callee_named, callee_of}
 use Rattle.ir_program.specs.Exits.{entry_origin, move_of}
 use Rattle.ir_program.specs.Reads.{origin_value, origin_values, argument_values, callee_target, IsPlaced, ArePlaced}

@@ -1,6 +1,6 @@
 -- A path leads as far as the indices that it stands for.
 use Rattle.std.proofs.Common.{◌≡◌, ℕ, zero, suc, ◌+◌, ◌*◌, ◌-◌, ◌%◌, ◌^◌, ◌<◌, ◌≤◌, Bool, true, false, List, [], ◌∷◌, ◌++◌, map, take, Option, Some, None, Ok, Err, refl, ap, sym, ◌∙◌, subst, arith, if◌then◌else◌}
-use Rattle.std.specs.Prelude.{option_map, slice_get, nat_lt, nat_eq}
+use Rattle.std.specs.Prelude.{option_map, slice_get, nat_lt}
 use Rattle.std.proofs.lemmas.List.{append-nil, append_assoc}
 use Rattle.std.proofs.lemmas.Nat.{mul-mod_first}
 use Rattle.rd_num.specs.declared.width.Width.{Width}
@@ -18,10 +18,9 @@ use Rattle.ir_core.specs.Names.{same_name, first_where}
 use Rattle.ir_core.specs.Stops.{Stop, Answer, and_then, found_or}
 use Rattle.ir_core.specs.Stops as stop
 use Rattle.ir_core.specs.Kinds.{signed_word}
-use Rattle.ir_core.specs.Shapes.{Shape, nothing, single, bytes_of, array, struct, unaligned, rounded, fields_end, part_of_array, part_of_struct, part_of_field, shape_at, shape_or_nothing, named_shape, shape_of}
-use Rattle.ir_core.specs.Counts.{told, size_count}
+use Rattle.ir_core.specs.Shapes.{Shape, struct, unaligned, part_of_array, part_of_struct, part_of_field, shape_at, shape_or_nothing, named_shape, shape_of}
+use Rattle.ir_core.specs.Counts.{size_count}
 use Rattle.ir_core.specs.Operands.{index_word, index_words}
-use Rattle.ir_core.specs.Valid.{opened}
 use Rattle.ir_core.proofs.Types.{shape-array, shape-struct, shape-packed}
 use Rattle.ir_memory.specs.Words.{low_word}
 use Rattle.ir_program.specs.declared.origin.Origin.{Origin}
@@ -33,7 +32,7 @@ use Rattle.ir_program.specs.Paths.{empty_path, farther, with_stride, by_word, ov
 use Rattle.ir_program.specs.Reads.{origin_value, origin_values, stride_values, stride_bytes, IsWide, AreWide}
 use Rattle.ir_agree.specs.Small.{IsSmall, FieldsAreSmall}
 use Rattle.ir_agree.proofs.ShapeLaws.{tells, laid, part_field, place_is}
-use Rattle.ir_agree.proofs.OpenLaws.{Opens, opens, elements_small, field_small, packed_small, struct_size, packed_size, size_small}
+use Rattle.ir_agree.proofs.OpenLaws.{opens, elements_small, field_small, packed_small, struct_size, packed_size, size_small}
 
 -- two answers of which only the lowest 64 bits count, each behind a number of bytes
 shifted : (k x y z : ℕ) → x % 2 ^ 64 ≡ (y + z) % 2 ^ 64 → (k + x) % 2 ^ 64 ≡ (k + y + z) % 2 ^ 64

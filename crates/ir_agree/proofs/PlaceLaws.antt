@@ -1,9 +1,6 @@
 -- A constant place has the value of its origin.
-use Rattle.std.proofs.Common.{◌≡◌, ℕ, zero, suc, ◌+◌, ◌*◌, ◌%◌, ◌^◌, ◌<◌, Bool, true, false, List, [], ◌∷◌, ◌++◌, map, take, Option, Some, None, Ok, Err, refl, ap, sym, ◌∙◌, subst, arith, if◌then◌else◌}
-use Rattle.std.specs.Prelude.{ℤ, slice_get, is_some, ◌&&◌}
-use Rattle.std.proofs.Math.Nat.{mod-lt}
-use Rattle.std.proofs.lemmas.Bool.{and_parts}
-use Rattle.std.specs.List.{list_all}
+use Rattle.std.proofs.Common.{◌≡◌, ℕ, ◌+◌, ◌*◌, ◌%◌, ◌^◌, ◌<◌, Bool, true, false, List, [], ◌∷◌, ◌++◌, map, take, Option, Some, None, Ok, Err, refl, ap, sym, ◌∙◌, subst, arith}
+use Rattle.std.specs.Prelude.{ℤ, slice_get}
 use Rattle.ir_core.specs.declared.ty.Ty.{Ty, out-Ty}
 use Rattle.ir_core.specs.declared.ty.Ty.TheOpen.{Ty-F}
 use Rattle.ir_core.specs.declared.ty.NamedTy.{NamedTy}
@@ -17,19 +14,19 @@ use Rattle.ir_core.specs.declared.memory.Value.TheVariants.{Num, At}
 use Rattle.ir_core.specs.Stops.{Answer, and_then, found_or}
 use Rattle.ir_core.specs.Stops as stop
 use Rattle.ir_core.specs.Kinds.{kind_of, literal, signed_word}
-use Rattle.ir_core.specs.Shapes.{Shape, part_of_array, shape_of}
+use Rattle.ir_core.specs.Shapes.{part_of_array, shape_of}
 use Rattle.ir_core.specs.Operands.{global_number, int_value, index_word, index_words, literal_indices, bytes_to, constant_place}
 use Rattle.ir_core.specs.Valid.{opened}
-use Rattle.ir_core.specs.Typing.{known_index, leads_from, place_fits, is_index, int_fits}
+use Rattle.ir_core.specs.Typing.{known_index, leads_from}
 use Rattle.ir_memory.specs.Words.{low_word}
 use Rattle.ir_program.specs.declared.origin.Origin.{Origin}
 use Rattle.ir_program.specs.declared.origin.Origin.TheVariants.{Known, Register, Unset, Malformed}
 use Rattle.ir_program.specs.declared.path.Path.{Path}
 use Rattle.ir_program.specs.declared.path.Stride.{Stride}
 use Rattle.ir_program.specs.Extents.{extent_of, field_place}
-use Rattle.ir_program.specs.Paths.{empty_path, farther, with_stride, over_elements, into_found, into_number, into_field, into_type, onward, path_into, path_of}
+use Rattle.ir_program.specs.Paths.{empty_path, farther, over_elements, into_found, into_field, into_type, onward, path_into, path_of}
 use Rattle.ir_program.specs.Origins.{known, index_origin, place_in, place_of, constant_origin}
-use Rattle.ir_program.specs.Reads.{origin_value, origin_values, stride_values, stride_bytes, AreWide}
+use Rattle.ir_program.specs.Reads.{origin_value, origin_values, stride_values, AreWide}
 use Rattle.ir_agree.specs.Small.{IsSmall, FieldsAreSmall}
 use Rattle.ir_agree.proofs.PathLaws.{Meets, Leads, from_leads}
 use Rattle.ir_agree.proofs.LeadLaws.{HasPath, KnownAs, has_path_from}

@@ -1,8 +1,6 @@
 -- Names that were replaced often enough stand for the same however often they are replaced.
 use Rattle.std.proofs.Common.{◌≡◌, ℕ, zero, suc, ◌+◌, ◌≤◌, List, [], ◌∷◌, map, Option, Some, None, refl, ap, sym, ◌∙◌, subst, arith}
-use Rattle.std.specs.Prelude.{max}
 use denote.Hole.Holds.{Such}
-use Rattle.rd_num.specs.declared.width.Width.{Width}
 use Rattle.ir_core.specs.declared.limit.TheConstants.{MAX_NESTING}
 use Rattle.ir_core.specs.declared.ty.Ty.{Ty, fold-Ty, ind-Ty, roll-Ty, fold-roll-Ty}
 use Rattle.ir_core.specs.declared.ty.Ty.TheVariants.{Named, rolls-Named}

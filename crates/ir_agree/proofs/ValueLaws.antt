@@ -1,26 +1,20 @@
 -- What operands are in a call is what comes from where they are read.
-use Rattle.std.proofs.Common.{◌≡◌, ℕ, Bool, true, false, List, [], ◌∷◌, map, Option, Some, None, Ok, Err, refl, ap, sym, ◌∙◌}
-use Rattle.std.specs.Prelude.{ℤ, option_map, option_and_then}
+use Rattle.std.proofs.Common.{◌≡◌, ℕ, List, Option, Some, None, refl, ap, ◌∙◌}
+use Rattle.std.specs.Prelude.{ℤ, option_and_then}
 use Rattle.ir_core.specs.declared.operand.Operand.{Operand}
 use Rattle.ir_core.specs.declared.operand.Operand.TheVariants.{Int, Bool as Truth, Null as NullWord, Undef, Poison, Local as LocalName, Global, Const}
-use Rattle.ir_core.specs.declared.instruction.Arg.{Arg}
 use Rattle.ir_core.specs.declared.module.Module.{Module}
 use Rattle.ir_core.specs.declared.memory.Value.{Value}
 use Rattle.ir_core.specs.declared.memory.Reason.TheVariants.{Unset as UnsetReason}
-use Rattle.ir_core.specs.Stops.{Left, Answer, and_then, found_or}
+use Rattle.ir_core.specs.Stops.{Left, found_or}
 use Rattle.ir_core.specs.declared.kind.Kind.{Kind}
 use Rattle.ir_core.specs.declared.kind.Kind.TheVariants.{NoValue, Number, Pointer}
-use Rattle.ir_core.specs.Kinds.{kind_of, zero_of}
+use Rattle.ir_core.specs.Kinds.{zero_of}
 use Rattle.ir_core.specs.State.{Local}
-use Rattle.ir_core.specs.Operands.{local_value, global_number, function_number, named_value, int_value, constant_place, value_of, values_of}
-use Rattle.ir_core.specs.Calls.{Target, target_of, target_named}
-use Rattle.ir_memory.specs.Registers.{register, given, number_of, StandFor}
-use Rattle.ir_program.specs.declared.origin.Origin.{Origin}
-use Rattle.ir_program.specs.declared.origin.Origin.TheVariants.{Known, Register, Unset, Malformed}
-use Rattle.ir_program.specs.declared.action.Argument.{Argument}
-use Rattle.ir_program.specs.Origins.{known, register_of, constant_origin, origin_of}
-use Rattle.ir_program.specs.Actions.{argument_of, callee_named, callee_of}
-use Rattle.ir_program.specs.Reads.{origin_value, argument_values, callee_target, IsPlaced}
+use Rattle.ir_core.specs.Operands.{local_value, global_number, function_number, named_value, int_value, value_of}
+use Rattle.ir_memory.specs.Registers.{register, number_of, StandFor}
+use Rattle.ir_program.specs.Origins.{known, register_of, origin_of}
+use Rattle.ir_program.specs.Reads.{origin_value, IsPlaced}
 
 -- a literal
 int_read : (registers : List (Option Value)) (kind : Kind) (n : ℤ) → int_value kind n ≡ origin_value registers (known (int_value kind n))

@@ -1,9 +1,8 @@
 -- Numbers that are known are of their width, and literals that lead into structs are known.
-use Rattle.std.proofs.Common.{◌≡◌, ℕ, ◌+◌, ◌-◌, ◌%◌, ◌^◌, ◌<◌, Bool, true, false, List, [], ◌∷◌, map, Option, Some, None, Ok, Err, refl, ap, sym, ◌∙◌, subst, arith, if◌then◌else◌}
+use Rattle.std.proofs.Common.{◌≡◌, ℕ, ◌+◌, ◌-◌, ◌%◌, ◌^◌, Bool, true, false, List, [], ◌∷◌, map, Option, Some, None, Ok, refl, ap, ◌∙◌, arith, if◌then◌else◌}
 use Rattle.std.specs.Prelude.{ℤ, pos, negsuc, nat_lt}
 use Rattle.std.proofs.lemmas.Nat.{pow_pos}
 use Rattle.std.proofs.lemmas.Bool.{ltb-true}
-use Rattle.rd_num.specs.declared.width.Width.{Width}
 use Rattle.rd_num.specs.declared.width.Width.TheVariants.{W1, W8, W16, W32, W64}
 use Rattle.rd_num.specs.Number.{bits}
 use Rattle.ir_core.specs.declared.kind.Kind.{Kind}
@@ -14,8 +13,8 @@ use Rattle.ir_core.specs.declared.instruction.Arg.{Arg}
 use Rattle.ir_core.specs.declared.module.Module.{Module}
 use Rattle.ir_core.specs.declared.memory.Value.TheVariants.{Num}
 use Rattle.ir_core.specs.Stops.{Answer}
-use Rattle.ir_core.specs.Kinds.{kind_of, literal, signed_word, truth, zero_of}
-use Rattle.ir_core.specs.Operands.{index_word, int_value, global_number, function_number, named_value}
+use Rattle.ir_core.specs.Kinds.{kind_of, signed_word, truth, zero_of}
+use Rattle.ir_core.specs.Operands.{int_value, global_number, function_number, named_value}
 use Rattle.ir_core.specs.Typing.{literal_field, known_operand, known_arg}
 use Rattle.ir_core.proofs.Fits.{literal_fits}
 use Rattle.ir_memory.specs.Registers.{number_of}

@@ -1,5 +1,5 @@
 -- Types whose sizes and depths are within the limits, with all that stands in them.
-use Rattle.std.specs.Prelude.{◌≡◌, Bool, true, false, ℕ, ◌≤◌, List, [], ◌∷◌}
+use Rattle.std.specs.Prelude.{◌≡◌, Bool, true, false, ◌≤◌, List, [], ◌∷◌}
 use Rattle.ir_core.specs.declared.limit.TheConstants.{MAX_NESTING, MAX_SIZE, MAX_FRAME}
 use Rattle.ir_core.specs.declared.ty.Ty.{Ty, out-Ty}
 use Rattle.ir_core.specs.declared.ty.Ty.TheOpen.{Ty-F}
