@@ -31,8 +31,8 @@ use Rattle.ir_program.specs.Reads.{ArePlaced, IsPlaced}
 use Rattle.ir_sound.specs.WellTyped.{Each}
 use Rattle.ir_sound.proofs.RowLaws.{Each_parts}
 use Rattle.ir_agree.specs.Small.{FieldsAreSmall, IsSmall, IsSmallMention}
-use Rattle.ir_agree.specs.Values.{action_value}
-use Rattle.ir_agree.specs.Agreement.{IsReadAs, GivesAs, ActsAs}
+use Rattle.ir_eval.specs.Turns.{action_value}
+use Rattle.ir_eval.specs.Agreement.{IsReadAs, GivesAs, ActsAs}
 use Rattle.ir_agree.proofs.ShapeLaws.{rounded_up}
 use Rattle.ir_agree.proofs.PathLaws.{size_is}
 use Rattle.ir_agree.proofs.LeadLaws.{has_path_from}

@@ -2,7 +2,7 @@
 use Rattle.ir_core.specs.declared.module.Module.{Module}
 use Rattle.ir_core.specs.Refusals.{IsValid}
 use Rattle.ir_sound.proofs.ValidTyped.{valid_typed}
-use Rattle.ir_agree.specs.Agreement.{Agrees}
+use Rattle.ir_eval.specs.Agreement.{Agrees}
 use Rattle.ir_agree.proofs.SmallLaws.{valid_small}
 use Rattle.ir_agree.proofs.BlockLaws.{typed_agrees}
 

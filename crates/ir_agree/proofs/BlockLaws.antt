@@ -29,8 +29,8 @@ use Rattle.ir_sound.specs.WellTyped.{Each}
 use Rattle.ir_sound.proofs.RowLaws.{all_at, Each_at, Each_parts, Each_rows}
 use Rattle.ir_sound.proofs.SameLaws.{none_is, not_true, some_is}
 use Rattle.ir_agree.specs.Small.{FieldsAreSmall, IsSmallMention, IsSmallModule}
-use Rattle.ir_agree.specs.Values.{IntoStands}
-use Rattle.ir_agree.specs.Agreement.{InstAgrees, PhisAgree, BlockAgrees, Agrees}
+use Rattle.ir_eval.specs.Standing.{IntoStands}
+use Rattle.ir_eval.specs.Agreement.{InstAgrees, PhisAgree, BlockAgrees, Agrees}
 use Rattle.ir_agree.proofs.PartLaws.{entries_placed, phi_taken, end_agrees}
 use Rattle.ir_agree.proofs.ActLaws.{acts_as}
 

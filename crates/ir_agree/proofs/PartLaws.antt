@@ -34,7 +34,7 @@ use Rattle.ir_program.specs.Reads.{origin_value, origin_values, argument_values,
 use Rattle.ir_sound.specs.WellTyped.{Each}
 use Rattle.ir_sound.proofs.RowLaws.{Each_parts, first_has}
 use Rattle.ir_agree.specs.Small.{FieldsAreSmall, IsSmallMention}
-use Rattle.ir_agree.specs.Agreement.{IsReadAs, CallsAs, CasesAgree, EndAgrees}
+use Rattle.ir_eval.specs.Agreement.{IsReadAs, CallsAs, CasesAgree, EndAgrees}
 use Rattle.ir_agree.proofs.ValueLaws.{value_read}
 use Rattle.ir_agree.proofs.MoveLaws.{then_same, values_read}
 use Rattle.ir_agree.proofs.PlaceLaws.{place_read}

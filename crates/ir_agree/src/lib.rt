@@ -4,7 +4,7 @@
 //! of a module are, and how large its frames: within the limits, where the module is valid. The sizes
 //! of such types and the places of their fields are told as they are, so that operands, instructions,
 //! phis and ends of blocks with numbers in place of names read and give what those of the module do.
-//! What agrees with what stands in `specs/Agreement`.
+//! What agrees with what stands in `ir_eval`.
 #![tactic(auto)]
 
 ghost use Rattle.std.specs.Prelude.{◌≡◌, ◌≤◌, ℕ, List, true};
@@ -20,7 +20,7 @@ ghost use Rattle.ir_core.specs.Refusals.{IsValid};
 ghost use Rattle.ir_core.specs.Typing.{Env, operand_fits, op_fits, term_fits};
 ghost use Rattle.ir_sound.specs.Typed.{IsTyped};
 ghost use Rattle.ir_sound.specs.WellTyped.{Each};
-ghost use Rattle.ir_agree.specs.Agreement.{IsReadAs, ActsAs, EndAgrees, Agrees};
+ghost use Rattle.ir_eval.specs.Agreement.{IsReadAs, ActsAs, EndAgrees, Agrees};
 ghost use Rattle.ir_agree.specs.Small.{FieldsAreSmall, IsSmallMention, IsSmallModule};
 
 /// The types of a valid module and the frames of its functions are within the limits.
