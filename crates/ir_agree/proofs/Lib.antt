@@ -1,0 +1,14 @@
+pub mod ValueLaws
+pub mod SettleLaws
+pub mod ShapeLaws
+pub mod OpenLaws
+pub mod PathLaws
+pub mod LeadLaws
+pub mod WideLaws
+pub mod MoveLaws
+pub mod PlaceLaws
+pub mod SmallLaws
+pub mod PartLaws
+pub mod ActLaws
+pub mod BlockLaws
+pub mod AgreeLaws
