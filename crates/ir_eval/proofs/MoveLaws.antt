@@ -1,78 +1,107 @@
--- Registers that phis give values to, and the arms of a switch.
-use Rattle.std.proofs.Common.{◌≡◌, ◌<◌, ◌≤◌, ℕ, zero, suc, ◌+◌, List, [], ◌∷◌, Option, Ok, Err, Bool, true, false, length, drop, get_or, refl, ap, sym, ◌∙◌, arith, min}
-use Rattle.std.specs.Prelude.{◌&&◌, if◌then◌else◌}
+-- A pointer that moves along a path comes where its indices lead.
+use Rattle.std.proofs.Common.{◌≡◌, ℕ, ◌+◌, ◌%◌, ◌^◌, List, [], ◌∷◌, map, Option, Some, Ok, Err, refl, ap, sym, ◌∙◌, arith, if◌then◌else◌}
+use Rattle.std.specs.Prelude.{nat_eq}
+use Rattle.ir_core.specs.declared.ty.Ty.{Ty}
+use Rattle.ir_core.specs.declared.operand.Operand.{Operand}
+use Rattle.ir_core.specs.declared.instruction.Op.TheVariants.{Gep}
+use Rattle.ir_core.specs.declared.instruction.Arg.{Arg}
+use Rattle.ir_core.specs.declared.module.Module.{Module}
+use Rattle.ir_core.specs.declared.kind.Kind.TheVariants.{Pointer}
 use Rattle.ir_core.specs.declared.memory.Value.{Value}
-use Rattle.ir_core.specs.declared.kind.Kind.{Kind}
-use Rattle.ir_core.specs.Kinds.{same_kind}
-use Rattle.ir_core.specs.Calls.{same_kinds}
-use Rattle.ir_core.specs.Stops.{Stop, Answer, and_then}
-use Rattle.ir_core.proofs.LoopLaws.{drop_item}
-use Rattle.ir_memory.specs.Registers.{with_register}
-use Rattle.ir_program.specs.declared.action.Argument.{Argument}
-use Rattle.ir_program.specs.declared.exit.Move.{Move}
-use Rattle.ir_program.specs.declared.exit.Arm.{Arm}
-use Rattle.ir_program.specs.Reads.{origin_value}
-use Rattle.ir_eval.specs.Turns.{with_moves, same_number, arm_chosen, kinds_in}
+use Rattle.ir_core.specs.declared.memory.Value.TheVariants.{Num, Null, At, Fun}
+use Rattle.ir_core.specs.declared.memory.Reason.TheVariants.{Gep as GepReason}
+use Rattle.ir_core.specs.Stops.{Left, Answer, and_then, found_or}
+use Rattle.ir_core.specs.Stops as stop
+use Rattle.ir_core.specs.Kinds.{kind_of}
+use Rattle.ir_core.specs.Memory.{Memory}
+use Rattle.ir_core.specs.Shapes.{part_of_array, shape_of}
+use Rattle.ir_core.specs.State.{Local}
+use Rattle.ir_core.specs.Operands.{index_words, bytes_to, values_of}
+use Rattle.ir_core.specs.Pointers.{moved_pointer}
+use Rattle.ir_core.specs.Step.{result_of}
+use Rattle.ir_memory.specs.Registers.{StandFor}
+use Rattle.ir_memory.specs.Words.{low_word}
+use Rattle.ir_program.specs.declared.path.Path.{Path}
+use Rattle.ir_program.specs.declared.path.Stride.{Stride}
+use Rattle.ir_program.specs.Paths.{empty_path, path_of}
+use Rattle.ir_program.specs.Origins.{origin_of}
+use Rattle.ir_program.specs.Actions.{arg_origin}
+use Rattle.ir_program.specs.Reads.{origin_value, origin_values, stride_values, stride_bytes, moved_along, IsPlaced, ArePlaced, AreWide}
+use Rattle.ir_eval.specs.Small.{IsSmall, FieldsAreSmall}
+use Rattle.ir_eval.proofs.ValueLaws.{value_read}
+use Rattle.ir_eval.proofs.PathLaws.{Meets, Leads, from_leads}
 
--- one move more, in front of those that were done
-pub one_more_move : (moves : List Move) (values : List Value) (i : ℕ) (m : Move) (v : Value) (registers : List (Option Value))
-    → i < length moves → m ≡ get_or moves i m → i < length values → v ≡ get_or values i v
-    → with_register m.into v (with_moves (drop (i + 1) moves) (drop (i + 1) values) registers) ≡ with_moves (drop i moves) (drop i values) registers
-one_more_move moves values i m v registers inside item inside2 item2 =
-    ap (λ vs. with_moves (m ∷ drop (i + 1) moves) vs registers) (sym (drop_item values i v inside2 item2))
-    ∙ ap (λ ms. with_moves ms (drop i values) registers) (sym (drop_item moves i m inside item))
+-- the second parts of a step, where they agree
+pub then_same : {A B : Type 0} (a : Answer A) (f g : A → Answer B) → ((x : A) → f x ≡ g x) → and_then a f ≡ and_then a g
+then_same (Ok x) f g same = same x
+then_same (Err s) f g same = refl
 
--- past the shorter of the two nothing is done
-pub no_moves : (moves : List Move) (values : List Value) (registers : List (Option Value)) (i : ℕ) → min (length moves) (length values) ≤ i
-    → registers ≡ with_moves (drop i moves) (drop i values) registers
-no_moves [] values registers zero few = refl
-no_moves [] values registers (suc i) few = refl
-no_moves (m ∷ ms) [] registers zero few = refl
-no_moves (m ∷ ms) [] registers (suc i) few = by (drop i ms)
-  where
-    by : (rest : List Move) → registers ≡ with_moves rest [] registers
-    by [] = refl
-    by (n ∷ ns) = refl
-no_moves (m ∷ ms) (v ∷ vs) registers zero few = absurd (omega arith)
-no_moves (m ∷ ms) (v ∷ vs) registers (suc i) few = no_moves ms vs registers i (omega arith)
+-- of the bytes of a move only the lowest 64 bits count
+moved_low : (m n : ℕ) (x : Value) → m % 2 ^ 64 ≡ n % 2 ^ 64 → moved_pointer m x ≡ moved_pointer n x
+moved_low m n (Num w k) e = refl
+moved_low m n Null e = ap (λ k. let a : Answer Value = if nat_eq k 0 then Ok Null else Err (Left GepReason) in a) e
+moved_low m n (Fun f) e = ap (λ k. let a : Answer Value = if nat_eq k 0 then Ok (Fun f) else Err (Left GepReason) in a) e
+moved_low m n (At o d) e = let low : (d + m) % 2 ^ 64 ≡ (d + n) % 2 ^ 64 = omega arith in ap (λ k. let a : Answer Value = Ok (At o k) in a) low
 
--- an arm in front of others
-abbrev pub chosen_with : Answer Bool → ℕ → Answer ℕ → Answer ℕ
-chosen_with same edge others = and_then same (λ b. if b then Ok edge else others)
+-- answers are one value
+ok_is : (a b : ℕ) → let x : Answer ℕ = Ok a in x ≡ Ok b → a ≡ b
+ok_is a b e = cc
 
-module _ (v : Value) (default : ℕ) (arms : List Arm) (i : ℕ) (a : Arm) (inside : i < length arms) (item : a ≡ get_or arms i a) where
-  chosen_at : chosen_with (and_then (origin_value [] a.value) (λ x. same_number x v)) a.edge (arm_chosen v default (drop (i + 1) arms)) ≡ arm_chosen v default (drop i arms)
-  chosen_at = ap (arm_chosen v default) (sym (drop_item arms i a inside item))
+-- so it is of answers
+moved_same : (a b : Answer ℕ) (x : Value) → low_word a ≡ low_word b → and_then a (λ by. moved_pointer by x) ≡ and_then b (λ by. moved_pointer by x)
+moved_same (Ok m) (Ok n) x e = moved_low m n x (ok_is (m % 2 ^ 64) (n % 2 ^ 64) e)
+moved_same (Ok m) (Err t) x e = absurd (cc)
+moved_same (Err s) (Ok n) x e = absurd (cc)
+moved_same (Err s) (Err t) x e = let same : s ≡ t = cc in ap (λ u. let a : Answer Value = Err u in a) same
 
-  pub other_arm : Ok false ≡ and_then (origin_value [] a.value) (λ x. same_number x v) → arm_chosen v default (drop (i + 1) arms) ≡ arm_chosen v default (drop i arms)
-  other_arm is = ap (λ b. chosen_with b a.edge (arm_chosen v default (drop (i + 1) arms))) is ∙ chosen_at
+-- words and then where they lead
+words_first : (words : Answer (List ℕ)) (part : List ℕ → Option ℕ) (x : Value) → and_then words (λ ns. and_then (found_or stop.Malformed (part ns)) (λ by. moved_pointer by x)) ≡ and_then (and_then words (λ ns. found_or stop.Malformed (part ns))) (λ by. moved_pointer by x)
+words_first (Ok ns) part x = refl
+words_first (Err s) part x = refl
 
-  pub this_arm : Ok true ≡ and_then (origin_value [] a.value) (λ x. same_number x v) → Ok a.edge ≡ arm_chosen v default (drop i arms)
-  this_arm is = ap (λ b. chosen_with b a.edge (arm_chosen v default (drop (i + 1) arms))) is ∙ chosen_at
+-- bytes and then those that are known
+bytes_first : (bytes : Answer ℕ) (c d : ℕ) (x : Value) → c % 2 ^ 64 ≡ d % 2 ^ 64 → and_then (and_then bytes (λ by. let a : Answer ℕ = Ok (d + by) in a)) (λ by. moved_pointer by x) ≡ and_then bytes (λ by. moved_pointer (c + by) x)
+bytes_first (Ok by) c d x e = let low : (d + by) % 2 ^ 64 ≡ (c + by) % 2 ^ 64 = omega arith in moved_low (d + by) (c + by) x low
+bytes_first (Err s) c d x e = refl
 
-  pub arm_stops : (stop : Stop) → Err stop ≡ and_then (origin_value [] a.value) (λ x. same_number x v) → Err stop ≡ arm_chosen v default (drop i arms)
-  arm_stops stop is = ap (λ b. chosen_with b a.edge (arm_chosen v default (drop (i + 1) arms))) is ∙ chosen_at
+-- a pointer whose indices have a path
+moves : (part : List ℕ → Option ℕ) (c d : ℕ) (new : List Stride) (x : Value) → c % 2 ^ 64 ≡ d % 2 ^ 64 → (a b : Answer (List Value)) → Meets a b part d new
+    → and_then a (λ vs. and_then (index_words vs) (λ ns. and_then (found_or stop.Malformed (part ns)) (λ by. moved_pointer by x))) ≡ and_then b (λ ws. and_then (stride_bytes new ws) (λ by. moved_pointer (c + by) x))
+moves part c d new x low (Err s) (Err t) m = ap (λ u. let a : Answer Value = Err u in a) m
+moves part c d new x low (Err s) (Ok ws) m = absurd m
+moves part c d new x low (Ok vs) (Err t) m = absurd m
+moves part c d new x low (Ok vs) (Ok ws) m =
+    words_first (index_words vs) part x ∙ moved_same (and_then (index_words vs) (λ ns. found_or stop.Malformed (part ns))) (and_then (stride_bytes new ws) (λ by. Ok (d + by))) x m
+    ∙ bytes_first (stride_bytes new ws) c d x low
 
--- what is false on the right is false
-and_false : (a b : Bool) → false ≡ b → false ≡ (a && b)
-and_false true b e = e
-and_false false b e = refl
+-- where words lead from a pointer to a type
+bytes_lead : (m : Module) (ty : Ty) (ns : List ℕ) → bytes_to m ty ns ≡ found_or stop.Malformed (part_of_array (shape_of m.types ty) ns)
+bytes_lead m ty [] = refl
+bytes_lead m ty (n ∷ ns) = refl
 
--- rows of kinds of different lengths are not the same
-pub lengths_differ : (kinds : List Kind) (arguments : List Argument) → (length kinds ≡ length arguments → ⊥) → false ≡ same_kinds kinds (kinds_in arguments)
-lengths_differ [] [] other = absurd (other refl)
-lengths_differ [] (a ∷ as') other = refl
-lengths_differ (k ∷ ks) [] other = refl
-lengths_differ (k ∷ ks) (a ∷ as') other = and_false (same_kind k a.kind) (same_kinds ks (kinds_in as')) (lengths_differ ks as' (λ e. other (ap (λ n. suc n) e)))
+module _ (m : Module) (names : List (List ℕ)) (registers : List (Option Value)) (locals : List Local) (stand : StandFor names registers locals) where
+  -- indices or arguments
+  pub values_read : (args : List Arg) → ArePlaced m args → values_of m locals args ≡ origin_values registers (map (arg_origin m names) args)
+  values_read [] placed = refl
+  values_read (a ∷ as') placed =
+      ap (λ o. and_then o (λ v. and_then (values_of m locals as') (λ vs. let r : Answer (List Value) = Ok (v ∷ vs) in r))) (value_read m names registers locals stand (kind_of a.ty) a.value placed.0)
+      ∙ then_same (origin_value registers (arg_origin m names a)) (λ v. and_then (values_of m locals as') (λ vs. let r : Answer (List Value) = Ok (v ∷ vs) in r)) (λ v. and_then (origin_values registers (map (arg_origin m names) as')) (λ vs. let r : Answer (List Value) = Ok (v ∷ vs) in r))
+      (λ v. ap (λ o. and_then o (λ vs. let r : Answer (List Value) = Ok (v ∷ vs) in r)) (values_read as' placed.1))
 
-module _ (kinds : List Kind) (arguments : List Argument) (i : ℕ) (k : Kind) (a : Argument) (inside : i < length kinds) (item : k ≡ get_or kinds i k)
-    (inside2 : i < length arguments) (item2 : a ≡ get_or arguments i a) where
-  kinds_at : (same_kind k a.kind && same_kinds (drop (i + 1) kinds) (kinds_in (drop (i + 1) arguments))) ≡ same_kinds (drop i kinds) (kinds_in (drop i arguments))
-  kinds_at = ap (λ as'. same_kinds (k ∷ drop (i + 1) kinds) (kinds_in as')) (sym (drop_item arguments i a inside2 item2))
-      ∙ ap (λ ks. same_kinds ks (kinds_in (drop i arguments))) (sym (drop_item kinds i k inside item))
-
-  pub same_there : true ≡ same_kind k a.kind → same_kinds (drop (i + 1) kinds) (kinds_in (drop (i + 1) arguments)) ≡ same_kinds (drop i kinds) (kinds_in (drop i arguments))
-  same_there is = ap (λ b. b && same_kinds (drop (i + 1) kinds) (kinds_in (drop (i + 1) arguments))) is ∙ kinds_at
-
-  pub other_there : false ≡ same_kind k a.kind → false ≡ same_kinds (drop i kinds) (kinds_in (drop i arguments))
-  other_there is = ap (λ b. b && same_kinds (drop (i + 1) kinds) (kinds_in (drop (i + 1) arguments))) is ∙ kinds_at
+  -- a pointer that moves
+  pub move_read : (objects : Memory) (ty : Ty) (p : Operand) (indices : List Arg) (q : Path) → IsPlaced m p → ArePlaced m indices → AreWide (map (arg_origin m names) indices) → FieldsAreSmall m.types m.types → IsSmall m.types ty
+      → path_of m.types ty (map (arg_origin m names) indices) ≡ Some q → result_of m objects locals (Gep ty p indices) ≡ moved_along registers (origin_of m names Pointer p) q
+  move_read objects ty p indices q base placed wide all small e =
+      let os = map (arg_origin m names) indices in
+      let l = from_leads registers m.types all os ty q wide small e in
+      let rest = λ (x : Value) (o : Answer (List Value)). and_then o (λ is. and_then (index_words is) (λ ns. and_then (bytes_to m ty ns) (λ by. moved_pointer by x))) in
+      ap (λ o. and_then o (λ x. rest x (values_of m locals indices))) (value_read m names registers locals stand Pointer p base)
+      ∙ then_same (origin_value registers (origin_of m names Pointer p)) (λ x. rest x (values_of m locals indices)) (λ x. and_then (stride_values registers q.strides) (λ vs. and_then (stride_bytes q.strides vs) (λ by. moved_pointer (q.constant + by) x)))
+      (λ x. ap (rest x) (values_read indices placed) ∙ onward l x)
+    where
+      onward : Leads registers (map (arg_origin m names) indices) (part_of_array (shape_of m.types ty)) empty_path q → (x : Value) → and_then (origin_values registers (map (arg_origin m names) indices)) (λ is. and_then (index_words is) (λ ns. and_then (bytes_to m ty ns) (λ by. moved_pointer by x))) ≡ and_then (stride_values registers q.strides) (λ vs. and_then (stride_bytes q.strides vs) (λ by. moved_pointer (q.constant + by) x))
+      onward l x =
+          then_same (origin_values registers (map (arg_origin m names) indices)) (λ is. and_then (index_words is) (λ ns. and_then (bytes_to m ty ns) (λ by. moved_pointer by x))) (λ is. and_then (index_words is) (λ ns. and_then (found_or stop.Malformed (part_of_array (shape_of m.types ty) ns)) (λ by. moved_pointer by x)))
+          (λ is. then_same (index_words is) (λ ns. and_then (bytes_to m ty ns) (λ by. moved_pointer by x)) (λ ns. and_then (found_or stop.Malformed (part_of_array (shape_of m.types ty) ns)) (λ by. moved_pointer by x)) (λ ns. ap (λ b. and_then b (λ by. moved_pointer by x)) (bytes_lead m ty ns)))
+          ∙ moves (part_of_array (shape_of m.types ty)) q.constant l.bytes l.new x (let zero : q.constant % 2 ^ 64 ≡ l.bytes % 2 ^ 64 = (let c = l.constant in omega arith) in zero) (origin_values registers (map (arg_origin m names) indices)) (stride_values registers l.new) l.meets
+          ∙ ap (λ ss. and_then (stride_values registers ss) (λ vs. and_then (stride_bytes ss vs) (λ by. moved_pointer (q.constant + by) x))) (sym l.strides)

@@ -1,7 +1,1 @@
-pub mod Turns
-pub mod Answers
-pub mod Strides
-pub mod Standing
-pub mod Agreement
-pub mod Runs
-pub mod Starts
+pub mod Small

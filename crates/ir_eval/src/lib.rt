@@ -1,21 +1,60 @@
-//! Programs that are run: the meaning of a module, step by step.
+//! The program of a valid module gives, part by part, what the module gives.
 //!
-//! `state` has the calls and the memory of a run, with `stack` for both; `start` is the first one.
-//! `reading` and `along` have what the instructions of a call read, `outer` the functions outside
-//! of the module, `calling` calls and returns, `leaving` the ends of blocks, and `turn` what the
-//! innermost call does next; `fault` says why there is nothing next. `run` takes steps between a
-//! source and a sink. What a step is stands in `ir_core`, `specs/Step` and `specs/Calls`; when a
-//! run over numbers stands for one over names, in `specs/Standing`.
+//! The functions below are laws and do nothing. `specs/Small` says of which sizes and depths the types
+//! of a module are, and how large its frames: within the limits, where the module is valid. The sizes
+//! of such types and the places of their fields are told as they are, so that operands, instructions,
+//! phis and ends of blocks with numbers in place of names read and give what those of the module do.
+//! What agrees with what stands in `ir_run`.
 #![tactic(auto)]
 
-pub mod along;
-pub mod calling;
-pub mod fault;
-pub mod leaving;
-pub mod outer;
-pub mod reading;
-pub mod run;
-pub mod stack;
-pub mod start;
-pub mod state;
-pub mod turn;
+ghost use Rattle.std.specs.Prelude.{◌≡◌, ◌≤◌, ℕ, List, true};
+ghost use Rattle.ir_core.specs.declared.kind.Kind.{Kind};
+ghost use Rattle.ir_core.specs.declared.operand.Operand.{Operand};
+ghost use Rattle.ir_core.specs.declared.instruction.Op.{Op};
+ghost use Rattle.ir_core.specs.declared.instruction.Term.{Term};
+ghost use Rattle.ir_core.specs.declared.module.Module.{Module};
+ghost use Rattle.ir_core.specs.declared.limit.TheConstants.{MAX_FRAME};
+ghost use Rattle.ir_core.specs.Counts.{alloca_bytes};
+ghost use Rattle.ir_core.specs.Mentions.{of_operand, of_op, of_end};
+ghost use Rattle.ir_core.specs.Refusals.{IsValid};
+ghost use Rattle.ir_core.specs.Typing.{Env, operand_fits, op_fits, term_fits};
+ghost use Rattle.ir_sound.specs.Typed.{IsTyped};
+ghost use Rattle.ir_sound.specs.WellTyped.{Each};
+ghost use Rattle.ir_run.specs.Agreement.{IsReadAs, ActsAs, EndAgrees, Agrees};
+ghost use Rattle.ir_eval.specs.Small.{FieldsAreSmall, IsSmallMention, IsSmallModule};
+
+/// The types of a valid module and the frames of its functions are within the limits.
+pub fn valid_is_small()
+    ensures { (m : Module) → IsValid m → IsSmallModule m }
+{}
+
+/// An operand that fits a kind is read as its origin, where its types are small.
+pub fn operands_are_read()
+    ensures { (m : Module) (env : Env) (names : List (List ℕ)) (kind : Kind) (a : Operand) →
+        FieldsAreSmall m.types m.types → Each (IsSmallMention m.types) (of_operand a) →
+        operand_fits m env kind a ≡ true → IsReadAs m names kind a }
+{}
+
+/// An instruction that fits does what its action does, moves of pointers and calls included.
+pub fn instructions_act()
+    ensures { (m : Module) (env : Env) (names : List (List ℕ)) (op : Op) →
+        FieldsAreSmall m.types m.types → Each (IsSmallMention m.types) (of_op op) →
+        op_fits m env op ≡ true → alloca_bytes m.types op ≤ MAX_FRAME → ActsAs m names op }
+{}
+
+/// The end of a block that fits reads what its exit does.
+pub fn ends_agree()
+    ensures { (m : Module) (env : Env) (names : List (List ℕ)) (ret : Kind) (end : Term) →
+        FieldsAreSmall m.types m.types → Each (IsSmallMention m.types) (of_end end) →
+        term_fits m env ret end ≡ true → EndAgrees m names end }
+{}
+
+/// The program of a module that is typed and small gives what the module gives.
+pub fn typed_agrees()
+    ensures { (m : Module) → IsTyped m → IsSmallModule m → Agrees m }
+{}
+
+/// So does that of a valid module.
+pub fn agrees()
+    ensures { (m : Module) → IsValid m → Agrees m }
+{}

@@ -1,5 +1,0 @@
-use Rattle.ir_agree.proofs.ActLaws.{acts_as}
-use Rattle.ir_agree.proofs.instructions_act.Goals as goal
-
-pub returns : goal.returns
-returns c m env names op all small fits frame = acts_as m env names all op small fits frame

@@ -1,8 +1,0 @@
--- what is left decides
-use Rattle.std.proofs.Common.{◌≡◌, drop}
-use Rattle.ir_program.specs.Reads.{stride_values}
-use Rattle.ir_eval.proofs.ReadLaws.{told_by}
-use Rattle.ir_eval.proofs.along.read_indices.Given as goal
-
-abbrev pub invariant-loop-s : goal.invariant-loop-s
-invariant-loop-s l = told_by (stride_values l.registers (drop l.s-index l.strides)) ≡ told_by (stride_values l.registers l.strides)

@@ -1,5 +1,0 @@
-use Rattle.ir_eval.proofs.MoveLaws.{lengths_differ}
-use Rattle.ir_eval.proofs.calling.are_kinds.Goals as goal
-
-pub returns-then-kinds-arguments : goal.returns-then-kinds-arguments
-returns-then-kinds-arguments c = lengths_differ c.args.kinds.now c.args.arguments.now c.if-kinds-arguments.true

@@ -1,8 +1,0 @@
--- the values so far and those of the rest are those of all
-use Rattle.std.proofs.Common.{◌≡◌, drop}
-use Rattle.ir_eval.specs.Turns.{move_values}
-use Rattle.ir_eval.proofs.ReadLaws.{behind}
-use Rattle.ir_eval.proofs.reading.read_moves.Given as goal
-
-abbrev pub invariant-loop-m : goal.invariant-loop-m
-invariant-loop-m l = behind l.values.items (move_values l.registers (drop l.m-index l.moves)) ≡ move_values l.registers l.moves

@@ -1,0 +1,14 @@
+pub mod Reversed
+pub mod StrideLaws
+pub mod ReadLaws
+pub mod MoveLaws
+pub mod Frames
+pub mod Acts
+pub mod Entering
+pub mod Calls
+pub mod Edges
+pub mod Labels
+pub mod Ends
+pub mod Turning
+pub mod Runs
+pub mod Starting
