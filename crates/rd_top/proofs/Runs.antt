@@ -15,7 +15,7 @@ use Rattle.watch_script.specs.ShowText.{text_of}
 use Rattle.watch_script.specs.Watching.{run_to}
 use Rattle.rd_top.specs.declared.answer.Outcome.{Outcome}
 use Rattle.rd_top.specs.Answers.{ending_from}
-use Rattle.rd_top.specs.Courses.{IsRun, IsCutByInput, IsCutByOutput, Streams, run_answer}
+use Rattle.rd_top.specs.Courses.{AnyInput, IsRun, IsCutByInput, IsCutByOutput, Streams, WhereRead, run_answer}
 use Rattle.rd_top.specs.Machines.{machine_course, prints_next, takes_next, shown_after}
 use Rattle.rd_top.specs.Reports.{HasTaken, StopsAtInput, StopsWithin, Reported}
 use Rattle.rd_top.specs.World.{WhereTold}
@@ -39,9 +39,9 @@ module _ (image : Image) (n : ℕ) (old new : Machine) (starts : (xs : List ℕ)
   stands took xs e = subst (λ s. Stands s new (streams_told input out) (streams_told input2 out2)) (from_start xs n) (took xs e)
 
   pub ran : (outcome : Outcome) → ending_of new.outcome ≡ ending_from outcome → Took n old new (streams_told input out) (streams_told input2 out2) →
-      WhereTold input (λ xs. IsRun (machine_course image) n xs outcome input2 out out2)
+      WhereRead AnyInput input (λ xs. IsRun (machine_course image) n xs outcome input2 out out2)
   unfolding machine_course
-  ran outcome same took xs e =
+  ran outcome same took xs e any =
       let h = stands took xs e in
       record {
         ending = ap (λ t. t.ending) (sym h.machine) ∙ same;
@@ -99,10 +99,10 @@ module _ (image : Image) (n : ℕ) (old new : Machine) (starts : (xs : List ℕ)
       got_part xs c.0 c.1.0 (subst (λ s. IsCut (streams_told input out) (streams_told input2 out2) s new fault.NoMemory) (from_start xs c.0) c.1.1)
 
   -- a run that was cut off
-  pub cut_run : (T : Type 0) (e : RunFault) → Charged {T = T} input input2 out out2 (Err e) → CutOff n old new (streams_told input out) (streams_told input2 out2) e → Streams (machine_course image) n input input2 out out2 (run_answer (Err e))
-  cut_run T fault.Input charged cut = (charged.0, cut_by_input cut)
-  cut_run T fault.Output charged cut = (charged.1, cut_by_output cut)
-  cut_run T fault.NoMemory charged cut = inr (cut_by_memory cut)
+  pub cut_run : (T : Type 0) (e : RunFault) → Charged {T = T} input input2 out out2 (Err e) → CutOff n old new (streams_told input out) (streams_told input2 out2) e → Streams AnyInput (machine_course image) n input input2 out out2 (run_answer (Err e))
+  cut_run T fault.Input charged cut = (charged.0, λ xs e any. cut_by_input cut xs e)
+  cut_run T fault.Output charged cut = (charged.1, λ xs e any. cut_by_output cut xs e)
+  cut_run T fault.NoMemory charged cut = inr (λ xs e any. inr (cut_by_memory cut xs e))
 
   -- the text of the machine is that of where it stands
   pub seen_then : (text : List ℕ) → Took n old new (streams_told input out) (streams_told input2 out2) → ((left printed : List ℕ) (taken : ℕ) → text ≡ text_of (observe (state_of new left printed taken))) →

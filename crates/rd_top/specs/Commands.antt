@@ -7,7 +7,7 @@ use Rattle.rd_top.specs.declared.answer.Answer.TheVariants.{Words, Valid}
 use Rattle.rd_top.specs.Files.{OfFile}
 use Rattle.rd_top.specs.Kinds.{module_text, narrow_text, object_file, image_file, script_file}
 use Rattle.rd_top.specs.Puts.{Writes}
-use Rattle.rd_top.specs.Courses.{Streams}
+use Rattle.rd_top.specs.Courses.{AnyInput, Streams}
 use Rattle.rd_top.specs.Reports.{Reports}
 use Rattle.rd_top.specs.Making.{IsPrinted, IsObjectFor, IsImageFor, IsLaid}
 use Rattle.rd_top.specs.Machines.{machine_course, shown_after, report_on}
@@ -38,7 +38,7 @@ Lays file layout_seed files files2 out out2 a =
 
 abbrev pub Runs : List ℕ → ℕ → World → World → Answer → Type 0
 Runs file steps w w2 a =
-    OfFile image_file file w.files w2.files (Untouched w w2) (λ image. Streams (machine_course image) steps w.input w2.input w.out w2.out a) a
+    OfFile image_file file w.files w2.files (Untouched w w2) (λ image. Streams AnyInput (machine_course image) steps w.input w2.input w.out w2.out a) a
 
 abbrev pub Shows : List ℕ → ℕ → World → World → Answer → Type 0
 Shows file steps w w2 a =
