@@ -56,6 +56,12 @@ pub record IsCutByOutput (course : Course) (n : ℕ) (xs : List ℕ) (input2 : S
   pub few : count ≤ length (course xs steps).prints
   pub total : Counts out.total out2.total (length (course xs steps).printed + count)
 
+-- memory was wanting for a step, of which nothing was done, and all before was done
+pub record IsCutByMemory (course : Course) (n : ℕ) (xs : List ℕ) (input2 : SourceTold) (out out2 : SinkTold) : Type 0 where
+  pub steps : ℕ
+  pub early : steps < n
+  pub reached : Reached (course xs steps) input2 out out2
+
 -- the answer of a run that reached its end, or of its fault
 abbrev pub run_answer : Result Outcome RunFault → Answer
 run_answer (Ok outcome) = Ran outcome
@@ -68,5 +74,6 @@ abbrev pub Streams : Course → ℕ → SourceTold → SourceTold → SinkTold �
 Streams course n input input2 out out2 (Ran outcome) = WhereTold input (λ xs. IsRun course n xs outcome input2 out out2)
 Streams course n input input2 out out2 Input = Rose input.faults input2.faults × WhereTold input (λ xs. IsCutByInput course n xs input2 out out2)
 Streams course n input input2 out out2 Out = Rose out.faults out2.faults × WhereTold input (λ xs. IsCutByOutput course n xs input2 out out2)
-Streams course n input input2 out out2 Memory = ((input2 ≡ input) × (out2 ≡ out)) ⊎ WhereTold input (λ xs. IsCutByOutput course n xs input2 out out2)
+Streams course n input input2 out out2 Memory =
+    ((input2 ≡ input) × (out2 ≡ out)) ⊎ WhereTold input (λ xs. IsCutByMemory course n xs input2 out out2 ⊎ IsCutByOutput course n xs input2 out out2)
 Streams course n input input2 out out2 other = ⊥
