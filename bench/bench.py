@@ -120,7 +120,7 @@ class Bench:
             # It reads the code that it translates, so the code has to be readable.
             theirs, _ = per_turn(lambda path: ["valgrind", "--tool=none", "-q", path], 50_000_000, 5)
             self.row("run, 2,000,000 instructions", ours * 1e6, "valgrind's translation", theirs * 1e6)
-        print(f"run: {2 / ours / 1e6:.1f} million instructions a second; an image starts in {start * 1e3:.1f} ms, the zeros of its stack included")
+        print(f"run: {2 / ours / 1e6:.1f} million instructions a second; an image starts in {start * 1e3:.1f} ms")
 
 
 def main():

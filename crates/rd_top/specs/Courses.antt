@@ -56,10 +56,10 @@ pub record IsCutByOutput (course : Course) (n : ℕ) (xs : List ℕ) (input2 : S
   pub few : count ≤ length (course xs steps).prints
   pub total : Counts out.total out2.total (length (course xs steps).printed + count)
 
--- memory was wanting for a step, or behind the last one, and all before was done
+-- memory was wanting for a step, of which nothing was done, and all before was done
 pub record IsCutByMemory (course : Course) (n : ℕ) (xs : List ℕ) (input2 : SourceTold) (out out2 : SinkTold) : Type 0 where
   pub steps : ℕ
-  pub within : steps ≤ n
+  pub early : steps < n
   pub reached : Reached (course xs steps) input2 out out2
 
 -- every input
