@@ -12,3 +12,6 @@ pub mod PartLaws
 pub mod ActLaws
 pub mod BlockLaws
 pub mod AgreeLaws
+pub mod FillLaws
+pub mod RunLaws
+pub mod ValidLaws

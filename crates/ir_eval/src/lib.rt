@@ -23,6 +23,9 @@ ghost use Rattle.ir_sound.specs.WellTyped.{Each};
 ghost use Rattle.ir_run.specs.Agreement.{IsReadAs, ActsAs, EndAgrees, Agrees};
 ghost use Rattle.ir_eval.specs.Small.{FieldsAreSmall, IsSmallMention, IsSmallModule};
 
+pub mod evaluate;
+pub mod outcome;
+
 /// The types of a valid module and the frames of its functions are within the limits.
 pub fn valid_is_small()
     ensures { (m : Module) → IsValid m → IsSmallModule m }
