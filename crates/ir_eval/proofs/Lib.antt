@@ -12,3 +12,4 @@ pub mod PartLaws
 pub mod ActLaws
 pub mod BlockLaws
 pub mod AgreeLaws
+pub mod FirstLaws

@@ -76,7 +76,7 @@ part_step before after start size p rest some inside e =
     let a4 : length gap ≡ rounded at p.align - at = length-replicate (rounded at p.align - at) (Byte 0) in
     let place : length after - start ≡ rounded at p.align + length p.cells = omega arith in
     let tail = spread (rounded at p.align + length p.cells) size rest in
-    ap (λ n. after ++ spread n size rest) place ∙ ap (λ cs. cs ++ tail) e ∙ append_assoc before (gap ++ p.cells) tail ∙ ap (λ cs. before ++ cs) (append_assoc gap p.cells tail)
+    ap (λ n. after ++ spread n size rest) place ∙ ap (λ cs. cs ++ tail) e ∙ append_assoc before (gap ++ p.cells) tail
 
 -- a field behind those before it
 pub field_step : (m : Module) (es : List Elem) (i : ℕ) (e : Elem) (before after whole : List Cell) (start size : ℕ) → i < length es → e ≡ get_or es i e → start ≤ length before
