@@ -15,3 +15,4 @@ pub mod AgreeLaws
 pub mod FillLaws
 pub mod RunLaws
 pub mod ValidLaws
+pub mod FirstLaws

@@ -21,6 +21,8 @@ ghost use Rattle.ir_core.specs.Typing.{Env, operand_fits, op_fits, term_fits};
 ghost use Rattle.ir_sound.specs.Typed.{IsTyped};
 ghost use Rattle.ir_sound.specs.WellTyped.{Each};
 ghost use Rattle.ir_run.specs.Agreement.{IsReadAs, ActsAs, EndAgrees, Agrees};
+ghost use Rattle.ir_core.specs.Globals.{first_objects};
+ghost use Rattle.ir_globals.specs.Told.{told_objects};
 ghost use Rattle.ir_eval.specs.Small.{FieldsAreSmall, IsSmallMention, IsSmallModule};
 
 pub mod evaluate;
@@ -60,4 +62,9 @@ pub fn typed_agrees()
 /// So does that of a valid module.
 pub fn agrees()
     ensures { (m : Module) → IsValid m → Agrees m }
+{}
+
+/// The objects with which a run of a valid module begins are told as they are.
+pub fn first_objects_are_told()
+    ensures { (m : Module) → IsValid m → told_objects m ≡ first_objects m }
 {}
