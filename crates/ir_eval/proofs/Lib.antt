@@ -12,7 +12,7 @@ pub mod PartLaws
 pub mod ActLaws
 pub mod BlockLaws
 pub mod AgreeLaws
-pub mod FillLaws
-pub mod RunLaws
-pub mod ValidLaws
 pub mod FirstLaws
+pub mod FillLaws
+pub mod ValidLaws
+pub mod RunLaws

@@ -29,10 +29,12 @@ use Rattle.ir_run.specs.Starts.{Starts}
 use Rattle.ir_sound.specs.Typed.{IsTyped}
 use Rattle.ir_sound.proofs.Steps.{states_are}
 use Rattle.ir_sound.proofs.ValidTyped.{valid_typed}
+use Rattle.ir_eval.specs.declared.outcome.IrOutcome.{IrOutcome}
 use Rattle.ir_eval.specs.Outcomes.{outcome_after}
 use Rattle.ir_eval.specs.Evaluated.{IsEvaluated, Evaluated}
 use Rattle.ir_eval.proofs.AgreeLaws.{valid_agrees}
 use Rattle.ir_eval.proofs.FillLaws.{never_wide}
+use Rattle.ir_eval.proofs.ValidLaws.{known_valid}
 
 module _ (m : Module) (input : List ℕ) (n : ℕ) (a : SourceTold) (b b2 : SinkTold) (typed : IsTyped m) (bytes : AreBytes input) where
   -- a run that has stopped
@@ -90,3 +92,9 @@ first_exchanges m input a b left = of_main (function_number m (codes "main"))
 pub wanting_evaluated : (m : Module) (n : ℕ) (a : SourceTold) (b : SinkTold) → Evaluated m n a a b b (Err fault.NoMemory)
 unfolding Evaluated
 wanting_evaluated m n a b input bytes left = inl (0, (omega arith, first_exchanges m input a b left))
+
+-- what holds of a valid module holds of the module that is kept
+pub kept_evaluated : (whole kept : Module) (p : Program) (memory : Memory) (n : ℕ) (a a2 : SourceTold) (b b2 : SinkTold) (r : Result IrOutcome RunFault) → ∥ IsValid whole ∥₁ → whole ≡ kept → p ≡ program_of whole → memory ≡ first_objects whole
+    → ((m : Module) → IsValid m → p ≡ program_of m → memory ≡ first_objects m → Evaluated m n a a2 b b2 r) → Evaluated kept n a a2 b b2 r
+kept_evaluated whole kept p memory n a a2 b b2 r known same is first evaluated =
+    subst (λ (m : Module). Evaluated m n a a2 b b2 r) same (evaluated whole (known_valid whole known) is first)
