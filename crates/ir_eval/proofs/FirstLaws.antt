@@ -1,12 +1,11 @@
 -- The objects with which a run begins are told as they are, where a module is valid.
-use Rattle.std.proofs.Common.{◌≡◌, ℕ, suc, ◌+◌, Bool, true, false, List, [], ◌∷◌, ◌++◌, length, map, Option, Some, None, Ok, Err, refl, ap, sym, ◌∙◌, subst}
+use Rattle.std.proofs.Common.{◌≡◌, ℕ, ◌+◌, Bool, true, false, List, [], ◌∷◌, ◌++◌, length, map, None, refl, ap, sym, ◌∙◌, subst}
 use Rattle.std.specs.Prelude.{◌&&◌, not}
 use Rattle.std.specs.List.{list_all, flat_map, enumerate_from}
 use Rattle.std.proofs.lemmas.Bool.{and_parts, eqb-true}
 use Rattle.ir_core.specs.declared.limit.Spot.{Spot}
 use Rattle.ir_core.specs.declared.ty.Ty.{Ty, out-Ty}
 use Rattle.ir_core.specs.declared.ty.Ty.TheOpen.{Ty-F}
-use Rattle.ir_core.specs.declared.ty.NamedTy.{NamedTy}
 use Rattle.ir_core.specs.declared.operand.Operand.{Operand}
 use Rattle.ir_core.specs.declared.operand.Operand.TheVariants.{Undef, Poison}
 use Rattle.ir_core.specs.declared.init.Init.{Init, ind-Init, roll-Init}
@@ -20,11 +19,8 @@ use Rattle.ir_core.specs.declared.module.Extern.{Extern}
 use Rattle.ir_core.specs.declared.module.GlobalVar.{GlobalVar}
 use Rattle.ir_core.specs.declared.module.Module.{Module}
 use Rattle.ir_core.specs.declared.memory.Cell.{Cell}
-use Rattle.ir_core.specs.Stops.{Answer}
 use Rattle.ir_core.specs.Kinds.{kind_of}
 use Rattle.ir_core.specs.Shapes.{shape_of}
-use Rattle.ir_core.specs.State.{Local}
-use Rattle.ir_core.specs.Operands.{value_of}
 use Rattle.ir_core.specs.Sizes.{align_bytes}
 use Rattle.ir_core.specs.Globals.{Part, zeros, end_to_end, spread, cells_or_zeros, part_of, cells_of_init, global_object, first_objects}
 use Rattle.ir_core.specs.Mentions.{Mention, of_operand, of_init, of_global}
@@ -39,7 +35,7 @@ use Rattle.ir_program.specs.declared.origin.Origin.TheVariants.{Known, Register,
 use Rattle.ir_program.specs.Extents.{extent_of}
 use Rattle.ir_program.specs.Origins.{origin_of}
 use Rattle.ir_program.specs.Reads.{origin_value, IsPlaced}
-use Rattle.ir_globals.specs.Told.{origin_cells, operand_cells, told_cells, told_part, told_object, told_objects}
+use Rattle.ir_globals.specs.Told.{origin_cells, told_cells, told_part, told_object, told_objects}
 use Rattle.ir_globals.proofs.ToldInits.{told-value, told-zero, told-text, told-array, told-struct, told-packed}
 use Rattle.ir_sound.specs.Typed.{is_sized}
 use Rattle.ir_sound.specs.WellTyped.{Each}
@@ -47,7 +43,7 @@ use Rattle.ir_sound.proofs.NoFaults.{both_empty, unless_passes, unrefused}
 use Rattle.ir_sound.proofs.RowLaws.{Each_parts}
 use Rattle.ir_sound.proofs.SameLaws.{not_true}
 use Rattle.ir_sound.proofs.ValidTyped.{valid_typed}
-use Rattle.ir_eval.specs.Small.{IsSmall, FieldsAreSmall, IsSmallMention, IsSmallModule}
+use Rattle.ir_eval.specs.Small.{IsSmall, FieldsAreSmall, IsSmallMention}
 use Rattle.ir_eval.proofs.PathLaws.{size_is}
 use Rattle.ir_eval.proofs.PartLaws.{is_placed}
 use Rattle.ir_eval.proofs.ShapeLaws.{tells}

@@ -1,6 +1,6 @@
 -- One more cell, element or field behind those that are there.
-use Rattle.std.proofs.Common.{◌≡◌, ℕ, zero, suc, ◌+◌, ◌*◌, ◌-◌, ◌/◌, ◌%◌, ◌<◌, ◌≤◌, List, [], ◌∷◌, ◌++◌, length, map, drop, get_or, refl, ap, sym, ◌∙◌, arith, length-append, append_assoc}
-use Rattle.std.proofs.lemmas.List.{length-replicate, drop_all, append-nil}
+use Rattle.std.proofs.Common.{◌≡◌, ℕ, zero, suc, ◌+◌, ◌-◌, ◌%◌, ◌<◌, ◌≤◌, List, [], ◌∷◌, ◌++◌, length, map, drop, get_or, refl, ap, sym, ◌∙◌, arith, length-append, append_assoc}
+use Rattle.std.proofs.lemmas.List.{length-replicate}
 use Rattle.std.proofs.Math.Nat.{mod-lt}
 use Rattle.std.proofs.lemmas.Nat.{div-add-mod'}
 use Rattle.ir_core.specs.declared.memory.Cell.{Cell}
@@ -92,16 +92,3 @@ start_kept before after more start inside e =
     let a : length after ≡ length (before ++ more) = ap length e in
     let b : length (before ++ more) ≡ length before + length more = length-append before more in
     omega arith
-
--- no field yet
-pub fields_begin : (cells : List Cell) (start size : ℕ) (ps : List Part) → start ≡ length cells → cells ++ spread (length cells - start) size ps ≡ cells ++ spread 0 size ps
-fields_begin cells start size ps e = let z : length cells - start ≡ 0 = omega arith in ap (λ n. cells ++ spread n size ps) z
-
--- all fields, and the gap behind them
-pub fields_end_there : (m : Module) (es : List Elem) (i size at : ℕ) (before after whole : List Cell) → length es ≤ i → after ≡ before ++ zeros (size - at)
-    → before ++ spread at size (map (told_part m) (drop i es)) ≡ whole → after ≡ whole
-fields_end_there m es i size at before after whole past put rest = put ∙ ap (λ ds. before ++ spread at size (map (told_part m) ds)) (sym (drop_all i es past)) ∙ rest
-
--- all elements
-pub elements_end : (m : Module) (es : List Elem) (i : ℕ) (before whole : List Cell) → length es ≤ i → before ++ end_to_end (map (told_part m) (drop i es)) ≡ whole → before ≡ whole
-elements_end m es i before whole past rest = sym (append-nil before) ∙ ap (λ ds. before ++ end_to_end (map (told_part m) ds)) (sym (drop_all i es past)) ∙ rest

@@ -1,5 +1,5 @@
 -- What globals hold when a run begins, with sizes as far as 64 bits tell them and values by where they come from.
-use Rattle.std.specs.Prelude.{ℕ, ◌-◌, List, [], ◌++◌, length, map}
+use Rattle.std.specs.Prelude.{ℕ, ◌-◌, List, [], ◌++◌, map}
 use Rattle.ir_core.specs.declared.ty.Ty.{Ty}
 use Rattle.ir_core.specs.declared.init.Init.{Init, fold-Init}
 use Rattle.ir_core.specs.declared.init.Init.TheOpen.{Init-F, Elem-F}

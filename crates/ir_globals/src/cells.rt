@@ -168,13 +168,23 @@ pub fn put_init(
         told_cells context.now init.now ty.now) }
 {
     match init {
-        Init::Value(v) => put_origin(cells, context.extent(ty).size, origin(alloc, context, ty, v)?),
+        Init::Value(v) => put_origin(
+            cells,
+            context.extent(ty).size,
+            origin(alloc, context, ty, v)?,
+        ),
         Init::Zero => put_zeros(cells, context.extent(ty).size),
         Init::Text(bytes) => put_text(cells, bytes.as_slice()),
         Init::Array(elements) => put_elements(alloc, context, cells, elements.as_slice()),
         Init::Packed(elements) => put_elements(alloc, context, cells, elements.as_slice()),
         Init::Struct(elements) => {
-            put_fields(alloc, context, cells, context.extent(ty).size, elements.as_slice())
+            put_fields(
+                alloc,
+                context,
+                cells,
+                context.extent(ty).size,
+                elements.as_slice(),
+            )
         }
     }
 }

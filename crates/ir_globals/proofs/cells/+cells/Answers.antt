@@ -1,5 +1,4 @@
-use Rattle.std.proofs.Common.{◌≡◌, rules}
-use Rattle.ir_globals.proofs.Steps.{element_step, field_step, start_kept, fields_begin}
+use Rattle.ir_globals.proofs.Steps.{element_step, field_step, start_kept}
 use Rattle.ir_globals.proofs.cells.+cells.Goals as goal
 
 pub put_elements-loop-e-preserved : goal.put_elements-loop-e-preserved
