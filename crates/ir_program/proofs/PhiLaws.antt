@@ -97,14 +97,14 @@ phi_none m names i is e = by i.result i.op e
 -- a loop over instructions, which goes on at a phi
 pub one_phi_more : (m : Module) (names : List (List ℕ)) (insts : List Inst) (k : ℕ) (i : Inst) (more : Bool) (before after all : List Phi) → after ≡ before ++ phi_row m names i.result i.op → i ≡ get_or insts k i → k < length insts → more ≡ is_phi i.op → more ≡ true
     → before ++ map (phi_of m names) (choices_of (drop k insts)) ≡ all → after ++ map (phi_of m names) (choices_of (drop (k + 1) insts)) ≡ all
-one_phi_more m names insts k i more before after all added item inside known yes so_far =
+one_phi_more m names insts k i more before after all added item inside known goes so_far =
     let rest = map (phi_of m names) (choices_of (drop (k + 1) insts)) in
     ap (λ ps. ps ++ rest) added ∙ append_assoc before (phi_row m names i.result i.op) rest
-    ∙ ap (λ ps. before ++ ps) (sym (phi_more m names i (drop (k + 1) insts) (sym known ∙ yes)) ∙ ap (λ is. map (phi_of m names) (choices_of is)) (sym (drop_item insts k i inside item))) ∙ so_far
+    ∙ ap (λ ps. before ++ ps) (sym (phi_more m names i (drop (k + 1) insts) (sym known ∙ goes)) ∙ ap (λ is. map (phi_of m names) (choices_of is)) (sym (drop_item insts k i inside item))) ∙ so_far
 
 -- and ends at what is none
 pub no_phi_more : (m : Module) (names : List (List ℕ)) (insts : List Inst) (k : ℕ) (i : Inst) (more : Bool) (before after all : List Phi) → after ≡ before ++ phi_row m names i.result i.op → i ≡ get_or insts k i → k < length insts → more ≡ is_phi i.op → more ≡ false
     → before ++ map (phi_of m names) (choices_of (drop k insts)) ≡ all → after ≡ all
-no_phi_more m names insts k i more before after all added item inside known no so_far =
+no_phi_more m names insts k i more before after all added item inside known ends so_far =
     added
-    ∙ ap (λ ps. before ++ ps) (row_none m names i.result i.op (sym known ∙ no) ∙ sym (phi_none m names i (drop (k + 1) insts) (sym known ∙ no)) ∙ ap (λ is. map (phi_of m names) (choices_of is)) (sym (drop_item insts k i inside item))) ∙ so_far
+    ∙ ap (λ ps. before ++ ps) (row_none m names i.result i.op (sym known ∙ ends) ∙ sym (phi_none m names i (drop (k + 1) insts) (sym known ∙ ends)) ∙ ap (λ is. map (phi_of m names) (choices_of is)) (sym (drop_item insts k i inside item))) ∙ so_far
