@@ -109,14 +109,8 @@ impl<'c, 'a> Resolver<'c, 'a> {
             way.now.from.now k (slice_get way.now.scope.now.blocks k)) }
     {
         match way.rows.get(k) {
-            Some(phis) => {
-                let edge = self.edge_with(way.from, k, phis)?;
-                Ok(edge)
-            }
-            None => {
-                let edge = self.no_edge()?;
-                Ok(edge)
-            }
+            Some(phis) => self.edge_with(way.from, k, phis),
+            None => self.no_edge(),
         }
     }
 
@@ -127,16 +121,9 @@ impl<'c, 'a> Resolver<'c, 'a> {
         ensures { IfOk result (λ e. e ≡ edge_to self.now.context.now self.now.names.now
             way.now.from.now way.now.scope.now.blocks label.now) }
     {
-        let scope = way.scope;
-        match scope.block(label) {
-            Some(k) => {
-                let edge = self.edge_at(way, k)?;
-                Ok(edge)
-            }
-            None => {
-                let edge = self.no_edge()?;
-                Ok(edge)
-            }
+        match way.scope.block(label) {
+            Some(k) => self.edge_at(way, k),
+            None => self.no_edge(),
         }
     }
 
