@@ -154,7 +154,8 @@ impl<'a> Context<'a> {
 
 /// A module with numbers in place of names.
 ///
-/// Time and memory are linear in the module's text. No name of the module is defined twice.
+/// No name of the module is defined twice. Time and memory are linear in its text, if each phi has an
+/// entry for each edge that leads to it.
 pub fn resolve(alloc: Global, whole: &Module) -> Result<Program, NoMemory>
     requires distinct { doubled whole.now ≡ [] }
     requires few { length whole.now.functions < 2 ^ 32 }
