@@ -2,7 +2,7 @@
 //!
 //! A module in, between a source and a sink, and how its run stands out. Names are resolved and the
 //! objects of globals made once; then steps are taken. What a step is stands in `ir_core`; that
-//! the steps of the program are those of the module are the laws of this crate.
+//! the steps of the program are those of the module, the laws of this crate say.
 
 ghost use Rattle.std.specs.Prelude.{◌≡◌, IfOk};
 ghost use Rattle.ir_core.specs.declared.module.Module.{Module as Whole};
