@@ -3,7 +3,7 @@ use Rattle.std.proofs.Common.{◌≡◌, ℕ, zero, suc, ◌+◌, ◌-◌, ◌<�
 use Rattle.std.specs.Prelude.{drop, replicate, slice_get}
 use Rattle.behavior.specs.Moment.{AreBytes}
 use Rattle.ir_eval.specs.declared.outcome.IrOutcome.{IrOutcome}
-use Rattle.ir_eval.specs.Evaluated.{Evaluated, IsWanting}
+use Rattle.ir_eval.specs.Evaluated.{Evaluated, IsCutOff}
 use Rattle.ir_eval.specs.Outcomes.{outcome_ending}
 use Rattle.rd_io.specs.Outside.{IsPrefixOf}
 use Rattle.rd_io.specs.Told.{SourceTold, SinkTold}
@@ -64,9 +64,9 @@ module _ (m : Module) (n : ℕ) (input input2 : SourceTold) (out out2 : SinkTold
         total = h.total.1.1;
       }
 
-  cut_by_memory : (xs : List ℕ) → IsWanting m xs n input2 out out2 → IsCutByMemory (module_course m) n xs input2 out out2 ⊎ IsCutByOutput (module_course m) n xs input2 out out2
-  cut_by_memory xs (inl (k, h)) = inl (record { steps = k; within = h.0; reached = reached_at xs k h.1 })
-  cut_by_memory xs (inr (k, h)) = inr (cut_by_output xs k h.0 h.1)
+  cut_by_memory : (xs : List ℕ) → IsCutOff m xs n input2 out out2 fault.NoMemory → IsCutByMemory (module_course m) n xs input2 out out2 ⊎ IsCutByOutput (module_course m) n xs input2 out out2
+  cut_by_memory xs (k, (early, inl h)) = inl (record { steps = k; early = early; reached = reached_at xs k h })
+  cut_by_memory xs (k, (early, inr h)) = inr (cut_by_output xs k early h)
 
   -- the run stands so after n steps
   pub stands : (is : IrOutcome) (outcome : Outcome) → outcome_ending is ≡ ending_from outcome → Evaluated m n input input2 out out2 (Ok is) → WhereRead AreBytes input (λ xs. IsRun (module_course m) n xs outcome input2 out out2)
@@ -78,4 +78,5 @@ module _ (m : Module) (n : ℕ) (input input2 : SourceTold) (out out2 : SinkTold
   unfolding Evaluated
   cut_off T fault.Input charged h = (charged.0, λ xs e bytes. let c = h xs bytes e in cut_by_input xs c.0 c.1.0 c.1.1.0 c.1.1.1)
   cut_off T fault.Output charged h = (charged.1.0, λ xs e bytes. let c = h xs bytes e in cut_by_output xs c.0 c.1.0 c.1.1)
-  cut_off T fault.NoMemory charged h = inr (λ xs e bytes. cut_by_memory xs (h xs bytes e))
+  cut_off T fault.NoMemory charged (inl h) = inl h
+  cut_off T fault.NoMemory charged (inr h) = inr (λ xs e bytes. cut_by_memory xs (h xs bytes e))
