@@ -23,7 +23,7 @@ use Rattle.ir_program.specs.Origins.{origin_of}
 use Rattle.ir_program.specs.Actions.{into_of}
 use Rattle.ir_program.specs.Entries.{entry_names, with_first, firsts_in}
 use Rattle.ir_program.specs.Exits.{entry_origin, move_of}
-use Rattle.ir_program.specs.Phis.{with_entry, phi_of, phi_with, is_phi, phi_row, origin_at, phi_move}
+use Rattle.ir_program.specs.Phis.{with_entry, phi_of, is_phi, phi_row, origin_at, phi_move}
 use Rattle.ir_program.proofs.EntryLaws.{first_is}
 
 module _ (m : Module) (names : List (List ℕ)) (kind : Kind) (into : Option ℕ) where
