@@ -12,6 +12,7 @@ import sys
 import tempfile
 import time
 
+import evaluating
 import reading
 import verifier
 
@@ -133,7 +134,7 @@ def main():
         bench.big_objects()
         bench.machine()
     print()
-    return verifier.main() or reading.main()
+    return verifier.main() or reading.main() or evaluating.main()
 
 
 if __name__ == "__main__":
