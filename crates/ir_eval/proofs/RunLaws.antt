@@ -1,17 +1,14 @@
 -- What a run of a valid module's program came to tells how the run of the module stands.
-use Rattle.std.proofs.Common.{◌≡◌, ◌≢◌, ◌<◌, ℕ, List, [], ◌∷◌, Option, Some, None, Result, Ok, Err, drop, length, refl, ap, sym, ◌∙◌, subst, inl, inr, arith}
+use Rattle.std.proofs.Common.{◌≡◌, ◌<◌, ℕ, List, Option, Some, None, Result, Ok, Err, subst, inl, inr, arith}
 use Rattle.std.specs.Prelude.{◌⊎◌, slice_get, codes}
-use Rattle.behavior.specs.Ending.{Ending}
-use Rattle.behavior.specs.Ending as ending
 use Rattle.behavior.specs.Moment.{AreBytes}
-use Rattle.rd_io.specs.Outside.{Gets, Counts}
 use Rattle.rd_io.specs.Told.{SourceTold, SinkTold}
 use Rattle.rd_io.specs.declared.RunFault.{RunFault}
 use Rattle.rd_io.specs.declared.RunFault.TheVariants as fault
 use Rattle.rd_io.proofs.Grown.{gets_nothing, counts_nothing}
 use Rattle.ir_core.specs.declared.module.Function.{Function}
 use Rattle.ir_core.specs.declared.module.Module.{Module}
-use Rattle.ir_core.specs.Stops.{ending_of, malformed_number}
+use Rattle.ir_core.specs.Stops.{ending_of}
 use Rattle.ir_core.specs.Memory.{Memory}
 use Rattle.ir_core.specs.Globals.{first_objects}
 use Rattle.ir_core.specs.Operands.{function_number}

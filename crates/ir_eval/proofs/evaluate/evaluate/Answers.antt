@@ -1,4 +1,4 @@
-use Rattle.std.proofs.Common.{Option, Some, Result, sym, subst}
+use Rattle.std.proofs.Common.{Option, Result, sym, subst}
 use Rattle.rd_io.specs.declared.RunFault.{RunFault}
 use Rattle.ir_run.specs.declared.state.State.{State}
 use Rattle.ir_run.specs.Starts.{Starts}
