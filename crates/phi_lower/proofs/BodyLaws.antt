@@ -1,8 +1,8 @@
 -- The bodies without phis are made of moves.
-use Rattle.std.proofs.Common.{◌≡◌, ℕ, suc, ◌<◌, Bool, true, false, List, [], ◌∷◌, ◌++◌, map, length, drop, Some, refl, ap, sym, ◌∙◌, subst, arith}
+use Rattle.std.proofs.Common.{◌≡◌, ℕ, suc, ◌<◌, Bool, true, List, [], ◌∷◌, ◌++◌, map, length, drop, Some, refl, ap, sym, ◌∙◌, subst, arith}
 use Rattle.std.proofs.lemmas.List.Elements.{All-nil, All-cons}
 use Rattle.std.specs.List.{All}
-use Rattle.std.specs.Prelude.{◌&&◌, not, slice_get, if◌then◌else◌}
+use Rattle.std.specs.Prelude.{not, slice_get, if◌then◌else◌}
 use Rattle.std.specs.List.{list_all, flat_map}
 use Rattle.std.proofs.lemmas.Bool.{and_parts, and_from}
 use Rattle.ir_core.specs.declared.instruction.Inst.{Inst}
@@ -13,18 +13,16 @@ use Rattle.ir_core.specs.declared.module.Function.{Function}
 use Rattle.ir_core.specs.declared.module.Module.{Module}
 use Rattle.ir_core.specs.Valid.{is_phi, predecessors, env_of}
 use Rattle.ir_sound.specs.Typed.{no_phi, phi_typed, phis_typed, entry_typed, functions_typed}
-use Rattle.ir_sound.specs.WellTyped.{Each}
-use Rattle.ir_sound.proofs.SameLaws.{not_true, none_is}
-use Rattle.ir_sound.proofs.RowLaws.{all_at, all_from, length_map}
+use Rattle.ir_sound.proofs.SameLaws.{not_true}
+use Rattle.ir_sound.proofs.RowLaws.{length_map}
 use Rattle.ir_sound.proofs.Parts.{function_at, block_at}
-use Rattle.low_core.specs.declared.moves.Body.{Body}
 use Rattle.low_core.specs.declared.moves.Chunk.{Chunk}
 use Rattle.low_core.specs.declared.moves.Move.{Move}
 use Rattle.low_core.specs.declared.moves.MoveOp.{MoveOp}
 use Rattle.low_core.specs.declared.moves.MoveOp.TheVariants.{Keep, Copy}
 use Rattle.low_core.specs.Plain.{move_of, move_op_of}
 use Rattle.low_core.specs.Shaped.{keeps_moves, IsBody}
-use Rattle.phi_lower.specs.Lowered.{PhiPart, phis_of, phis_with, phis_to, behind_phis, copies, chunk_of_block, chunk_to, chunks_to, chunks_of_block, targets_of, body_of, bodies_without_phis}
+use Rattle.phi_lower.specs.Lowered.{PhiPart, phis_of, phis_with, phis_to, behind_phis, copies, chunk_to, chunks_to, chunks_of_block, targets_of, body_of, bodies_without_phis}
 use Rattle.phi_lower.proofs.Runs.{is_copy, copies_value, all_copies}
 
 -- what is no phi is a move

@@ -1,6 +1,5 @@
 -- A module without phis has as many returns as the module, and as many calls through locals.
-use Rattle.std.proofs.Common.{◌≡◌, ℕ, ◌+◌, ◌*◌, ◌≤◌, Bool, true, false, List, [], ◌∷◌, ◌++◌, map, length, drop, refl, ap, sym, ◌∙◌, arith}
-use Rattle.std.specs.Prelude.{◌&&◌}
+use Rattle.std.proofs.Common.{◌≡◌, ℕ, ◌+◌, true, List, [], ◌∷◌, ◌++◌, map, length, drop, refl, ap, sym, ◌∙◌, arith}
 use Rattle.std.specs.List.{list_all, flat_map, sum_by}
 use Rattle.std.proofs.lemmas.Bool.{and_parts}
 use Rattle.std.proofs.lemmas.List.{map-append}
@@ -20,7 +19,7 @@ use Rattle.low_core.specs.declared.moves.MoveOp.TheVariants.{Keep, Copy}
 use Rattle.low_core.specs.Plain.{op_of, inst_of, block_of, plain}
 use Rattle.low_core.specs.Shaped.{returns_at, local_calls_at, returns_of, local_calls_of}
 use Rattle.phi_lower.specs.Lowered.{PhiPart, phis_of, phis_with, phis_to, behind_phis, copies, with_ways, chunk_of_block, chunk_to, chunks_to, chunks_of_block, targets_of, bodies_without_phis}
-use Rattle.phi_lower.proofs.Turns.{lowered, without_phis}
+use Rattle.phi_lower.proofs.Turns.{lowered}
 use Rattle.phi_lower.proofs.Finds.{edge_chunk}
 use Rattle.phi_lower.proofs.Runs.{is_copy, copies_value, all_copies}
 use Rattle.phi_lower.proofs.EdgeLaws.{chunk_insts}

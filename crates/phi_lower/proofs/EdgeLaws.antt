@@ -1,42 +1,40 @@
 -- An edge of a module, and the same edge of the module without phis.
-use Rattle.std.proofs.Common.{◌≡◌, ℕ, zero, suc, ◌+◌, ◌*◌, ◌≤◌, Bool, true, false, List, [], ◌∷◌, ◌++◌, map, length, drop, max, Option, Some, None, Ok, Err, refl, ap, sym, ◌∙◌, subst, inl, inr, ◌⊎◌, arith}
-use Rattle.std.specs.Prelude.{◌&&◌, slice_get, option_map, if◌then◌else◌}
+use Rattle.std.proofs.Common.{◌≡◌, ℕ, zero, suc, ◌+◌, ◌*◌, ◌≤◌, true, List, [], ◌∷◌, map, length, drop, Option, Some, None, Ok, Err, refl, ap, sym, ◌∙◌, subst, inl, inr, ◌⊎◌, arith}
+use Rattle.std.specs.Prelude.{slice_get, option_map}
 use Rattle.std.specs.List.{list_all, flat_map}
 use Rattle.std.proofs.lemmas.Bool.{and_parts}
 use Rattle.behavior.specs.Ending.{Going, is_left}
 use Rattle.behavior.specs.Simulation.{Comes}
-use Rattle.behavior.proofs.Stretch.{comes_none, comes_one, comes_join, comes_step, comes_wider}
+use Rattle.behavior.proofs.Stretch.{comes_none, comes_one, comes_join, comes_wider}
 use Rattle.ir_core.specs.declared.instruction.Inst.{Inst}
 use Rattle.ir_core.specs.declared.instruction.Op.{Op}
-use Rattle.ir_core.specs.declared.instruction.Op.TheVariants.{Phi, Freeze}
-use Rattle.ir_core.specs.declared.instruction.Term.{Term}
-use Rattle.ir_core.specs.declared.instruction.Term.TheVariants.{Br}
+use Rattle.ir_core.specs.declared.instruction.Op.TheVariants.{Phi}
 use Rattle.ir_core.specs.declared.module.Block.{Block}
 use Rattle.ir_core.specs.declared.module.Function.{Function}
 use Rattle.ir_core.specs.declared.module.Module.{Module}
-use Rattle.ir_core.specs.Names.{same_name, first_where, number_where}
+use Rattle.ir_core.specs.Names.{same_name, first_where}
 use Rattle.ir_core.specs.Definitions.{is_among}
-use Rattle.ir_core.specs.Stops.{Stop, Malformed, ending_of, Answer, and_then, found_or}
+use Rattle.ir_core.specs.Stops.{Malformed, Answer, and_then, found_or}
 use Rattle.ir_core.specs.State.{Local, Frame, State, Turn, Nothing, turned}
 use Rattle.ir_core.specs.Counts.{greatest}
 use Rattle.ir_core.specs.Operands.{local_value}
-use Rattle.ir_core.specs.Step.{choices_of, choices_with, given_at_once, in_block, goes_to, terminator_turn, source_step}
-use Rattle.ir_core.specs.Built.{name_built, inst_built, end_built, block_built, function_built}
-use Rattle.ir_core.proofs.Steps.{Stands, step_here}
+use Rattle.ir_core.specs.Step.{choices_of, choices_with, given_at_once, in_block, goes_to, source_step}
+use Rattle.ir_core.specs.Built.{name_built, inst_built}
+use Rattle.ir_core.proofs.Steps.{step_here}
 use Rattle.ir_sound.proofs.SameLaws.{not_true, some_is, none_is}
 use Rattle.ir_sound.proofs.RowLaws.{all_at}
 use Rattle.low_core.specs.declared.moves.Move.{Move}
 use Rattle.low_core.specs.declared.moves.Chunk.{Chunk}
 use Rattle.low_core.specs.declared.moves.MoveOp.{MoveOp}
 use Rattle.low_core.specs.declared.moves.MoveOp.TheVariants.{Keep, Copy}
-use Rattle.low_core.specs.Plain.{op_of, inst_of, move_of, block_of}
+use Rattle.low_core.specs.Plain.{op_of, inst_of, block_of}
 use Rattle.low_core.proofs.Own.{own_insts}
 use Rattle.phi_lower.specs.Lowered.{edge_label, PhiPart, phis_of, phis_with, phis_to, phis_in, block_of_label, way_to, first_on_way, behind_phis, copies, chunk_of_block, chunks_of_block, targets_of}
 use Rattle.phi_lower.specs.Bound.{most_phis}
-use Rattle.phi_lower.proofs.Same.{NamesAgree, Same, with_functions}
+use Rattle.phi_lower.proofs.Same.{NamesAgree, Same}
 use Rattle.phi_lower.proofs.Turns.{lowered, without_phis, IsBeside, AreBeside, with_frames}
 use Rattle.phi_lower.proofs.Finds.{first_map, Numbered, numbered, none_numbered, block_found, edge_chunk, edge_found}
-use Rattle.phi_lower.proofs.Moves.{moved, AreCopied, copied}
+use Rattle.phi_lower.proofs.Moves.{AreCopied, copied}
 use Rattle.phi_lower.proofs.Lefts.{Lefts, given_lefts}
 use Rattle.phi_lower.proofs.Runs.{is_copy, copies_value, runs, all_copies, copies_length, drop_none}
 

@@ -1,13 +1,12 @@
 -- The end of a block of a module, and that of the block without phis.
-use Rattle.std.proofs.Common.{◌≡◌, ℕ, zero, suc, ◌+◌, ◌*◌, ◌≤◌, Bool, true, false, List, [], ◌∷◌, map, Option, Some, None, Ok, Err, refl, ap, sym, ◌∙◌, subst, inl, inr, ◌⊎◌, arith}
-use Rattle.std.specs.Prelude.{◌&&◌, ◌||◌, nat_eq, slice_get, if◌then◌else◌}
-use Rattle.std.specs.List.{list_all, list_any}
+use Rattle.std.proofs.Common.{◌≡◌, ℕ, zero, suc, ◌+◌, ◌*◌, Bool, true, false, List, [], ◌∷◌, map, Some, None, Ok, Err, refl, ap, sym, ◌∙◌, subst, inl, inr, ◌⊎◌, arith}
+use Rattle.std.specs.Prelude.{◌&&◌, nat_eq, slice_get, if◌then◌else◌}
+use Rattle.std.specs.List.{list_all}
 use Rattle.std.proofs.lemmas.Bool.{and_parts}
 use Rattle.rd_num.specs.declared.width.Width.TheVariants.{W1}
-use Rattle.behavior.specs.Ending.{Going, is_left}
+use Rattle.behavior.specs.Ending.{is_left}
 use Rattle.behavior.specs.Simulation.{Comes}
 use Rattle.behavior.proofs.Stretch.{comes_none, comes_wider}
-use Rattle.ir_core.specs.declared.ty.Ty.{Ty}
 use Rattle.ir_core.specs.declared.operand.Operand.{Operand}
 use Rattle.ir_core.specs.declared.operand.Operand.TheVariants.{Local as LocalName, Global}
 use Rattle.ir_core.specs.declared.instruction.Case.{Case}
@@ -20,26 +19,24 @@ use Rattle.ir_core.specs.declared.memory.Value.{Value}
 use Rattle.ir_core.specs.declared.memory.Value.TheVariants.{Num, Null, At, Fun}
 use Rattle.ir_core.specs.Names.{same_name}
 use Rattle.ir_core.specs.Definitions.{is_among}
-use Rattle.ir_core.specs.Stops.{Stop, Malformed, Trap, Answer, and_then}
-use Rattle.ir_core.specs.declared.kind.Kind.{Kind}
+use Rattle.ir_core.specs.Stops.{Trap, Answer, and_then}
 use Rattle.ir_core.specs.declared.kind.Kind.TheVariants.{Number}
 use Rattle.ir_core.specs.Kinds.{kind_of}
-use Rattle.ir_core.specs.State.{Local, Frame, State, Turn, turned}
+use Rattle.ir_core.specs.State.{Frame, State, Turn, turned}
 use Rattle.ir_core.specs.Operands.{value_of, named_value, global_number}
-use Rattle.ir_core.specs.Calls.{return_turn}
 use Rattle.ir_core.specs.Typing.{labels_of}
 use Rattle.ir_core.specs.Step.{goes_to, if_true, to_if_equal, switched, terminator_turn, source_step}
 use Rattle.ir_core.specs.Built.{name_built, inst_built, end_built, typed_built, type_built, operand_built, case_built, case_value_built, built_all}
-use Rattle.ir_sound.proofs.SameLaws.{not_true, same_itself, some_is, none_is}
+use Rattle.ir_sound.proofs.SameLaws.{same_itself, some_is, none_is}
 use Rattle.ir_sound.proofs.RowLaws.{all_at}
 use Rattle.phi_lower.proofs.Moves.{both_ok}
-use Rattle.phi_lower.specs.Lowered.{first_on_way, case_to, with_ways, targets_of}
+use Rattle.phi_lower.specs.Lowered.{first_on_way, case_to, with_ways}
 use Rattle.phi_lower.specs.Bound.{most_phis}
 use Rattle.phi_lower.proofs.Same.{all_built, then_same, NamesAgree, value_same, typed_same}
-use Rattle.phi_lower.proofs.Turns.{lowered, without_phis, IsBeside, AreBeside, with_frames, IsTurnBeside, TurnsBeside, then_beside, return_beside}
+use Rattle.phi_lower.proofs.Turns.{lowered, without_phis, IsBeside, AreBeside, with_frames, TurnsBeside, then_beside, return_beside}
 use Rattle.phi_lower.proofs.Finds.{or_left, or_right, among_targets}
 use Rattle.phi_lower.proofs.Lefts.{Lefts, then_lefts, value_lefts}
-use Rattle.phi_lower.proofs.EdgeLaws.{EdgeMet, edge_met}
+use Rattle.phi_lower.proofs.EdgeLaws.{edge_met}
 
 -- the state after one step beside the other state after one step
 pub record IsMet (m : Module) (input : List ℕ) (t : State) (b : State) : Type 0 where

@@ -1,9 +1,8 @@
 -- Each phi of a typed module has an entry for each edge to its block; so the module without phis is light.
-use Rattle.std.proofs.Common.{◌≡◌, ℕ, zero, suc, ◌+◌, ◌*◌, ◌-◌, ◌^◌, ◌≤◌, ◌<◌, Bool, true, false, List, [], ◌∷◌, ◌++◌, map, length, fold, min, Option, Some, None, refl, ap, sym, ◌∙◌, subst, arith}
-use Rattle.std.specs.Prelude.{◌&&◌, ◌||◌, slice_get, if◌then◌else◌, not, nat_lt}
-use Rattle.std.specs.List.{list_all, list_any, filter, sum_by}
+use Rattle.std.proofs.Common.{◌≡◌, ℕ, zero, suc, Bool, true, false, List, [], ◌∷◌, ◌++◌, map, fold, Option, Some, None, refl, ap, sym, ◌∙◌, subst}
+use Rattle.std.specs.Prelude.{◌||◌, slice_get, if◌then◌else◌}
+use Rattle.std.specs.List.{list_all, list_any, filter}
 use Rattle.std.proofs.lemmas.Bool.{and_parts}
-use Rattle.std.proofs.lemmas.List.Sums.{sum_by-cons}
 use Rattle.ir_core.specs.declared.instruction.Entry.{Entry}
 use Rattle.ir_core.specs.declared.instruction.Inst.{Inst}
 use Rattle.ir_core.specs.declared.instruction.Op.{Op}
@@ -11,17 +10,17 @@ use Rattle.ir_core.specs.declared.instruction.Op.TheVariants.{Phi}
 use Rattle.ir_core.specs.declared.module.Block.{Block}
 use Rattle.ir_core.specs.declared.module.Function.{Function}
 use Rattle.ir_core.specs.declared.module.Module.{Module}
-use Rattle.ir_core.specs.Names.{same_name, first_where}
-use Rattle.ir_core.specs.Definitions.{is_among, label_names, local_names, repeated}
+use Rattle.ir_core.specs.Names.{same_name}
+use Rattle.ir_core.specs.Definitions.{is_among}
 use Rattle.ir_core.specs.Typing.{labels_of}
 use Rattle.ir_core.specs.Valid.{leads_to, predecessors, entries_fit, is_phi, env_of}
 use Rattle.ir_core.proofs.NameSets.{same_name-sym}
 use Rattle.ir_sound.specs.Typed.{no_phi, phi_typed, phis_typed, functions_typed}
 use Rattle.ir_sound.proofs.SameLaws.{not_true, name_is, same_itself, some_is, none_is}
-use Rattle.ir_sound.proofs.RowLaws.{all_at, found_any, first_passes}
+use Rattle.ir_sound.proofs.RowLaws.{found_any, first_passes}
 use Rattle.ir_sound.proofs.Parts.{function_at, block_at}
-use Rattle.phi_lower.specs.Lowered.{PhiPart, phis_of, phis_with, phis_in, phis_to, block_of_label, targets_of, with_name}
-use Rattle.phi_lower.proofs.Finds.{any_append, or_left, or_right, Numbered, numbered}
+use Rattle.phi_lower.specs.Lowered.{PhiPart, phis_of, phis_with, phis_in, block_of_label, targets_of, with_name}
+use Rattle.phi_lower.proofs.Finds.{any_append, or_left, or_right, numbered}
 use Rattle.phi_lower.proofs.WeightLaws.{HasEntry, EntriesThere}
 
 -- an item of a list is among it

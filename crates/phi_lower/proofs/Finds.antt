@@ -1,5 +1,5 @@
 -- Where the chunks of blocks and of edges stand in a function without phis.
-use Rattle.std.proofs.Common.{◌≡◌, ℕ, zero, suc, Bool, true, false, List, [], ◌∷◌, ◌++◌, map, fold, Option, Some, None, refl, ap, sym, ◌∙◌, subst, if◌then◌else◌}
+use Rattle.std.proofs.Common.{◌≡◌, ℕ, zero, suc, Bool, true, false, List, [], ◌∷◌, ◌++◌, map, fold, Some, None, refl, ap, sym, ◌∙◌, subst, if◌then◌else◌}
 use Rattle.std.specs.Prelude.{◌&&◌, ◌||◌, nat_eq, option_map, slice_get}
 use Rattle.std.specs.List.{list_all, list_any, flat_map}
 use Rattle.std.proofs.lemmas.Bool.{and_parts, eqb-true}
@@ -7,14 +7,12 @@ use Rattle.ir_core.specs.declared.module.Block.{Block}
 use Rattle.ir_core.specs.declared.instruction.Term.TheVariants.{Br}
 use Rattle.ir_core.specs.Names.{same_name, number_where, first_where}
 use Rattle.ir_core.specs.Definitions.{is_among}
-use Rattle.ir_core.specs.Typing.{labels_of}
 use Rattle.ir_core.specs.Built.{name_built, is_name_byte}
 use Rattle.ir_core.proofs.NameSets.{same_name-sym}
 use Rattle.ir_sound.specs.WellTyped.{Each}
 use Rattle.ir_sound.proofs.SameLaws.{not_true, name_is, same_itself, some_is, none_is}
-use Rattle.ir_sound.proofs.RowLaws.{Found, found_any, first_passes, Each_both, Each_at}
+use Rattle.ir_sound.proofs.RowLaws.{found_any, first_passes, Each_both, Each_at}
 use Rattle.low_core.specs.declared.moves.Chunk.{Chunk}
-use Rattle.low_core.specs.Plain.{block_of}
 use Rattle.phi_lower.specs.Lowered.{PhiPart, edge_label, copies, phis_to, chunk_of_block, chunk_to, chunks_to, chunks_of_block, with_name, targets_of}
 use Rattle.phi_lower.proofs.Same.{all_built}
 

@@ -1,18 +1,17 @@
 -- A module without phis means what the module means.
-use Rattle.std.proofs.Common.{◌≡◌, ℕ, zero, suc, ◌+◌, ◌*◌, ◌≤◌, Bool, true, false, List, [], ◌∷◌, map, length, drop, Option, Some, None, Ok, Err, refl, ap, sym, ◌∙◌, subst, inl, inr, ◌⊎◌, arith}
+use Rattle.std.proofs.Common.{◌≡◌, ℕ, suc, ◌+◌, ◌*◌, true, List, [], ◌∷◌, map, length, Option, Some, None, refl, ap, sym, ◌∙◌, subst, inl, inr, ◌⊎◌, arith}
 use Rattle.std.specs.Prelude.{◌&&◌, slice_get, option_map, codes, if◌then◌else◌, not}
 use Rattle.std.specs.List.{list_all, flat_map}
 use Rattle.std.proofs.lemmas.Bool.{and_parts}
 use Rattle.std.proofs.Math.Path.{fun_ext}
 use Rattle.behavior.specs.Ending.{Going, is_left}
-use Rattle.behavior.specs.Moment.{AreBytes, Agrees, IsLeft, IsGoing}
+use Rattle.behavior.specs.Moment.{Agrees}
 use Rattle.behavior.specs.Preserves.{Preserves, ReachesWithin}
-use Rattle.behavior.specs.System.{System, behavior_of}
-use Rattle.behavior.specs.Simulation.{Comes, Lands, Met, Follows, Starts, Spots}
+use Rattle.behavior.specs.Simulation.{Comes, Follows, Starts, Spots}
 use Rattle.behavior.proofs.Laws.{agrees_refl, going_is}
 use Rattle.behavior.proofs.Stretch.{comes_none, comes_step, comes_wider, met_by, starts_by, spots_follow}
 use Rattle.ir_core.specs.declared.ty.Ty.{Ty}
-use Rattle.ir_core.specs.declared.init.Init.{Init, fold-Init}
+use Rattle.ir_core.specs.declared.init.Init.{fold-Init}
 use Rattle.ir_core.specs.declared.init.Init.TheOpen.{Init-F}
 use Rattle.ir_core.specs.declared.operand.Operand.{Operand}
 use Rattle.ir_core.specs.declared.operand.Operand.TheVariants.{Local as LocalName, Global}
@@ -23,38 +22,33 @@ use Rattle.ir_core.specs.declared.module.Block.{Block}
 use Rattle.ir_core.specs.declared.module.Function.{Function}
 use Rattle.ir_core.specs.declared.module.GlobalVar.{GlobalVar}
 use Rattle.ir_core.specs.declared.module.Module.{Module}
-use Rattle.ir_core.specs.declared.memory.Value.{Value}
 use Rattle.ir_core.specs.declared.memory.Cell.{Cell}
-use Rattle.ir_core.specs.declared.memory.Object0.{Object0}
 use Rattle.ir_core.specs.Names.{same_name, number_where}
-use Rattle.ir_core.specs.Stops.{Answer}
 use Rattle.ir_core.specs.declared.kind.Kind.{Kind}
 use Rattle.ir_core.specs.Kinds.{kind_of}
 use Rattle.ir_core.specs.Shapes.{shape_of}
-use Rattle.ir_core.specs.Globals.{Part, cells_or_zeros, init_at, element_at, global_object, first_objects}
-use Rattle.ir_core.specs.State.{Local, Frame, State, source_moment, turned}
+use Rattle.ir_core.specs.Globals.{Part, cells_or_zeros, init_at, element_at, first_objects}
+use Rattle.ir_core.specs.State.{Frame, State, source_moment, turned}
 use Rattle.ir_core.specs.Operands.{value_of, named_value, global_number, function_number}
 use Rattle.ir_core.specs.Calls.{first_frame}
-use Rattle.ir_core.specs.Step.{instruction_turn, terminator_turn, turn_of, turn_at, source_step}
+use Rattle.ir_core.specs.Step.{instruction_turn, terminator_turn, turn_of, source_step}
 use Rattle.ir_core.specs.Run.{first_arguments, standing, start_in, start_at, source_start, source_run}
 use Rattle.ir_core.specs.Built.{name_built, inst_built, op_built, result_named, end_built, block_built, blocks_built, function_built, param_built, result_built, built_all, IsBuilt, named_built, global_built, extern_built}
-use Rattle.ir_core.specs.Valid.{leads_to, is_phi, env_of}
-use Rattle.ir_core.specs.Refusals.{IsValid}
+use Rattle.ir_core.specs.Valid.{leads_to, is_phi}
 use Rattle.ir_core.proofs.Laws.{source_system, source_gradual, source_run-system, module_simulates, module_simulates_within}
-use Rattle.ir_core.proofs.Steps.{Stands, step_going, step_here}
+use Rattle.ir_core.proofs.Steps.{step_going, step_here}
 use Rattle.ir_sound.specs.Typed.{IsTyped, entry_typed, no_phi, functions_typed}
-use Rattle.ir_sound.proofs.SameLaws.{not_true, some_is, none_is}
+use Rattle.ir_sound.proofs.SameLaws.{not_true}
 use Rattle.ir_sound.proofs.RowLaws.{all_at, all_from}
 use Rattle.ir_sound.proofs.Parts.{function_at}
-use Rattle.low_core.specs.declared.moves.Body.{Body}
-use Rattle.low_core.specs.Plain.{block_of, with_blocks, with_bodies, plain, moves_run}
-use Rattle.phi_lower.specs.Lowered.{phis_of, phis_with, behind_phis, chunk_of_block, chunks_of_block, body_of, bodies_without_phis}
+use Rattle.low_core.specs.Plain.{block_of, with_bodies, plain, moves_run}
+use Rattle.phi_lower.specs.Lowered.{phis_of, phis_with, chunk_of_block, chunks_of_block, body_of, bodies_without_phis}
 use Rattle.phi_lower.specs.Bound.{most_phis, most_steps}
-use Rattle.phi_lower.proofs.Same.{NamesAgree, Same, with_functions, all_built}
+use Rattle.phi_lower.proofs.Same.{NamesAgree, with_functions, all_built}
 use Rattle.phi_lower.proofs.Turns.{lowered, without_phis, IsBeside, AreBeside, with_frames, as_many, EntersBeside, lowered_at, instruction_beside}
 use Rattle.phi_lower.proofs.Runs.{slice_drop}
 use Rattle.phi_lower.proofs.EdgeLaws.{chunk_insts}
-use Rattle.phi_lower.proofs.EndLaws.{IsMet, Meets, turned_met, end_met}
+use Rattle.phi_lower.proofs.EndLaws.{IsMet, turned_met, end_met}
 
 -- functions keep their names
 names_kept : (fs : List Function) (name : List ℕ) → number_where (λ (f : Function). same_name f.name name) (map lowered fs) ≡ number_where (λ (f : Function). same_name f.name name) fs

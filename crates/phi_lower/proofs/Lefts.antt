@@ -1,5 +1,5 @@
 -- An edge that isn't taken leaves the meaning: a value that is missing, or a module that isn't valid.
-use Rattle.std.proofs.Common.{◌≡◌, ℕ, ◌*◌, ◌+◌, Bool, true, false, List, [], ◌∷◌, Option, Some, None, Ok, Err, refl, if◌then◌else◌}
+use Rattle.std.proofs.Common.{◌≡◌, ℕ, true, List, [], ◌∷◌, Option, Some, None, Ok, Err, refl}
 use Rattle.behavior.specs.Ending.{is_left}
 use Rattle.ir_core.specs.declared.operand.Operand.{Operand}
 use Rattle.ir_core.specs.declared.operand.Operand.TheVariants.{Int, Bool as Truth, Null as NullWord, Undef, Poison, Local as LocalName, Global, Const}
@@ -12,13 +12,12 @@ use Rattle.ir_core.specs.declared.memory.Value.{Value}
 use Rattle.ir_core.specs.declared.memory.Value.TheVariants.{Num, Null, At, Fun}
 use Rattle.std.specs.Prelude.{ℤ}
 use Rattle.ir_core.specs.declared.memory.Reason.TheVariants.{Unset}
-use Rattle.ir_core.specs.Stops.{Stop, Left, Malformed, ending_of, Answer, and_then, found_or}
+use Rattle.ir_core.specs.Stops.{Left, Malformed, ending_of, Answer, and_then, found_or}
 use Rattle.ir_core.specs.declared.kind.Kind.{Kind}
 use Rattle.ir_core.specs.declared.kind.Kind.TheVariants.{NoValue, Number, Pointer}
 use Rattle.ir_core.specs.Kinds.{kind_of, zero_of}
-use Rattle.ir_core.specs.Shapes.{shape_of}
 use Rattle.ir_core.specs.State.{Local}
-use Rattle.ir_core.specs.Operands.{local_value, named_value, int_value, index_word, bytes_to, literal_indices, constant_place, value_of, global_number, function_number}
+use Rattle.ir_core.specs.Operands.{named_value, int_value, index_word, bytes_to, literal_indices, constant_place, value_of, global_number, function_number}
 use Rattle.ir_core.specs.Step.{Choice, chosen, given_at_once}
 use Rattle.ir_core.specs.Names.{same_name, first_where}
 

@@ -1,15 +1,15 @@
 -- The module without phis of a valid module weighs at least 512 less than the code that was counted.
-use Rattle.std.proofs.Common.{◌≡◌, ℕ, zero, suc, ◌+◌, ◌*◌, ◌-◌, ◌^◌, ◌≤◌, ◌<◌, Bool, true, false, List, [], ◌∷◌, map, length, min, Some, refl, ap, sym, ◌∙◌, subst, arith}
+use Rattle.std.proofs.Common.{◌≡◌, ℕ, zero, suc, ◌+◌, ◌≤◌, Bool, true, false, List, [], ◌∷◌, map, length, Some, refl, ap, sym, ◌∙◌, arith}
 use Rattle.std.specs.Prelude.{slice_get, if◌then◌else◌, nat_lt}
-use Rattle.std.specs.List.{filter, sum_by}
+use Rattle.std.specs.List.{sum_by}
 use Rattle.std.proofs.lemmas.Bool.{ltb-false}
 use Rattle.ir_core.specs.declared.limit.Limit.{Limit}
 use Rattle.ir_core.specs.declared.limit.TheConstants.{MAX_CODE}
 use Rattle.ir_core.specs.declared.module.Function.{Function}
 use Rattle.ir_core.specs.declared.module.Module.{Module}
 use Rattle.ir_core.specs.Counts.{function_code, code_count}
-use Rattle.ir_core.specs.Definitions.{doubled, repeated, local_names, label_names}
-use Rattle.ir_core.specs.Refusals.{IsValid, Limited, limited, past, has_main, main_of}
+use Rattle.ir_core.specs.Definitions.{repeated, local_names, label_names}
+use Rattle.ir_core.specs.Refusals.{IsValid, Limited, past, has_main, main_of}
 use Rattle.ir_core.proofs.Distinct.{LocalsDiffer, locals_of_functions, labels_differ}
 use Rattle.ir_sound.proofs.NoFaults.{both_empty, unrefused, not_empty}
 use Rattle.ir_sound.proofs.SameLaws.{not_true, some_is, none_is}
@@ -17,9 +17,9 @@ use Rattle.ir_sound.proofs.ValidTyped.{valid_typed}
 use Rattle.low_core.specs.Plain.{plain}
 use Rattle.low_core.specs.Weights.{function_weight, weight}
 use Rattle.phi_lower.specs.Lowered.{bodies_without_phis}
-use Rattle.phi_lower.proofs.Turns.{lowered, without_phis}
+use Rattle.phi_lower.proofs.Turns.{lowered}
 use Rattle.phi_lower.proofs.Keeps.{plain_is}
-use Rattle.phi_lower.proofs.SumLaws.{Apart, names_apart, sum_le, sum_both, sum_map, sum_times}
+use Rattle.phi_lower.proofs.SumLaws.{names_apart, sum_le, sum_both, sum_map, sum_times}
 use Rattle.phi_lower.proofs.WeightLaws.{function_le}
 use Rattle.phi_lower.proofs.EntriesThere.{entries_there}
 

@@ -1,12 +1,9 @@
 -- The moves of an edge: after them all names of a text have the values that the phis give them at once.
-use Rattle.std.proofs.Common.{◌≡◌, ℕ, zero, suc, ◌+◌, Bool, true, false, List, [], ◌∷◌, ◌++◌, map, Option, Some, None, Ok, Err, refl, ap, sym, ◌∙◌, subst, if◌then◌else◌, append_assoc}
-use Rattle.std.specs.Prelude.{◌&&◌, ◌||◌, option_map}
-use Rattle.std.specs.List.{list_all, list_any, flat_map}
+use Rattle.std.proofs.Common.{◌≡◌, ℕ, Bool, true, false, List, [], ◌∷◌, ◌++◌, map, Option, Some, None, Ok, Err, refl, ap, sym, ◌∙◌, subst, if◌then◌else◌}
+use Rattle.std.specs.Prelude.{◌||◌, option_map}
+use Rattle.std.specs.List.{list_all, flat_map}
 use Rattle.std.proofs.lemmas.Bool.{and_parts}
-use Rattle.std.proofs.lemmas.List.{append-nil}
 use Rattle.ir_core.specs.declared.ty.Ty.{Ty}
-use Rattle.ir_core.specs.declared.operand.Operand.{Operand}
-use Rattle.ir_core.specs.declared.operand.Operand.TheVariants.{Local as LocalName}
 use Rattle.ir_core.specs.declared.instruction.Entry.{Entry}
 use Rattle.ir_core.specs.declared.instruction.Inst.{Inst}
 use Rattle.ir_core.specs.declared.instruction.Op.{Op}
@@ -26,12 +23,11 @@ use Rattle.ir_core.specs.Built.{name_built, operand_built, entry_built, entries_
 use Rattle.ir_sound.specs.WellTyped.{Each}
 use Rattle.ir_core.proofs.NameSets.{same_name-sym}
 use Rattle.ir_sound.proofs.SameLaws.{not_true, name_is, same_itself, some_is, none_is}
-use Rattle.ir_sound.proofs.RowLaws.{Each_both, Each_parts}
+use Rattle.ir_sound.proofs.RowLaws.{Each_parts}
 use Rattle.low_core.specs.declared.moves.Move.{Move}
-use Rattle.low_core.specs.declared.moves.MoveOp.TheVariants.{Copy}
 use Rattle.low_core.specs.Plain.{op_of}
 use Rattle.phi_lower.specs.Lowered.{aside, PhiPart, phis_of, phis_with, put_of, put_aside, take_of, taken_up, last_first, copies}
-use Rattle.phi_lower.proofs.Same.{then_same, with_functions, NamesAgree, Same, one_more, value_same, all_built}
+use Rattle.phi_lower.proofs.Same.{with_functions, NamesAgree, Same, value_same, all_built}
 use Rattle.phi_lower.proofs.Finds.{zero_apart, apart_zero, or_left, or_right}
 
 -- an answer of two parts that is there

@@ -1,5 +1,5 @@
 -- Runs of moves in a chunk, and how many moves an edge has.
-use Rattle.std.proofs.Common.{◌≡◌, ℕ, zero, suc, ◌+◌, ◌*◌, ◌≤◌, Bool, true, false, List, [], ◌∷◌, ◌++◌, map, length, drop, Option, Some, None, Ok, Err, refl, ap, sym, ◌∙◌, subst, arith, length-append}
+use Rattle.std.proofs.Common.{◌≡◌, ℕ, zero, suc, ◌+◌, ◌*◌, ◌≤◌, Bool, true, false, List, [], ◌∷◌, ◌++◌, map, length, drop, Option, Some, None, Ok, refl, ap, ◌∙◌, subst, arith, length-append}
 use Rattle.std.specs.Prelude.{slice_get}
 use Rattle.std.specs.List.{list_all}
 use Rattle.std.proofs.lemmas.Bool.{and_parts, and_from}
@@ -9,7 +9,6 @@ use Rattle.behavior.proofs.Stretch.{comes_none, comes_step}
 use Rattle.ir_core.specs.declared.ty.Ty.{Ty}
 use Rattle.ir_core.specs.declared.operand.Operand.{Operand}
 use Rattle.ir_core.specs.declared.instruction.Entry.{Entry}
-use Rattle.ir_core.specs.declared.instruction.Inst.{Inst}
 use Rattle.ir_core.specs.declared.instruction.Op.TheVariants.{Freeze}
 use Rattle.ir_core.specs.declared.module.Block.{Block}
 use Rattle.ir_core.specs.declared.module.Function.{Function}
@@ -21,7 +20,7 @@ use Rattle.ir_core.specs.Kinds.{kind_of}
 use Rattle.ir_core.specs.State.{Local, Frame, State, with_local, turned}
 use Rattle.ir_core.specs.Operands.{value_of}
 use Rattle.ir_core.specs.Step.{gives, result_of, source_step}
-use Rattle.ir_core.proofs.Steps.{Stands, step_here}
+use Rattle.ir_core.proofs.Steps.{step_here}
 use Rattle.ir_sound.proofs.SameLaws.{not_true}
 use Rattle.low_core.specs.declared.moves.Move.{Move}
 use Rattle.low_core.specs.declared.moves.MoveOp.{MoveOp}

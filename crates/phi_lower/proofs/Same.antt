@@ -1,6 +1,6 @@
 -- Two calls whose locals have the same values under all names that a text can have, in two modules whose functions have
 -- the same names: operands, arguments and operations give the same.
-use Rattle.std.proofs.Common.{◌≡◌, ◌≢◌, ℕ, Bool, true, false, List, [], ◌∷◌, Option, Some, None, Ok, Err, refl, ap, sym, ◌∙◌, subst}
+use Rattle.std.proofs.Common.{◌≡◌, ℕ, Bool, true, false, List, [], ◌∷◌, Option, Some, None, Ok, Err, refl, ap, sym, ◌∙◌}
 use Rattle.std.specs.Prelude.{◌&&◌, ◌^◌, nat_lt, length, option_map, if◌then◌else◌}
 use Rattle.std.specs.List.{list_all}
 use Rattle.std.proofs.lemmas.Bool.{and_parts}
@@ -9,7 +9,7 @@ use Rattle.ir_core.specs.declared.operand.Operand.{Operand}
 use Rattle.ir_core.specs.declared.operand.Operand.TheVariants.{Int, Bool as Truth, Null as NullWord, Undef, Poison, Local as LocalName, Global, Const}
 use Rattle.ir_core.specs.declared.instruction.Arg.{Arg}
 use Rattle.ir_core.specs.declared.instruction.Op.{Op}
-use Rattle.ir_core.specs.declared.instruction.Op.TheVariants.{Bin, Compare, Cast, Select, Freeze, Alloca, Load, Store, Gep, Phi, Call}
+use Rattle.ir_core.specs.declared.instruction.Op.TheVariants.{Bin, Compare, Cast, Select, Freeze, Load, Gep}
 use Rattle.ir_core.specs.declared.module.Function.{Function}
 use Rattle.ir_core.specs.declared.module.Module.{Module}
 use Rattle.ir_core.specs.declared.memory.Value.{Value}
@@ -19,12 +19,11 @@ use Rattle.ir_core.specs.Stops.{Left, Answer, and_then, found_or}
 use Rattle.ir_core.specs.declared.kind.Kind.{Kind}
 use Rattle.ir_core.specs.declared.kind.Kind.TheVariants.{Number, Pointer}
 use Rattle.ir_core.specs.Kinds.{kind_of}
-use Rattle.ir_core.specs.Memory.{Memory, load_at}
+use Rattle.ir_core.specs.Memory.{Memory}
 use Rattle.ir_core.specs.State.{Local, with_local}
-use Rattle.ir_core.specs.Operands.{local_value, function_number, global_number, named_value, value_of, values_of, index_words, bytes_to}
-use Rattle.ir_core.specs.Pointers.{moved_pointer}
-use Rattle.ir_core.specs.Calls.{Target, Inside, Outside, target_named, target_of}
-use Rattle.ir_core.specs.Step.{result_of, binary_value, compared_value, cast_value, selected}
+use Rattle.ir_core.specs.Operands.{local_value, function_number, global_number, named_value, value_of, values_of}
+use Rattle.ir_core.specs.Calls.{target_named, target_of}
+use Rattle.ir_core.specs.Step.{result_of}
 use Rattle.ir_core.specs.Built.{name_built, operand_built, typed_built, type_built, arg_built, op_built, built_all, callee_built}
 use Rattle.ir_sound.proofs.SameLaws.{not_true}
 use Rattle.rd_num.specs.declared.width.Width.TheVariants.{W1}

@@ -6,7 +6,7 @@ use Rattle.ir_core.specs.declared.module.Block.{Block}
 use Rattle.ir_core.specs.Names.{same_name, number_where}
 use Rattle.ir_core.proofs.LookupLaws.{item_found}
 use Rattle.ir_sound.proofs.SameLaws.{some_is, none_is}
-use Rattle.phi_lower.specs.Lowered.{PhiPart, phis_of, phis_in, phis_to, phis_or_none, block_of_label, chunk_to, chunks_to}
+use Rattle.phi_lower.specs.Lowered.{PhiPart, phis_of, phis_in, phis_to, phis_or_none, chunk_to, chunks_to}
 
 -- the phis of the block at a place
 phis_at : (blocks : List Block) (k : ℕ) → slice_get (map (λ (b : Block). phis_of b.insts) blocks) k ≡ option_map (λ (b : Block). phis_of b.insts) (slice_get blocks k)

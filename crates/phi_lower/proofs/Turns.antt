@@ -1,35 +1,29 @@
 -- Calls of a module beside calls of the module without phis, and what instructions make of both.
-use Rattle.std.proofs.Common.{◌≡◌, ℕ, zero, suc, ◌+◌, Bool, true, false, List, [], ◌∷◌, ◌++◌, map, length, Option, Some, None, Ok, Err, refl, ap, sym, ◌∙◌, subst, arith}
+use Rattle.std.proofs.Common.{◌≡◌, ℕ, zero, suc, ◌+◌, Bool, true, false, List, [], ◌∷◌, map, length, Option, Some, None, Ok, Err, refl, ap, sym, subst, arith}
 use Rattle.std.specs.Prelude.{◌&&◌, slice_get, nat_le, option_map, if◌then◌else◌}
-use Rattle.std.specs.List.{list_all}
 use Rattle.std.proofs.lemmas.Bool.{and_parts}
 use Rattle.ir_core.specs.declared.TheConstants.{MAX_CALLS}
-use Rattle.ir_core.specs.declared.ty.Ty.{Ty}
-use Rattle.ir_core.specs.declared.operand.Operand.{Operand}
 use Rattle.ir_core.specs.declared.instruction.Arg.{Arg}
-use Rattle.ir_core.specs.declared.instruction.Inst.{Inst}
 use Rattle.ir_core.specs.declared.instruction.Op.{Op}
-use Rattle.ir_core.specs.declared.instruction.Op.TheVariants.{Bin, Compare, Cast, Select, Freeze, Alloca, Load, Store, Gep, Phi, Call}
+use Rattle.ir_core.specs.declared.instruction.Op.TheVariants.{Alloca, Store, Call}
 use Rattle.ir_core.specs.declared.module.Block.{Block}
 use Rattle.ir_core.specs.declared.module.Function.{Function}
 use Rattle.ir_core.specs.declared.module.Module.{Module}
 use Rattle.ir_core.specs.declared.memory.Value.{Value}
-use Rattle.ir_core.specs.declared.memory.Value.TheVariants.{Num, Null, At, Fun}
+use Rattle.ir_core.specs.declared.memory.Value.TheVariants.{Num, At, Fun}
 use Rattle.ir_core.specs.declared.memory.Reason.TheVariants.{Callee}
 use Rattle.ir_core.specs.declared.outer.Outer.{Outer}
-use Rattle.ir_core.specs.declared.outer.Outer.TheVariants.{Putchar, Getchar, Exit, Memcpy, Memset, TrapNow, Lifetime, NoOuter}
-use Rattle.ir_core.specs.Stops.{Stop, Left, Depth, Malformed, Answer, and_then, found_or}
+use Rattle.ir_core.specs.declared.outer.Outer.TheVariants.{Putchar, Getchar, Exit, Memcpy, Memset, TrapNow, Lifetime}
+use Rattle.ir_core.specs.Stops.{Left, Depth, Malformed, Answer, and_then, found_or}
 use Rattle.ir_core.specs.declared.kind.Kind.{Kind}
 use Rattle.ir_core.specs.declared.kind.Kind.TheVariants.{Pointer}
 use Rattle.ir_core.specs.Kinds.{kind_of}
-use Rattle.ir_core.specs.Shapes.{shape_of}
-use Rattle.ir_core.specs.Memory.{Memory, store_at, with_alloca, without, copied, filled}
+use Rattle.ir_core.specs.Memory.{Memory, store_at, without, copied, filled}
 use Rattle.ir_core.specs.State.{Local, Frame, State, Exchange, Nothing, Take, Print, Turn, with_local}
-use Rattle.ir_core.specs.Operands.{value_of, values_of, function_number}
-use Rattle.ir_core.specs.Calls.{Target, Outside, Inside, target_of, is_called_as, first_frame, bound, entry_turn, resumed, last_result, return_turn, goes_on, read_byte, with_memory, outer_turn, call_turn}
-use Rattle.ir_core.specs.Step.{past, gives, gives_alloca, stores, result_of, instruction_turn}
-use Rattle.ir_core.specs.Built.{op_built, arg_built, typed_built, type_built, operand_built, callee_built, result_built, built_all}
-use Rattle.ir_core.specs.Valid.{is_phi}
+use Rattle.ir_core.specs.Operands.{value_of, values_of}
+use Rattle.ir_core.specs.Calls.{Target, Outside, Inside, target_of, is_called_as, first_frame, entry_turn, resumed, return_turn, goes_on, read_byte, with_memory, outer_turn, call_turn}
+use Rattle.ir_core.specs.Step.{past, gives, stores, result_of, instruction_turn}
+use Rattle.ir_core.specs.Built.{op_built, arg_built, typed_built, operand_built, callee_built, result_built, built_all}
 use Rattle.low_core.specs.Plain.{with_blocks, block_of}
 use Rattle.phi_lower.specs.Lowered.{phis_of, body_of, chunk_of_block}
 use Rattle.phi_lower.proofs.Same.{all_built, with_functions, NamesAgree, Same, with_same, value_same, typed_same, values_same, target_same, result_same}

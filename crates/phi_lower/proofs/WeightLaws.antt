@@ -1,8 +1,7 @@
 -- A module without phis weighs no more than the code that was counted for the module.
-use Rattle.std.proofs.Common.{◌≡◌, ℕ, zero, suc, ◌+◌, ◌*◌, ◌≤◌, Bool, true, false, List, [], ◌∷◌, ◌++◌, map, length, drop, fold, Option, Some, None, refl, ap, sym, ◌∙◌, subst, arith}
-use Rattle.std.specs.Prelude.{◌&&◌, ◌||◌, slice_get, if◌then◌else◌, not}
-use Rattle.std.specs.List.{list_all, list_any, filter, flat_map, sum_by}
-use Rattle.std.proofs.lemmas.Bool.{and_parts}
+use Rattle.std.proofs.Common.{◌≡◌, ℕ, suc, ◌+◌, ◌*◌, ◌≤◌, List, [], ◌∷◌, ◌++◌, map, length, drop, Option, Some, None, refl, ap, sym, ◌∙◌, subst, arith}
+use Rattle.std.specs.Prelude.{slice_get}
+use Rattle.std.specs.List.{flat_map, sum_by}
 use Rattle.std.proofs.lemmas.List.{map-append}
 use Rattle.std.proofs.lemmas.List.Sums.{sum_by-cons, sum_by-append}
 use Rattle.ir_core.specs.declared.ty.Ty.{Ty}
@@ -18,15 +17,13 @@ use Rattle.ir_core.specs.declared.instruction.Term.{Term}
 use Rattle.ir_core.specs.declared.instruction.Term.TheVariants.{Ret, RetValue, Br, BrIf, Switch, Unreachable}
 use Rattle.ir_core.specs.declared.module.Block.{Block}
 use Rattle.ir_core.specs.declared.module.Function.{Function}
-use Rattle.ir_core.specs.declared.module.Module.{Module}
 use Rattle.ir_core.specs.Names.{same_name, first_where}
 use Rattle.ir_core.specs.Typing.{labels_of}
-use Rattle.ir_core.specs.Counts.{operand_code, index_count, args_code, entries_code, cases_code, op_code, end_code, block_code, function_code}
-use Rattle.ir_sound.proofs.SameLaws.{some_is, none_is}
+use Rattle.ir_core.specs.Counts.{operand_code, args_code, entries_code, cases_code, op_code, end_code, block_code, function_code}
 use Rattle.low_core.specs.declared.moves.Move.{Move}
 use Rattle.low_core.specs.Plain.{inst_of, block_of}
 use Rattle.low_core.specs.Weights.{operand_weight, args_weight, indices_weight, op_weight, cases_weight, end_weight, block_weight, function_weight}
-use Rattle.phi_lower.specs.Lowered.{PhiPart, phis_of, phis_with, phis_in, phis_to, block_of_label, behind_phis, put_of, put_aside, take_of, taken_up, last_first, copies, case_to, with_ways, first_on_way, chunk_of_block, chunk_to, chunks_to, chunks_of_block, targets_of, with_name}
+use Rattle.phi_lower.specs.Lowered.{PhiPart, phis_of, phis_with, phis_in, phis_to, block_of_label, behind_phis, put_of, put_aside, take_of, taken_up, last_first, copies, case_to, with_ways, first_on_way, chunk_of_block, chunk_to, chunks_to, chunks_of_block, targets_of}
 use Rattle.phi_lower.proofs.Turns.{lowered}
 use Rattle.phi_lower.proofs.Finds.{edge_chunk}
 use Rattle.phi_lower.proofs.EdgeLaws.{chunk_insts}
