@@ -1,11 +1,11 @@
 //! Takes the phis out of a module: a valid module in, a program of moves out.
 //!
-//! A block with phis loses them, and each edge to it gets a chunk of its own, in which all values of
-//! the edge are put aside before the first is taken up; so a swap, a cycle and a phi that reads itself
-//! come out right. Blocks without phis are entered as before. Time and size are near linear in
-//! instructions, edges and entries of phis: blocks, entries and edges are found by sets of names, and
-//! edges from one block to another share one chunk. `specs/Lowered` has what stands where, `specs/Bound` how
-//! long a run becomes. What a program of moves means stands in `low_core`.
+//! A block with phis loses them, and each edge to it gets a chunk of its own, in which all values
+//! of the edge are put aside before the first is taken up; so a swap, a cycle and a phi that reads
+//! itself come out right. Blocks without phis are entered as before. Time and size are near linear
+//! in instructions, edges and entries of phis: blocks, entries and edges are found by sets of names,
+//! and edges from one block to another share one chunk. `specs/Lowered` has what stands where,
+//! `specs/Bound` how long a run becomes. What a program of moves means stands in `low_core`.
 #![tactic(auto)]
 
 ghost use Rattle.std.specs.Prelude.{◌≡◌, ◌+◌, ◌≤◌, All, IfOk};
@@ -31,8 +31,8 @@ use std::alloc::Global;
 
 /// A program without phis that means what a valid module means.
 ///
-/// `bodies` says which it is. A step of the module is met by at least one step and at most so many as
-/// `most_steps` says.
+/// `bodies` says which it is. A step of the module is met by at least one step and at most so many
+/// as `most_steps` says.
 pub fn lower<'a>(alloc: Global, valid: &'a Valid) -> Result<Low<'a>, NoMemory>
     ensures base { IfOk result (λ low. low.base.now ≡ valid.now.kept) }
     ensures bodies { IfOk result (λ low. low.bodies ≡ bodies_without_phis valid.now.kept) }

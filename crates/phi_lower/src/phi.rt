@@ -74,7 +74,8 @@ fn add_put(
     ty: &Ty,
     entry: Option<&Entry>,
 ) -> Result<(), NoMemory>
-    ensures { OnOk result (moves.new ≡ moves.old ++ put_of into.now ty.now (option_copied entry.entry)) }
+    ensures { OnOk result (moves.new ≡ moves.old ++
+        put_of into.now ty.now (option_copied entry.entry)) }
 {
     match (into, entry) {
         (Some(name), Some(e)) => {
