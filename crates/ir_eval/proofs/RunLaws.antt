@@ -1,18 +1,13 @@
 -- What a run of a valid module's program came to tells how the run of the module stands.
-use Rattle.std.proofs.Common.{◌≡◌, ◌<◌, ℕ, List, Option, Some, None, Result, Ok, Err, subst, inl, inr, arith}
-use Rattle.std.specs.Prelude.{◌⊎◌, slice_get, codes}
+use Rattle.std.proofs.Common.{◌≡◌, ℕ, List, Option, Some, None, Result, Ok, Err, refl, subst, inl, inr}
 use Rattle.behavior.specs.Moment.{AreBytes}
 use Rattle.rd_io.specs.Told.{SourceTold, SinkTold}
 use Rattle.rd_io.specs.declared.RunFault.{RunFault}
 use Rattle.rd_io.specs.declared.RunFault.TheVariants as fault
-use Rattle.rd_io.proofs.Grown.{gets_nothing, counts_nothing}
-use Rattle.ir_core.specs.declared.module.Function.{Function}
 use Rattle.ir_core.specs.declared.module.Module.{Module}
 use Rattle.ir_core.specs.Stops.{ending_of}
 use Rattle.ir_core.specs.Memory.{Memory}
 use Rattle.ir_core.specs.Globals.{first_objects}
-use Rattle.ir_core.specs.Operands.{function_number}
-use Rattle.ir_core.specs.Run.{start_in, start_at, source_start}
 use Rattle.ir_core.specs.Refusals.{IsValid}
 use Rattle.ir_memory.specs.declared.stop.Stop.{Stop}
 use Rattle.ir_memory.specs.declared.stop.Stop.TheVariants.{Ended, Divide, Trap, Depth, Left, Malformed}
@@ -21,7 +16,6 @@ use Rattle.ir_program.specs.declared.program.Program.{Program}
 use Rattle.ir_program.specs.Programs.{program_of}
 use Rattle.ir_run.specs.declared.state.State.{State}
 use Rattle.ir_run.specs.Runs.{state_after, Exchanges, IsRun, Ran}
-use Rattle.ir_run.specs.Standing.{FillsWide}
 use Rattle.ir_run.specs.Starts.{Starts}
 use Rattle.ir_sound.specs.Typed.{IsTyped}
 use Rattle.ir_sound.proofs.Steps.{states_are}
