@@ -3,8 +3,8 @@
 //! A block with phis loses them, and each edge to it gets a chunk of its own, in which all values
 //! of the edge are put aside before the first is taken up; so a swap, a cycle and a phi that reads
 //! itself come out right. Blocks without phis are entered as before. Time and size are near linear
-//! in instructions, edges and entries of phis: blocks, entries and edges are found by sets of names,
-//! and edges from one block to another share one chunk. `specs/Lowered` has what stands where,
+//! in instructions, edges and entries of phis, each by the length of its names: blocks, entries and
+//! edges are found by sets of names, and edges from one block to another share one chunk. `specs/Lowered` has what stands where,
 //! `specs/Bound` how long a run becomes. What a program of moves means stands in `low_core`.
 #![tactic(auto)]
 

@@ -209,8 +209,12 @@ fn texts_have_these_lines(rt: HostRuntime) -> Result<(), Fail> {
 }
 
 /// Texts, and what `check` says of them: each refusal, and of two the earlier one.
-const CHECKED: [(&[u8], &[u8]); 19] = [
+const CHECKED: [(&[u8], &[u8]); 20] = [
     (SEVEN, b"valid\n"),
+    (
+        b"declare i32 @f(i32, i32, i32, i32, i32, i32, i32) define i32 @main() { ret i32 7 }",
+        b"valid\n",
+    ),
     (
         b"define i32 @main() { e: br i1 true, label %a, label %b a: %x = add i32 1, 2 br label %c
           b: br label %c c: ret i32 %x }",

@@ -14,7 +14,7 @@ const MANY: &str = "10000000";
 
 /// Modules that take no input and print nothing, and the line of each.
 #[rattlefmt::skip]
-const LINES: [(&[u8], &[u8]); 31] = [
+const LINES: [(&[u8], &[u8]); 32] = [
     (
         b"define i32 @main() { ret i32 263 }",
         b"ended 7\n",
@@ -159,11 +159,32 @@ const LINES: [(&[u8], &[u8]); 31] = [
         b"define i32 @main() { %e = getelementptr i8, ptr null, i64 0 ret i32 9 }",
         b"ended 9\n",
     ),
+    (
+        b"define i32 @main() { %a = call i32 @f(i32 0, i32 1, i32 2, i32 3, i32 4, i32 5, i32
+          6, i32 7, i32 8, i32 9, i32 10, i32 11, i32 12, i32 13, i32 14, i32 15, i32 16, i32
+          17, i32 18, i32 19, i32 20, i32 21, i32 22, i32 23, i32 24, i32 25, i32 26, i32 27,
+          i32 28, i32 29, i32 30, i32 31) ret i32 %a } define i32 @f(i32 %p0, i32 %p1, i32
+          %p2, i32 %p3, i32 %p4, i32 %p5, i32 %p6, i32 %p7, i32 %p8, i32 %p9, i32 %p10, i32
+          %p11, i32 %p12, i32 %p13, i32 %p14, i32 %p15, i32 %p16, i32 %p17, i32 %p18, i32
+          %p19, i32 %p20, i32 %p21, i32 %p22, i32 %p23, i32 %p24, i32 %p25, i32 %p26, i32
+          %p27, i32 %p28, i32 %p29, i32 %p30, i32 %p31) { %s0 = add i32 %p0, %p1 %s1 = add i32
+          %s0, %p2 %s2 = add i32 %s1, %p3 %s3 = add i32 %s2, %p4 %s4 = add i32 %s3, %p5 %s5 =
+          add i32 %s4, %p6 %s6 = add i32 %s5, %p7 %s7 = add i32 %s6, %p8 %s8 = add i32 %s7,
+          %p9 %s9 = add i32 %s8, %p10 %s10 = add i32 %s9, %p11 %s11 = add i32 %s10, %p12 %s12
+          = add i32 %s11, %p13 %s13 = add i32 %s12, %p14 %s14 = add i32 %s13, %p15 %s15 = add
+          i32 %s14, %p16 %s16 = add i32 %s15, %p17 %s17 = add i32 %s16, %p18 %s18 = add i32
+          %s17, %p19 %s19 = add i32 %s18, %p20 %s20 = add i32 %s19, %p21 %s21 = add i32 %s20,
+          %p22 %s22 = add i32 %s21, %p23 %s23 = add i32 %s22, %p24 %s24 = add i32 %s23, %p25
+          %s25 = add i32 %s24, %p26 %s26 = add i32 %s25, %p27 %s27 = add i32 %s26, %p28 %s28 =
+          add i32 %s27, %p29 %s29 = add i32 %s28, %p30 %s30 = add i32 %s29, %p31 ret i32 %s30
+          }",
+        b"ended 240\n",
+    ),
 ];
 
 /// Modules, so many steps, what is given, what comes out, and the line.
 #[rattlefmt::skip]
-const EXCHANGES: [(&[u8], &str, &[u8], &[u8], &[u8]); 5] = [
+const EXCHANGES: [(&[u8], &str, &[u8], &[u8], &[u8]); 6] = [
     (
         b"define i32 @main() { ret i32 7 }",
         "1", b"", b"", b"ended 7\n",
@@ -192,6 +213,13 @@ const EXCHANGES: [(&[u8], &str, &[u8], &[u8], &[u8]); 5] = [
     (
         b"declare i32 @getchar() define i32 @main() { %c = call i32 @getchar() ret i32 %c }",
         "10000000", b"A", b"", b"ended 65\n",
+    ),
+    (
+        b"declare i32 @putchar(i32) define i32 @main() { call void @f(i64
+          -9223372036854775808) call void @f(i64 -1) call void @f(i64 9223372036854775807)
+          call void @f(i64 0) ret i32 0 } define void @f(i64 %n) { e: switch i64 %n, label %d
+          [ ] d: %z = call i32 @putchar(i32 68) ret void }",
+        "10000000", b"", b"DDDD", b"ended 0\n",
     ),
 ];
 
@@ -265,7 +293,8 @@ fn modules_stand_so(rt: HostRuntime) -> Result<(), Fail> {
 }
 
 /// Prints `Hi!` byte by byte.
-const PRINTS: &[u8] = b"declare i32 @putchar(i32) define i32 @main() { %a = call i32 @putchar(i32 72)
+const PRINTS: &[u8] =
+    b"declare i32 @putchar(i32) define i32 @main() { %a = call i32 @putchar(i32 72)
     %b = call i32 @putchar(i32 105) %c = call i32 @putchar(i32 33) ret i32 0 }";
 
 /// Returns what it is given.
@@ -288,5 +317,6 @@ fn a_run_whose_outside_fails_stands_before_that_step(rt: HostRuntime) -> Result<
     let mut out = MemSink::new(alloc, List::new(alloc));
     let files = one_file(alloc, TAKES)?;
     assert!(rt; stands(alloc, MANY, files, &mut input, &mut out, b"input\n")?);
+    assert!(rt; out.bytes().is_empty());
     Ok(())
 }

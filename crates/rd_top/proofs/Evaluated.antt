@@ -24,9 +24,14 @@ drop_front [] ys = refl
 drop_front (x ∷ xs) ys = drop_front xs ys
 
 -- a row of zeros has one at each place
-zero_at : (k : ℕ) → slice_get (replicate (k + 1) 0) k ≡ Some 0
-zero_at zero = refl
-zero_at (suc k) = zero_at k
+zero_last : (k : ℕ) → slice_get {X = ℕ} (replicate (suc k) 0) k ≡ Some 0
+zero_last zero = refl
+zero_last (suc k) = zero_last k
+
+zero_at : (k : ℕ) → slice_get {X = ℕ} (replicate (k + 1) 0) k ≡ Some 0
+zero_at k =
+    let one : suc k ≡ k + 1 = omega arith in
+    subst (λ n. slice_get {X = ℕ} (replicate n 0) k ≡ Some 0) one (zero_last k)
 
 less_itself : (t : ℕ) → (t + 1) - t ≡ 1
 less_itself t = omega arith
@@ -77,6 +82,6 @@ module _ (m : Module) (n : ℕ) (input input2 : SourceTold) (out out2 : SinkTold
   pub cut_off : (T : Type 0) (e : RunFault) → Charged {T = T} input input2 out out2 (Err e) → Evaluated m n input input2 out out2 (Err e) → Streams AreBytes (module_course m) n input input2 out out2 (run_answer (Err e))
   unfolding Evaluated
   cut_off T fault.Input charged h = (charged.0, λ xs e bytes. let c = h xs bytes e in cut_by_input xs c.0 c.1.0 c.1.1.0 c.1.1.1)
-  cut_off T fault.Output charged h = (charged.1.0, λ xs e bytes. let c = h xs bytes e in cut_by_output xs c.0 c.1.0 c.1.1)
+  cut_off T fault.Output charged h = (charged.1, λ xs e bytes. let c = h xs bytes e in cut_by_output xs c.0 c.1.0 c.1.1)
   cut_off T fault.NoMemory charged (inl h) = inl h
   cut_off T fault.NoMemory charged (inr h) = inr (λ xs e bytes. cut_by_memory xs (h xs bytes e))

@@ -49,7 +49,7 @@ Shows file steps w w2 a =
 
 abbrev pub Evaluates : List ℕ → ℕ → World → World → Answer → Type 0
 Evaluates file steps w w2 a =
-    OfFile module_text file w.files w2.files (Untouched w w2) (λ v. Streams AreBytes (module_course v.kept) steps w.input w2.input w.out w2.out a)
+    OfFile module_text file w.files w2.files (Untouched w w2) (λ v. Streams AreBytes (module_course v.kept) steps w.input w2.input w.out w2.out a) a
 
 -- the script's file is read only where the first is an image
 abbrev pub Watches : List ℕ → List ℕ → World → World → Answer → Type 0

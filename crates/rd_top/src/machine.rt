@@ -32,6 +32,7 @@ fn outcome_of(outcome: MachOutcome) -> Outcome
 
 impl Program for Image {
     ghost reads = { AnyInput };
+
     ghost course = { machine_course };
 
     fn run<I: Source, O: Sink>(

@@ -30,6 +30,7 @@ fn outcome_of(outcome: IrOutcome) -> Outcome
 
 impl Program for Valid {
     ghost reads = { AreBytes };
+
     ghost course = { λ v. module_course v.kept };
 
     fn run<I: Source, O: Sink>(

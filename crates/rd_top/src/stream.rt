@@ -15,6 +15,7 @@ use std::alloc::Global;
 pub trait Program {
     /// The inputs of which the course is that of the run.
     ghost reads: { Row ℕ → Type 0 };
+
     ghost course: { Self → Course };
 
     /// Takes a number of steps from the start, and answers how the run stands then.
