@@ -12,3 +12,7 @@ pub mod PartLaws
 pub mod ActLaws
 pub mod BlockLaws
 pub mod AgreeLaws
+pub mod FirstLaws
+pub mod FillLaws
+pub mod ValidLaws
+pub mod RunLaws

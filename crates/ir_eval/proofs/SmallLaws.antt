@@ -118,9 +118,10 @@ small_module m none built =
     let P = IsSmallMention m.types in
     let kept = limits_kept m none in
     let two = Each_parts P (outside_functions m) (flat_map of_function m.functions) (small_mentions m kept) in
-    let named = (Each_parts P (map (λ (t : NamedTy). OfType t.fields) m.types) (flat_map of_global m.globals ++ flat_map of_extern m.externs) two.0).0 in
+    let outer = Each_parts P (map (λ (t : NamedTy). OfType t.fields) m.types) (flat_map of_global m.globals ++ flat_map of_extern m.externs) two.0 in
     record {
-      fields = small_fields m.types m.types built (each_mapped P (λ (t : NamedTy). OfType t.fields) m.types named);
+      fields = small_fields m.types m.types built (each_mapped P (λ (t : NamedTy). OfType t.fields) m.types outer.0);
+      globals = Each_rows P of_global m.globals (Each_parts P (flat_map of_global m.globals) (flat_map of_extern m.externs) outer.1).0;
       functions = Each_rows P of_function m.functions two.1;
       frames = kept.frames;
     }

@@ -1,1 +1,3 @@
 pub mod Small
+pub mod Outcomes
+pub mod Evaluated

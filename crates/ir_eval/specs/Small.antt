@@ -5,9 +5,10 @@ use Rattle.ir_core.specs.declared.ty.Ty.{Ty, out-Ty}
 use Rattle.ir_core.specs.declared.ty.Ty.TheOpen.{Ty-F}
 use Rattle.ir_core.specs.declared.ty.NamedTy.{NamedTy}
 use Rattle.ir_core.specs.declared.module.Function.{Function}
+use Rattle.ir_core.specs.declared.module.GlobalVar.{GlobalVar}
 use Rattle.ir_core.specs.declared.module.Module.{Module}
 use Rattle.ir_core.specs.Counts.{depth_of, size_count, frame_count}
-use Rattle.ir_core.specs.Mentions.{Mention, OfType, parts_of, of_function}
+use Rattle.ir_core.specs.Mentions.{Mention, OfType, parts_of, of_global, of_function}
 use Rattle.ir_sound.specs.WellTyped.{Each}
 
 -- each type of a row is small
@@ -43,5 +44,6 @@ IsSmallMention types other = Unit {0}
 -- all types in a module are small, and so are the frames of its functions
 pub record IsSmallModule (m : Module) : Type 0 where
   pub fields : FieldsAreSmall m.types m.types
+  pub globals : Each (λ (g : GlobalVar). Each (IsSmallMention m.types) (of_global g)) m.globals
   pub functions : Each (λ (f : Function). Each (IsSmallMention m.types) (of_function f)) m.functions
   pub frames : Each (λ (f : Function). frame_count m.types f ≤ MAX_FRAME) m.functions

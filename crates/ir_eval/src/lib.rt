@@ -1,10 +1,13 @@
-//! The program of a valid module gives, part by part, what the module gives.
+//! Runs of valid modules: how a run stands after so many steps, between a source and a sink.
 //!
-//! The functions below are laws and do nothing. `specs/Small` says of which sizes and depths the types
-//! of a module are, and how large its frames: within the limits, where the module is valid. The sizes
-//! of such types and the places of their fields are told as they are, so that operands, instructions,
-//! phis and ends of blocks with numbers in place of names read and give what those of the module do.
-//! What agrees with what stands in `ir_run`.
+//! `evaluate` has the call, `outcome` how a run can stand. A module becomes a program and the objects
+//! of its globals, and steps of the program are those of the module's meaning. That they are, the
+//! laws below say, which do nothing: the program of a valid module gives, part by part, what the
+//! module gives. `specs/Small` says of which sizes and depths the types of a module are, and how large
+//! its frames: within the limits, where the module is valid. The sizes of such types and the places
+//! of their fields are told as they are, so that operands, instructions, phis and ends of blocks with
+//! numbers in place of names read and give what those of the module do. What agrees with what stands
+//! in `ir_run`.
 #![tactic(auto)]
 
 ghost use Rattle.std.specs.Prelude.{◌≡◌, ◌≤◌, ℕ, List, true};
@@ -21,7 +24,14 @@ ghost use Rattle.ir_core.specs.Typing.{Env, operand_fits, op_fits, term_fits};
 ghost use Rattle.ir_sound.specs.Typed.{IsTyped};
 ghost use Rattle.ir_sound.specs.WellTyped.{Each};
 ghost use Rattle.ir_run.specs.Agreement.{IsReadAs, ActsAs, EndAgrees, Agrees};
+ghost use Rattle.ir_core.specs.Globals.{first_objects};
+ghost use Rattle.ir_globals.specs.Told.{told_objects};
 ghost use Rattle.ir_eval.specs.Small.{FieldsAreSmall, IsSmallMention, IsSmallModule};
+
+pub mod evaluate;
+pub mod outcome;
+
+pub use evaluate::eval;
 
 /// The types of a valid module and the frames of its functions are within the limits.
 pub fn valid_is_small()
@@ -57,4 +67,9 @@ pub fn typed_agrees()
 /// So does that of a valid module.
 pub fn agrees()
     ensures { (m : Module) → IsValid m → Agrees m }
+{}
+
+/// The objects with which a run of a valid module begins are told as they are.
+pub fn first_objects_are_told()
+    ensures { (m : Module) → IsValid m → told_objects m ≡ first_objects m }
 {}

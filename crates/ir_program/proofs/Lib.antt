@@ -1,1 +1,4 @@
 pub mod NumberLaws
+pub mod EntryLaws
+pub mod PhiLaws
+pub mod EdgeLaws

@@ -2,6 +2,8 @@ pub mod Extents
 pub mod Paths
 pub mod Origins
 pub mod Actions
+pub mod Entries
 pub mod Exits
+pub mod Phis
 pub mod Programs
 pub mod Reads

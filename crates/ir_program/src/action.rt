@@ -63,7 +63,7 @@ pub struct Task {
 }
 
 /// The register of a result, where there is one.
-fn into(names: &NameSet, given: &Option<Name>) -> Option<usize>
+pub(crate) fn into(names: &NameSet, given: &Option<Name>) -> Option<usize>
     ensures { result ≡ into_of names.now given.now }
 {
     match given {
@@ -84,15 +84,15 @@ fn moved_by(base: Origin, path: Option<Path>) -> Action
 
 /// The names of a function within those of its module.
 #[derive(Drop)]
-pub struct Resolver<'c, 'a> {
-    pub alloc: Global,
-    pub context: &'c Context<'a>,
-    pub names: &'c NameSet<'a>,
+pub(crate) struct Resolver<'c, 'a> {
+    pub(crate) alloc: Global,
+    pub(crate) context: &'c Context<'a>,
+    pub(crate) names: &'c NameSet<'a>,
 }
 
 impl<'c, 'a> Resolver<'c, 'a> {
     /// An operand of a kind.
-    pub fn origin(&self, kind: Kind, a: &Operand) -> Result<Origin, NoMemory>
+    pub(crate) fn origin(&self, kind: Kind, a: &Operand) -> Result<Origin, NoMemory>
         ensures { IfOk result (λ o. o ≡
             origin_of self.now.context.now self.now.names.now kind a.now) }
     {
@@ -320,7 +320,7 @@ impl<'c, 'a> Resolver<'c, 'a> {
     }
 
     /// Instructions.
-    pub fn tasks(&self, insts: &[Inst]) -> Result<List<Task>, NoMemory>
+    pub(crate) fn tasks(&self, insts: &[Inst]) -> Result<List<Task>, NoMemory>
         ensures { IfOk result (λ l. l ≡
             map (task_of self.now.context.now self.now.names.now) insts.now) }
     {

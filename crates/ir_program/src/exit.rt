@@ -1,18 +1,23 @@
 //! How blocks end, with the edges to other blocks and what their phis take along them.
 
-ghost use Rattle.std.specs.Prelude.{◌≡◌, map, IfOk};
+ghost use Rattle.std.specs.Prelude.{◌≡◌, map, fold, slice_get, IfOk, OnOk};
 ghost use Rattle.rd_num.specs.declared.width.Width.TheVariants.{W1 as OneBit};
+ghost use Rattle.ir_core.specs.declared.instruction.Case.{Case as OneCase};
 ghost use Rattle.ir_core.specs.declared.kind.Kind.TheVariants.{Number as NumberKind};
 ghost use Rattle.ir_core.specs.Kinds.{kind_of};
+ghost use Rattle.ir_core.specs.Typing.{labels_of};
 ghost use Rattle.ir_program.specs.Origins.{origin_of};
-ghost use Rattle.ir_program.specs.Exits.{edge_number, arm_of, exit_of};
+ghost use Rattle.ir_program.specs.Exits.{with_new, no_edge as edge_nowhere, edge_found, edge_to, edge_number, arm_of, exit_of};
+ghost use Rattle.ir_program.specs.Phis.{phi_edge, phis_in};
 
 use crate::action::Resolver;
 use crate::origin::Origin;
+use crate::phi::{Phi, moves_from};
 use ir_core::instruction::{Case, Term};
 use ir_core::kind::Kind;
 use ir_core::names::NameSet;
 use ir_core::operand::Operand;
+use ir_core::scope::Scope;
 use ir_core::ty::{Name, Ty};
 use rd_num::list::List;
 use rd_num::width::{NoMemory, Width};
@@ -52,6 +57,14 @@ pub enum Exit {
     Unreachable,
 }
 
+/// The edges from a block: its label, its function, and the phis with which that one's blocks begin.
+#[derive(Drop)]
+pub(crate) struct Way<'c, 'a> {
+    pub(crate) from: &'c Name,
+    pub(crate) scope: &'c Scope<'a>,
+    pub(crate) rows: &'c List<List<Phi<'a>>>,
+}
+
 /// The number of a label, which is among labels.
 fn number_in(labels: &NameSet, label: &Name) -> usize
     ensures { result ≡ edge_number labels.now label.now }
@@ -60,6 +73,139 @@ fn number_in(labels: &NameSet, label: &Name) -> usize
 }
 
 impl<'c, 'a> Resolver<'c, 'a> {
+    /// An edge to no block.
+    fn no_edge(&self) -> Result<Edge, NoMemory>
+        ensures { IfOk result (λ e. e ≡ edge_nowhere) }
+    {
+        let mut moves = List::new(self.alloc);
+        moves.add(Move {
+            into: None,
+            origin: Origin::Malformed,
+        })?;
+        Ok(Edge {
+            block: 0,
+            next: 0,
+            moves,
+        })
+    }
+
+    /// An edge to a block with these phis.
+    fn edge_with(&self, from: &Name, block: usize, phis: &List<Phi>) -> Result<Edge, NoMemory>
+        ensures { IfOk result (λ e. e ≡ phi_edge from.now block phis.now) }
+    {
+        let moves = moves_from(self.alloc, from, phis.as_slice())?;
+        Ok(Edge {
+            block,
+            next: phis.len(),
+            moves,
+        })
+    }
+
+    /// An edge to the block of a number, where blocks begin with these phis.
+    fn edge_at(&self, way: &Way, k: usize) -> Result<Edge, NoMemory>
+        requires { way.now.rows.now ≡
+            map (phis_in self.now.context.now self.now.names.now) way.now.scope.now.blocks }
+        ensures { IfOk result (λ e. e ≡ edge_found self.now.context.now self.now.names.now
+            way.now.from.now k (slice_get way.now.scope.now.blocks k)) }
+    {
+        match way.rows.get(k) {
+            Some(phis) => self.edge_with(way.from, k, phis),
+            None => self.no_edge(),
+        }
+    }
+
+    /// An edge to a label.
+    fn edge(&self, way: &Way, label: &Name) -> Result<Edge, NoMemory>
+        requires { way.now.rows.now ≡
+            map (phis_in self.now.context.now self.now.names.now) way.now.scope.now.blocks }
+        ensures { IfOk result (λ e. e ≡ edge_to self.now.context.now self.now.names.now
+            way.now.from.now way.now.scope.now.blocks label.now) }
+    {
+        match way.scope.block(label) {
+            Some(k) => self.edge_at(way, k),
+            None => self.no_edge(),
+        }
+    }
+
+    /// Adds the edge to a label that isn't there yet.
+    fn add_edge<'l>(
+        &self,
+        way: &Way,
+        labels: &mut NameSet<'l>,
+        edges: &mut List<Edge>,
+        label: &'l Name,
+    ) -> Result<(), NoMemory>
+        requires rows { way.now.rows.now ≡
+            map (phis_in self.now.context.now self.now.names.now) way.now.scope.now.blocks }
+        requires so_far { edges.old ≡ map (edge_to self.now.context.now self.now.names.now
+            way.now.from.now way.now.scope.now.blocks) labels.old }
+        ensures labels { OnOk result (labels.new ≡ with_new labels.old label.now) }
+        ensures edges { OnOk result (edges.new ≡ map (edge_to self.now.context.now
+            self.now.names.now way.now.from.now way.now.scope.now.blocks) labels.new) }
+    {
+        if labels.add(label)? {
+            let edge = self.edge(way, label)?;
+            edges.add(edge)?;
+        }
+        Ok(())
+    }
+
+    /// Adds the edges to the labels of cases.
+    fn add_cases<'l>(
+        &self,
+        way: &Way,
+        labels: &mut NameSet<'l>,
+        edges: &mut List<Edge>,
+        cases: &'l [Case],
+    ) -> Result<(), NoMemory>
+        requires rows { way.now.rows.now ≡
+            map (phis_in self.now.context.now self.now.names.now) way.now.scope.now.blocks }
+        requires so_far { edges.old ≡ map (edge_to self.now.context.now self.now.names.now
+            way.now.from.now way.now.scope.now.blocks) labels.old }
+        ensures labels { OnOk result (labels.new ≡
+            fold with_new labels.old (map (λ (c : OneCase). c.to) cases.now)) }
+        ensures edges { OnOk result (edges.new ≡ map (edge_to self.now.context.now
+            self.now.names.now way.now.from.now way.now.scope.now.blocks) labels.new) }
+    {
+        for c in cases {
+            self.add_edge(way, labels, edges, &c.to)?;
+        }
+        Ok(())
+    }
+
+    /// Adds the edges to the labels of a terminator.
+    pub(crate) fn add_edges<'l>(
+        &self,
+        way: &Way,
+        labels: &mut NameSet<'l>,
+        edges: &mut List<Edge>,
+        end: &'l Term,
+    ) -> Result<(), NoMemory>
+        requires rows { way.now.rows.now ≡
+            map (phis_in self.now.context.now self.now.names.now) way.now.scope.now.blocks }
+        requires so_far { edges.old ≡ map (edge_to self.now.context.now self.now.names.now
+            way.now.from.now way.now.scope.now.blocks) labels.old }
+        ensures labels { OnOk result (labels.new ≡
+            fold with_new labels.old (labels_of end.now)) }
+        ensures edges { OnOk result (edges.new ≡ map (edge_to self.now.context.now
+            self.now.names.now way.now.from.now way.now.scope.now.blocks) labels.new) }
+    {
+        match end {
+            Term::Ret => Ok(()),
+            Term::RetValue(_, _) => Ok(()),
+            Term::Unreachable => Ok(()),
+            Term::Br(to) => self.add_edge(way, labels, edges, to),
+            Term::BrIf(_, taken, other) => {
+                self.add_edge(way, labels, edges, taken)?;
+                self.add_edge(way, labels, edges, other)
+            }
+            Term::Switch(_, _, default, cases) => {
+                self.add_edge(way, labels, edges, default)?;
+                self.add_cases(way, labels, edges, cases.as_slice())
+            }
+        }
+    }
+
     /// A case.
     fn arm(&self, labels: &NameSet, c: &Case) -> Result<Arm, NoMemory>
         ensures { IfOk result (λ x. x ≡ arm_of self.now.context.now labels.now c.now) }
@@ -121,7 +267,7 @@ impl<'c, 'a> Resolver<'c, 'a> {
     }
 
     /// How a block ends.
-    pub fn exit(&self, labels: &NameSet, end: &Term) -> Result<Exit, NoMemory>
+    pub(crate) fn exit(&self, labels: &NameSet, end: &Term) -> Result<Exit, NoMemory>
         ensures { IfOk result (λ e. e ≡ exit_of self.now.context.now self.now.names.now
             labels.now end.now) }
     {

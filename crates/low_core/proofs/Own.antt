@@ -23,7 +23,7 @@ own_op (Gep ty p indices) = refl
 own_op (Phi ty entries) = refl
 own_op (Call ret callee args) = refl
 
-own_insts : (is : List Inst) → map inst_of (map move_of is) ≡ is
+pub own_insts : (is : List Inst) → map inst_of (map move_of is) ≡ is
 own_insts [] = refl
 own_insts (i ∷ is) = ap (λ (op : Op). record { result = i.result; op = op } ∷ map inst_of (map move_of is)) (own_op i.op) ∙ ap (λ rest. i ∷ rest) (own_insts is)
 

@@ -6,5 +6,6 @@
 //! and `specs/Weights`.
 #![tactic(auto)]
 
+pub mod copies;
 pub mod law;
 pub mod moves;

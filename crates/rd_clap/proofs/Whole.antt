@@ -8,7 +8,7 @@ use Rattle.clap.specs.Simple.{App, Shape, built, built_leaf, entered, inherited,
 use Rattle.clap.specs.Takes.{default_passes, entered_passes, is_valid, level_passes, settle_passes, takes, turn_passes, walk_passes}
 use Rattle.clap.specs.Walk.{Text, Row, Rule, Held, Names, Walk, Waiting, idle, answers_to, finished, is_empty, nothing_held, walk_from, walked}
 use Rattle.rd_words.specs.Arguments.{Argument, File, Given, IsLine, files}
-use Rattle.rd_words.specs.Words.{Reading, Compile, Build, Lay, Run, Show, Watch, Check, Print, IsReading}
+use Rattle.rd_words.specs.Words.{Reading, Compile, Build, Lay, Run, Show, Eval, Watch, Check, Print, IsReading}
 use Rattle.rd_clap.specs.Program.{bare_app, program_app, with_file, with_option, compile_app, build_app}
 use Rattle.rd_clap.proofs.Turns.{between, single}
 use Rattle.rd_clap.proofs.Walks.{AllKnown, HasFile, IsKnown, Walks, args_walk, with_arguments}
@@ -109,6 +109,10 @@ pub show_is : IsCommandOf (codes "show") (leaf (with_option (codes "show") (code
 unfolding clap_on_literals
 show_is = record { walked_to = refl; turn = refl; found = refl; has = record { again = refl; by_index = refl; by_id = refl }; name = refl; bare = refl; defaults = refl; valid = λ rows. refl }
 
+pub eval_is : IsCommandOf (codes "eval") (leaf (with_option (codes "eval") (codes "steps")))
+unfolding clap_on_literals
+eval_is = record { walked_to = refl; turn = refl; found = refl; has = record { again = refl; by_index = refl; by_id = refl }; name = refl; bare = refl; defaults = refl; valid = λ rows. refl }
+
 pub watch_is : IsCommandOf (codes "watch") (leaf (with_option (codes "watch") (codes "script")))
 unfolding clap_on_literals
 watch_is = record { walked_to = refl; turn = refl; found = refl; has = record { again = refl; by_index = refl; by_id = refl }; name = refl; bare = refl; defaults = refl; valid = λ rows. refl }
@@ -136,6 +140,9 @@ run_options = (record { alone = refl; whole = λ v. refl; dashes = refl; dashes_
 pub show_options : KnownOptions (leaf (with_option (codes "show") (codes "steps"))) (codes "--steps" ∷ [])
 show_options = (record { alone = refl; whole = λ v. refl; dashes = refl; dashes_whole = λ v. refl; by_long = refl; by_id = refl }, tt)
 
+pub eval_options : KnownOptions (leaf (with_option (codes "eval") (codes "steps"))) (codes "--steps" ∷ [])
+eval_options = (record { alone = refl; whole = λ v. refl; dashes = refl; dashes_whole = λ v. refl; by_long = refl; by_id = refl }, tt)
+
 pub watch_options : KnownOptions (leaf (with_option (codes "watch") (codes "script"))) (codes "--script" ∷ [])
 watch_options = (record { alone = refl; whole = λ v. refl; dashes = refl; dashes_whole = λ v. refl; by_long = refl; by_id = refl }, tt)
 
@@ -154,6 +161,9 @@ run_apart = (more_apart (codes "--steps") ([]) none_apart refl)
 pub show_apart : AreApart (codes "--steps" ∷ [])
 show_apart = (more_apart (codes "--steps") ([]) none_apart refl)
 
+pub eval_apart : AreApart (codes "--steps" ∷ [])
+eval_apart = (more_apart (codes "--steps") ([]) none_apart refl)
+
 pub watch_apart : AreApart (codes "--script" ∷ [])
 watch_apart = (more_apart (codes "--script") ([]) none_apart refl)
 
@@ -163,6 +173,7 @@ reading_is_taken words (Build file m n k) (a, b, c, h) = line_takes (codes "buil
 reading_is_taken words (Lay file n) (a, h) = line_takes (codes "lay") file _ _ words lay_is h.0 refl lay_apart lay_options
 reading_is_taken words (Run file n) (a, h) = line_takes (codes "run") file _ _ words run_is h.0 refl run_apart run_options
 reading_is_taken words (Show file n) (a, h) = line_takes (codes "show") file _ _ words show_is h.0 refl show_apart show_options
+reading_is_taken words (Eval file n) (a, h) = line_takes (codes "eval") file _ _ words eval_is h.0 refl eval_apart eval_options
 reading_is_taken words (Watch file script) l = line_takes (codes "watch") file _ _ words watch_is l refl watch_apart watch_options
 reading_is_taken words (Check file) l = line_takes (codes "check") file _ _ words check_is l refl none_apart tt
 reading_is_taken words (Print file) l = line_takes (codes "print") file _ _ words print_is l refl none_apart tt

@@ -5,7 +5,7 @@ use Rattle.clap.specs.Walk.{Row, first_of}
 use Rattle.clap.specs.declared.parser.matches.ArgMatches.{ArgMatches}
 use Rattle.rd_words.specs.Arguments.{same}
 use Rattle.rd_words.specs.Read.{FileNumber, ask, ask_file, if_number, with_file, with_one, with_three, with_two}
-use Rattle.rd_words.specs.Words.{Reading, Lay, Run, Show, Check, Print}
+use Rattle.rd_words.specs.Words.{Reading, Lay, Run, Show, Eval, Check, Print}
 
 abbrev pub file_in : List Row → Option (List ℕ)
 file_in rows = first_of (codes "FILE") rows
@@ -34,9 +34,10 @@ command_in command rows =
     (if same command (codes "lay") then ask Lay (file_and_number_in (codes "layout-seed") rows) else
     (if same command (codes "run") then ask Run (file_and_number_in (codes "steps") rows) else
     (if same command (codes "show") then ask Show (file_and_number_in (codes "steps") rows) else
+    (if same command (codes "eval") then ask Eval (file_and_number_in (codes "steps") rows) else
     (if same command (codes "watch") then watch_in rows else
     (if same command (codes "check") then ask_file Check (file_in rows) else
-    (if same command (codes "print") then ask_file Print (file_in rows) else None)))))))
+    (if same command (codes "print") then ask_file Print (file_in rows) else None))))))))
 
 abbrev pub found_in : Option (List ℕ × List Row) → Option Reading
 found_in None = None

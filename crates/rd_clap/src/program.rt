@@ -83,7 +83,8 @@ pub fn program<'a>(alloc: Global) -> Result<Command<'a>, AllocError>
     let with_lay = with_build.subcommand(option_command(alloc, "lay", "layout-seed")?)?;
     let with_run = with_lay.subcommand(option_command(alloc, "run", "steps")?)?;
     let with_show = with_run.subcommand(option_command(alloc, "show", "steps")?)?;
-    let with_watch = with_show.subcommand(option_command(alloc, "watch", "script")?)?;
+    let with_eval = with_show.subcommand(option_command(alloc, "eval", "steps")?)?;
+    let with_watch = with_eval.subcommand(option_command(alloc, "watch", "script")?)?;
     let with_check = with_watch.subcommand(file_command(alloc, "check")?)?;
     let with_print = with_check.subcommand(file_command(alloc, "print")?)?;
     Ok(with_print)

@@ -102,6 +102,10 @@ fn of_command<'a>(command: &str, matches: &ArgMatches<'a>) -> Option<Command<'a>
             let (file, steps) = one_number(matches, "steps")?;
             Some(Command::Show { file, steps })
         }
+        "eval" => {
+            let (file, steps) = one_number(matches, "steps")?;
+            Some(Command::Eval { file, steps })
+        }
         "watch" => watch(matches),
         "check" => {
             let file = file(matches)?;

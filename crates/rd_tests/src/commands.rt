@@ -1,7 +1,8 @@
 //! The top call over files and streams in memory: words, texts, and an outside that fails.
 
+use elf_file::read::read;
 use rd_io::memory::{File, MemFiles, MemSink};
-use rd_io::sure::{SureFiles, SureSink, SureSource};
+use rd_io::sure::{CountSink, SureFiles, SureSink, SureSource};
 use rd_io::{Files, Sink};
 use rd_num::copied::copy_list;
 use rd_num::list::List;
@@ -9,6 +10,8 @@ use rd_num::width::NoMemory;
 use rd_top::top;
 use std::alloc::{AllocError, Global};
 use std::test::Fail;
+use x86_core::image::MachOutcome;
+use xom_machine::machine::Machine;
 
 const SEVEN: &[u8] = b"define i32 @main() {\nret i32 7\n}\n";
 
@@ -206,8 +209,12 @@ fn texts_have_these_lines(rt: HostRuntime) -> Result<(), Fail> {
 }
 
 /// Texts, and what `check` says of them: each refusal, and of two the earlier one.
-const CHECKED: [(&[u8], &[u8]); 19] = [
+const CHECKED: [(&[u8], &[u8]); 20] = [
     (SEVEN, b"valid\n"),
+    (
+        b"declare i32 @f(i32, i32, i32, i32, i32, i32, i32) define i32 @main() { ret i32 7 }",
+        b"valid\n",
+    ),
     (
         b"define i32 @main() { e: br i1 true, label %a, label %b a: %x = add i32 1, 2 br label %c
           b: br label %c c: ret i32 %x }",
@@ -433,6 +440,38 @@ fn modules_become_images_that_run(rt: HostRuntime) -> Result<(), Fail> {
             built.out.as_slice(),
         )?;
         assert!(rt; ran.said.as_slice() == b"ended 227\n".as_slice());
+    }
+    Ok(())
+}
+
+#[test]
+fn two_hundred_machines_live_at_once(rt: HostRuntime) -> Result<(), Fail> {
+    let alloc = rt.alloc();
+    let build = [
+        "build",
+        "m",
+        "--slot-seed",
+        "1",
+        "--reg-seed",
+        "2",
+        "--layout-seed",
+        "3",
+    ];
+    let built = run_surely(alloc, &build, SEVEN)?;
+    let Ok(image) = read(alloc, built.out.as_slice()) else {
+        panic!(rt; "no image");
+    };
+    let mut input = SureSource::new(List::new(alloc));
+    let mut machines = Vec::new(alloc);
+    for _ in 0..200 {
+        let mut machine = Machine::start(alloc, &image)?;
+        let outcome = machine.run(&mut input, &mut CountSink::new(), 4)?;
+        assert!(rt; outcome == MachOutcome::Going);
+        machines.push(machine)?;
+    }
+    for machine in machines.iter_mut() {
+        let outcome = machine.run(&mut input, &mut CountSink::new(), 1000)?;
+        assert!(rt; outcome == MachOutcome::Ended(7));
     }
     Ok(())
 }

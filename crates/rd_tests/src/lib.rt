@@ -2,14 +2,16 @@
 //!
 //! They stand apart from the crates that they are about, since a crate with tests is proved once more
 //! with them. `decoded` is about `x86_decode`, `object_files` and `verified` about `obj_file` and
-//! `obj_check`, `machine` and `watched` about `xom_machine` and `watch_script`, and `commands` about
-//! `rd_top`. Tests of texts stand in `ir_tests`.
+//! `obj_check`, `machine` and `watched` about `xom_machine` and `watch_script`, `commands` and
+//! `evaluated` about `rd_top`. Tests of texts stand in `ir_tests`.
 #![tactic(auto)]
 
 #[cfg(test)]
 mod commands;
 #[cfg(test)]
 mod decoded;
+#[cfg(test)]
+mod evaluated;
 #[cfg(test)]
 mod machine;
 #[cfg(test)]

@@ -2,7 +2,7 @@
 use Rattle.std.proofs.Common.{◌≡◌, ℕ, List, Some, inl, refl, subst, sym}
 use Rattle.rd_words.specs.declared.Command.{Command}
 use Rattle.rd_words.specs.Asked.{asked}
-use Rattle.rd_words.specs.Words.{Reading, IsReading, Compile, Build, Lay, Run, Show, Watch, Check, Print}
+use Rattle.rd_words.specs.Words.{Reading, IsReading, Compile, Build, Lay, Run, Show, Eval, Watch, Check, Print}
 use Rattle.rd_top.specs.declared.answer.Answer.{Answer}
 use Rattle.rd_top.specs.declared.answer.Answer.TheVariants.{Memory}
 use Rattle.rd_top.specs.Commands.{Means}
@@ -21,6 +21,7 @@ unread (Build file slot_seed reg_seed layout_seed) w = (inl (tt, refl), refl)
 unread (Lay file layout_seed) w = (inl (tt, refl), refl)
 unread (Run file steps) w = inl (tt, (refl, refl))
 unread (Show file steps) w = inl (tt, (refl, refl))
+unread (Eval file steps) w = inl (tt, (refl, refl))
 unread (Watch file script) w = inl (tt, (refl, refl))
 
 pub unread_is_done : (words : List (List ℕ)) (w : World) → ((r : Reading) × IsReading words r) → IsDone words w w Memory

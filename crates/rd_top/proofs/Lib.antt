@@ -1,5 +1,6 @@
 pub mod Alike
 pub mod ByCommand
+mod Evaluated
 mod Invalid
 mod Made
 pub mod Runs

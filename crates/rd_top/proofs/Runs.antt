@@ -1,5 +1,5 @@
 -- What the calls of a machine did, as the run of its image tells it.
-use Rattle.std.proofs.Common.{◌≡◌, ℕ, ◌<◌, ◌≤◌, List, [], ◌∷◌, length, Some, Ok, Err, refl, ◌∙◌, sym, ap, subst, inr, arith}
+use Rattle.std.proofs.Common.{◌≡◌, ℕ, ◌<◌, ◌≤◌, ◌⊎◌, List, [], ◌∷◌, length, Some, Ok, Err, refl, ◌∙◌, sym, ap, subst, inl, inr, arith}
 use Rattle.behavior.specs.System.{iter}
 use Rattle.rd_io.specs.Told.{SourceTold, SinkTold}
 use Rattle.rd_io.specs.declared.RunFault.{RunFault}
@@ -15,7 +15,7 @@ use Rattle.watch_script.specs.ShowText.{text_of}
 use Rattle.watch_script.specs.Watching.{run_to}
 use Rattle.rd_top.specs.declared.answer.Outcome.{Outcome}
 use Rattle.rd_top.specs.Answers.{ending_from}
-use Rattle.rd_top.specs.Courses.{IsRun, IsCutByInput, IsCutByOutput, Streams, run_answer}
+use Rattle.rd_top.specs.Courses.{AnyInput, Course, IsRun, IsCutByInput, IsCutByMemory, IsCutByOutput, Streams, WhereRead, run_answer}
 use Rattle.rd_top.specs.Machines.{machine_course, prints_next, takes_next, shown_after}
 use Rattle.rd_top.specs.Reports.{HasTaken, StopsAtInput, StopsWithin, Reported}
 use Rattle.rd_top.specs.World.{WhereTold}
@@ -29,6 +29,12 @@ pub none_taken : (image : Image) (n : ℕ) (input : SourceTold) → WhereTold in
 unfolding machine_course
 none_taken image n input xs e = record { steps = 0; within = omega arith; took = e }
 
+-- memory was wanting after some of the steps
+stopped_before : (course : Course) (n : ℕ) (xs : List ℕ) (input2 : SourceTold) (out out2 : SinkTold) → IsCutByMemory course n xs input2 out out2 ⊎ IsCutByOutput course n xs input2 out out2 →
+    StopsWithin course n xs input2
+stopped_before course n xs input2 out out2 (inl c) = let early : c.steps < n = c.early in record { steps = c.steps; within = omega arith; took = c.reached.left }
+stopped_before course n xs input2 out out2 (inr c) = let early : c.steps < n = c.early in record { steps = c.steps; within = omega arith; took = c.left }
+
 module _ (image : Image) (n : ℕ) (old new : Machine) (starts : (xs : List ℕ) → state_of old xs [] 0 ≡ machine_start image xs) (input input2 : SourceTold) (out out2 : SinkTold) where
   -- the run from the start of the image
   from_start : (xs : List ℕ) (k : ℕ) → iter machine_step k (state_of old xs [] 0) ≡ run_to image xs k
@@ -39,9 +45,9 @@ module _ (image : Image) (n : ℕ) (old new : Machine) (starts : (xs : List ℕ)
   stands took xs e = subst (λ s. Stands s new (streams_told input out) (streams_told input2 out2)) (from_start xs n) (took xs e)
 
   pub ran : (outcome : Outcome) → ending_of new.outcome ≡ ending_from outcome → Took n old new (streams_told input out) (streams_told input2 out2) →
-      WhereTold input (λ xs. IsRun (machine_course image) n xs outcome input2 out out2)
+      WhereRead AnyInput input (λ xs. IsRun (machine_course image) n xs outcome input2 out out2)
   unfolding machine_course
-  ran outcome same took xs e =
+  ran outcome same took xs e any =
       let h = stands took xs e in
       record {
         ending = ap (λ t. t.ending) (sym h.machine) ∙ same;
@@ -92,17 +98,25 @@ module _ (image : Image) (n : ℕ) (old new : Machine) (starts : (xs : List ℕ)
       let c = cut xs e in
       got_part xs c.0 c.1.0 (subst (λ s. IsCut (streams_told input out) (streams_told input2 out2) s new fault.Output) (from_start xs c.0) c.1.1)
 
-  cut_by_memory : CutOff n old new (streams_told input out) (streams_told input2 out2) fault.NoMemory → WhereTold input (λ xs. IsCutByOutput (machine_course image) n xs input2 out out2)
+  -- memory was wanting before the step or, in it, in the sink
+  wanting : (xs : List ℕ) (k : ℕ) → k < n → IsCut (streams_told input out) (streams_told input2 out2) (run_to image xs k) new fault.NoMemory →
+      IsCutByMemory (machine_course image) n xs input2 out out2 ⊎ IsCutByOutput (machine_course image) n xs input2 out out2
+  unfolding machine_course
+  wanting xs k early (inl h) = inl (record { steps = k; early = early; reached = record { left = h.left; written = h.written; total = h.total } })
+  wanting xs k early (inr h) = inr (got_part xs k early h)
+
+  cut_by_memory : CutOff n old new (streams_told input out) (streams_told input2 out2) fault.NoMemory →
+      WhereTold input (λ xs. IsCutByMemory (machine_course image) n xs input2 out out2 ⊎ IsCutByOutput (machine_course image) n xs input2 out out2)
   unfolding CutOff
   cut_by_memory cut xs e =
       let c = cut xs e in
-      got_part xs c.0 c.1.0 (subst (λ s. IsCut (streams_told input out) (streams_told input2 out2) s new fault.NoMemory) (from_start xs c.0) c.1.1)
+      wanting xs c.0 c.1.0 (subst (λ s. IsCut (streams_told input out) (streams_told input2 out2) s new fault.NoMemory) (from_start xs c.0) c.1.1)
 
   -- a run that was cut off
-  pub cut_run : (T : Type 0) (e : RunFault) → Charged {T = T} input input2 out out2 (Err e) → CutOff n old new (streams_told input out) (streams_told input2 out2) e → Streams (machine_course image) n input input2 out out2 (run_answer (Err e))
-  cut_run T fault.Input charged cut = (charged.0, cut_by_input cut)
-  cut_run T fault.Output charged cut = (charged.1, cut_by_output cut)
-  cut_run T fault.NoMemory charged cut = inr (cut_by_memory cut)
+  pub cut_run : (T : Type 0) (e : RunFault) → Charged {T = T} input input2 out out2 (Err e) → CutOff n old new (streams_told input out) (streams_told input2 out2) e → Streams AnyInput (machine_course image) n input input2 out out2 (run_answer (Err e))
+  cut_run T fault.Input charged cut = (charged.0, λ xs e any. cut_by_input cut xs e)
+  cut_run T fault.Output charged cut = (charged.1, λ xs e any. cut_by_output cut xs e)
+  cut_run T fault.NoMemory charged cut = inr (λ xs e any. cut_by_memory cut xs e)
 
   -- the text of the machine is that of where it stands
   pub seen_then : (text : List ℕ) → Took n old new (streams_told input out) (streams_told input2 out2) → ((left printed : List ℕ) (taken : ℕ) → text ≡ text_of (observe (state_of new left printed taken))) →
@@ -123,5 +137,4 @@ module _ (image : Image) (n : ℕ) (old new : Machine) (starts : (xs : List ℕ)
   cut_report T fault.Input text_on none charged cut =
       (charged.0, λ xs e. let c = cut_by_input cut xs e in record { steps = c.steps; early = c.early; asks = c.asks; took = c.reached.left })
   cut_report T fault.Output text_on none charged cut = omega (arith, charged.1, none)
-  cut_report T fault.NoMemory text_on none charged cut =
-      λ xs e. let c = cut_by_memory cut xs e in let early : c.steps < n = c.early in record { steps = c.steps; within = omega arith; took = c.left }
+  cut_report T fault.NoMemory text_on none charged cut = λ xs e. stopped_before (machine_course image) n xs input2 out out2 (cut_by_memory cut xs e)

@@ -4,14 +4,17 @@ use Rattle.behavior.specs.Ending.{Ending}
 use Rattle.behavior.specs.Ending as ending
 use Rattle.obj_check.specs.declared.fault.ShapeSpot.{ShapeSpot}
 use Rattle.obj_check.specs.declared.fault.ShapeSpot.TheVariants.{Whole, Function, Slot}
+use Rattle.ir_core.specs.declared.memory.Reason.{Reason}
+use Rattle.ir_core.specs.declared.memory.Reason.TheVariants.{Bounds, Dead, Constant, Unset, Mixed, Order, Equal, Callee, Overlap, Gep}
+use Rattle.ir_core.specs.Stops.{reason_number}
 use Rattle.ir_core.specs.declared.limit.Limit.{Limit}
 use Rattle.ir_core.specs.declared.limit.Limit.TheVariants as limit
 use Rattle.ir_core.specs.declared.limit.Spot.{Spot}
 use Rattle.ir_core.specs.declared.limit.Spot.TheVariants as spot
 use Rattle.rd_top.specs.declared.answer.Outcome.{Outcome}
-use Rattle.rd_top.specs.declared.answer.Outcome.TheVariants.{Ended, Trapped, Going, Stopped}
+use Rattle.rd_top.specs.declared.answer.Outcome.TheVariants.{Ended, Trapped, Going, Stopped, Left}
 use Rattle.rd_top.specs.declared.answer.Trap.{Trap}
-use Rattle.rd_top.specs.declared.answer.Trap.TheVariants.{Divide, Invalid, Breakpoint}
+use Rattle.rd_top.specs.declared.answer.Trap.TheVariants.{Divide, Invalid, Breakpoint, Unreachable, Depth}
 use Rattle.rd_top.specs.declared.answer.Stop.{Stop}
 use Rattle.rd_top.specs.declared.answer.Stop.TheVariants.{PageFault, NoForm, NoFlag, BadCall}
 use Rattle.rd_top.specs.declared.answer.Refusal.{Refusal}
@@ -35,6 +38,7 @@ outcome_number (Ended status) = 0
 outcome_number (Trapped trap) = 20
 outcome_number Going = 21
 outcome_number (Stopped stop) = 22
+outcome_number (Left reason) = 23
 
 abbrev pub status_number : Answer → ℕ
 status_number Done = 0
@@ -54,22 +58,41 @@ ending_from (Ended status) = ending.Ended status
 ending_from (Trapped Divide) = ending.Divide
 ending_from (Trapped Invalid) = ending.Invalid
 ending_from (Trapped Breakpoint) = ending.Breakpoint
+ending_from (Trapped Unreachable) = ending.Trap
+ending_from (Trapped Depth) = ending.Depth
 ending_from Going = ending.Going
 ending_from (Stopped PageFault) = ending.PageFault
 ending_from (Stopped NoForm) = ending.NoForm
 ending_from (Stopped NoFlag) = ending.NoFlag
 ending_from (Stopped BadCall) = ending.BadCall
+ending_from (Left reason) = ending.Left (reason_number reason)
+
+-- why a meaning claims nothing
+abbrev pub left_text : Reason → List ℕ
+left_text Bounds = codes "left bounds\n"
+left_text Dead = codes "left dead\n"
+left_text Constant = codes "left constant\n"
+left_text Unset = codes "left unset\n"
+left_text Mixed = codes "left mixed\n"
+left_text Order = codes "left order\n"
+left_text Equal = codes "left equal\n"
+left_text Callee = codes "left callee\n"
+left_text Overlap = codes "left overlap\n"
+left_text Gep = codes "left gep\n"
 
 abbrev pub outcome_text : Outcome → List ℕ
 outcome_text (Ended status) = codes "ended " ++ decimal status ++ 10 ∷ []
 outcome_text (Trapped Divide) = codes "trapped divide\n"
 outcome_text (Trapped Invalid) = codes "trapped invalid\n"
 outcome_text (Trapped Breakpoint) = codes "trapped breakpoint\n"
+outcome_text (Trapped Unreachable) = codes "trapped trap\n"
+outcome_text (Trapped Depth) = codes "trapped depth\n"
 outcome_text Going = codes "going\n"
 outcome_text (Stopped PageFault) = codes "stopped pagefault\n"
 outcome_text (Stopped NoForm) = codes "stopped noform\n"
 outcome_text (Stopped NoFlag) = codes "stopped noflag\n"
 outcome_text (Stopped BadCall) = codes "stopped badcall\n"
+outcome_text (Left reason) = left_text reason
 
 abbrev pub spot_word : ShapeSpot → List ℕ
 spot_word Whole = codes " whole "

@@ -1,5 +1,6 @@
 -- What each command does to the outside: its files one after another, and then its work.
 use Rattle.std.specs.Prelude.{◌≡◌, ℕ, List, Option, Some, None}
+use Rattle.behavior.specs.Moment.{AreBytes}
 use Rattle.rd_io.specs.Told.{FilesTold, SinkTold}
 use Rattle.watch_script.specs.Events.{last_after}
 use Rattle.rd_top.specs.declared.answer.Answer.{Answer}
@@ -7,12 +8,13 @@ use Rattle.rd_top.specs.declared.answer.Answer.TheVariants.{Words, Valid}
 use Rattle.rd_top.specs.Files.{OfFile}
 use Rattle.rd_top.specs.Kinds.{module_text, narrow_text, object_file, image_file, script_file}
 use Rattle.rd_top.specs.Puts.{Writes}
-use Rattle.rd_top.specs.Courses.{Streams}
+use Rattle.rd_top.specs.Courses.{AnyInput, Streams}
 use Rattle.rd_top.specs.Reports.{Reports}
 use Rattle.rd_top.specs.Making.{IsPrinted, IsObjectFor, IsImageFor, IsLaid}
 use Rattle.rd_top.specs.Machines.{machine_course, shown_after, report_on}
+use Rattle.rd_top.specs.Modules.{module_course}
 use Rattle.rd_top.specs.World.{World}
-use Rattle.rd_words.specs.Words.{Reading, Check, Print, Compile, Build, Lay, Run, Show, Watch}
+use Rattle.rd_words.specs.Words.{Reading, Check, Print, Compile, Build, Lay, Run, Show, Eval, Watch}
 
 -- nothing was taken, and nothing was put
 abbrev pub Untouched : World → World → Type 0
@@ -38,12 +40,16 @@ Lays file layout_seed files files2 out out2 a =
 
 abbrev pub Runs : List ℕ → ℕ → World → World → Answer → Type 0
 Runs file steps w w2 a =
-    OfFile image_file file w.files w2.files (Untouched w w2) (λ image. Streams (machine_course image) steps w.input w2.input w.out w2.out a) a
+    OfFile image_file file w.files w2.files (Untouched w w2) (λ image. Streams AnyInput (machine_course image) steps w.input w2.input w.out w2.out a) a
 
 abbrev pub Shows : List ℕ → ℕ → World → World → Answer → Type 0
 Shows file steps w w2 a =
     OfFile image_file file w.files w2.files (Untouched w w2) (λ image.
     Reports (machine_course image) steps (shown_after image steps) w.input w2.input w.out w2.out a) a
+
+abbrev pub Evaluates : List ℕ → ℕ → World → World → Answer → Type 0
+Evaluates file steps w w2 a =
+    OfFile module_text file w.files w2.files (Untouched w w2) (λ v. Streams AreBytes (module_course v.kept) steps w.input w2.input w.out w2.out a) a
 
 -- the script's file is read only where the first is an image
 abbrev pub Watches : List ℕ → List ℕ → World → World → Answer → Type 0
@@ -62,4 +68,5 @@ Means (Some (Build file slot_seed reg_seed layout_seed)) w w2 a = Builds file sl
 Means (Some (Lay file layout_seed)) w w2 a = Lays file layout_seed w.files w2.files w.out w2.out a × (w2.input ≡ w.input)
 Means (Some (Run file steps)) w w2 a = Runs file steps w w2 a
 Means (Some (Show file steps)) w w2 a = Shows file steps w w2 a
+Means (Some (Eval file steps)) w w2 a = Evaluates file steps w w2 a
 Means (Some (Watch file script)) w w2 a = Watches file script w w2 a

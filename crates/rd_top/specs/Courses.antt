@@ -56,6 +56,20 @@ pub record IsCutByOutput (course : Course) (n : ℕ) (xs : List ℕ) (input2 : S
   pub few : count ≤ length (course xs steps).prints
   pub total : Counts out.total out2.total (length (course xs steps).printed + count)
 
+-- memory was wanting for a step, of which nothing was done, and all before was done
+pub record IsCutByMemory (course : Course) (n : ℕ) (xs : List ℕ) (input2 : SourceTold) (out out2 : SinkTold) : Type 0 where
+  pub steps : ℕ
+  pub early : steps < n
+  pub reached : Reached (course xs steps) input2 out out2
+
+-- every input
+abbrev pub AnyInput : List ℕ → Type 0
+AnyInput xs = Unit {0}
+
+-- what holds of the input, where it is told and is one of which the run is known
+abbrev pub WhereRead : (List ℕ → Type 0) → SourceTold → (List ℕ → Type 0) → Type 0
+WhereRead Reads input Holds = WhereTold input (λ xs. Reads xs → Holds xs)
+
 -- the answer of a run that reached its end, or of its fault
 abbrev pub run_answer : Result Outcome RunFault → Answer
 run_answer (Ok outcome) = Ran outcome
@@ -64,9 +78,10 @@ run_answer (Err fault.Output) = Out
 run_answer (Err fault.NoMemory) = Memory
 
 -- what each answer says of a run whose output comes out as it is printed
-abbrev pub Streams : Course → ℕ → SourceTold → SourceTold → SinkTold → SinkTold → Answer → Type 0
-Streams course n input input2 out out2 (Ran outcome) = WhereTold input (λ xs. IsRun course n xs outcome input2 out out2)
-Streams course n input input2 out out2 Input = Rose input.faults input2.faults × WhereTold input (λ xs. IsCutByInput course n xs input2 out out2)
-Streams course n input input2 out out2 Out = Rose out.faults out2.faults × WhereTold input (λ xs. IsCutByOutput course n xs input2 out out2)
-Streams course n input input2 out out2 Memory = ((input2 ≡ input) × (out2 ≡ out)) ⊎ WhereTold input (λ xs. IsCutByOutput course n xs input2 out out2)
-Streams course n input input2 out out2 other = ⊥
+abbrev pub Streams : (List ℕ → Type 0) → Course → ℕ → SourceTold → SourceTold → SinkTold → SinkTold → Answer → Type 0
+Streams Reads course n input input2 out out2 (Ran outcome) = WhereRead Reads input (λ xs. IsRun course n xs outcome input2 out out2)
+Streams Reads course n input input2 out out2 Input = Rose input.faults input2.faults × WhereRead Reads input (λ xs. IsCutByInput course n xs input2 out out2)
+Streams Reads course n input input2 out out2 Out = Rose out.faults out2.faults × WhereRead Reads input (λ xs. IsCutByOutput course n xs input2 out out2)
+Streams Reads course n input input2 out out2 Memory =
+    ((input2 ≡ input) × (out2 ≡ out)) ⊎ WhereRead Reads input (λ xs. IsCutByMemory course n xs input2 out out2 ⊎ IsCutByOutput course n xs input2 out out2)
+Streams Reads course n input input2 out out2 other = ⊥

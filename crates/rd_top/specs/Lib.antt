@@ -6,6 +6,7 @@ pub mod Hiding
 pub mod Kinds
 pub mod Machines
 pub mod Making
+pub mod Modules
 pub mod Program
 pub mod Puts
 pub mod Reports

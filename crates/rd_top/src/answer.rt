@@ -8,6 +8,7 @@ ghost use Rattle.std.specs.Prelude.{◌≡◌};
 ghost use Rattle.rd_top.specs.Answers.{status_number, refusal_number, outcome_number};
 
 use ir_core::limit::{Limit, Spot};
+use ir_core::memory::Reason;
 use ir_core::ty::Name;
 use obj_check::fault::ShapeSpot;
 
@@ -42,6 +43,8 @@ pub enum Outcome {
     Trapped(Trap),
     Going,
     Stopped(Stop),
+    /// A module came to where its meaning claims nothing.
+    Left(Reason),
 }
 
 /// What a program may come to by itself.
@@ -50,6 +53,10 @@ pub enum Trap {
     Divide,
     Invalid,
     Breakpoint,
+    /// A module came to `unreachable` or `llvm.trap`.
+    Unreachable,
+    /// A module called too deep.
+    Depth,
 }
 
 /// What no compiled program comes to.
@@ -131,6 +138,7 @@ fn outcome_status(outcome: Outcome) -> u8
         Outcome::Trapped(_) => 20,
         Outcome::Going => 21,
         Outcome::Stopped(_) => 22,
+        Outcome::Left(_) => 23,
     }
 }
 

@@ -3,7 +3,7 @@
 //! A command puts nothing on the sink for messages. What each does to the outside stands in
 //! `specs/Commands.antt`; a further command is one more function here.
 
-ghost use Rattle.rd_top.specs.Commands.{Builds, Checks, Compiles, Lays, Prints, Runs, Shows, Watches};
+ghost use Rattle.rd_top.specs.Commands.{Builds, Checks, Compiles, Evaluates, Lays, Prints, Runs, Shows, Watches};
 ghost use Rattle.rd_top.specs.World.{KeepsCounts, KeepsFiles, KeepsOut, world};
 
 use crate::answer::Answer;
@@ -168,6 +168,28 @@ pub fn show_file<F: Files, I: Source, O: Sink>(
         Err(answer) => return answer,
     };
     put_report(seen_after(alloc, &image, steps, input), out)
+}
+
+/// `eval`: takes the module in a file for at most so many steps of its meaning.
+pub fn eval_file<F: Files, I: Source, O: Sink>(
+    alloc: Global,
+    file: &str,
+    steps: u64,
+    files: &mut F,
+    input: &mut I,
+    out: &mut O,
+) -> Answer
+    ensures means { Evaluates file.now steps
+        (world (F.told files.old) (I.told input.old) (O.told out.old))
+        (world (F.told files.new) (I.told input.new) (O.told out.new)) result }
+    ensures keeps { KeepsCounts (world (F.told files.old) (I.told input.old) (O.told out.old))
+        (world (F.told files.new) (I.told input.new) (O.told out.new)) result }
+{
+    let module: Valid = match read_file(alloc, file, files) {
+        Ok(module) => module,
+        Err(answer) => return answer,
+    };
+    stream(alloc, &module, steps, input, out)
 }
 
 /// `watch`: writes the report on the reads of the script in one file of the image in another.

@@ -7,6 +7,7 @@
 //!     read_main lay FILE --layout-seed N
 //!     read_main run FILE --steps N
 //!     read_main show FILE --steps N
+//!     read_main eval FILE --steps N
 //!     read_main watch FILE --script FILE
 //!
 //! `rd_clap` reads the command line and `commands` does the work: over `file`, which reads a file of a
@@ -24,7 +25,8 @@ ghost use Rattle.rd_top.specs.World.{KeepsCounts, world};
 
 use answer::{Answer, status};
 use commands::{
-    build_file, check_file, compile_file, lay_file, print_file, run_file, show_file, watch_file,
+    build_file, check_file, compile_file, eval_file, lay_file, print_file, run_file, show_file,
+    watch_file,
 };
 use lines::line;
 use rd_clap::read_line;
@@ -40,6 +42,7 @@ pub mod law;
 pub mod lines;
 pub mod machine;
 pub mod making;
+pub mod meaning;
 pub mod put;
 pub mod report;
 pub mod stream;
@@ -75,6 +78,7 @@ fn work<F: Files, I: Source, O: Sink>(
         Command::Lay { file, layout_seed } => lay_file(alloc, file, layout_seed, files, out),
         Command::Run { file, steps } => run_file(alloc, file, steps, files, input, out),
         Command::Show { file, steps } => show_file(alloc, file, steps, files, input, out),
+        Command::Eval { file, steps } => eval_file(alloc, file, steps, files, input, out),
         Command::Watch { file, script } => watch_file(alloc, file, script, files, input, out),
     }
 }

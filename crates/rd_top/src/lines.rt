@@ -4,10 +4,11 @@
 //! they are stands in `specs/Answers.antt`; for people, in docs/command-line.md, "Statuses".
 
 ghost use Rattle.std.specs.Prelude.{◌≡◌, ◌≢◌, ◌∷◌, ◌++◌, [], IfOk, OnOk, OnErr, decimal};
-ghost use Rattle.rd_top.specs.Answers.{line_of, outcome_text, refusal_text, module_fault_text, unsupported_text, named_text, limit_word, type_text, shape_text, spot_word, spot_number};
+ghost use Rattle.rd_top.specs.Answers.{left_text, line_of, outcome_text, refusal_text, module_fault_text, unsupported_text, named_text, limit_word, type_text, shape_text, spot_word, spot_number};
 
 use crate::answer::{Answer, ModuleFault, ObjectFault, Outcome, Refusal, Stop, Trap};
 use ir_core::limit::{Limit, Spot};
+use ir_core::memory::Reason;
 use ir_core::ty::Name;
 use itoa::Buffer;
 use obj_check::fault::ShapeSpot;
@@ -148,6 +149,24 @@ fn module_line(alloc: Global, fault: &ModuleFault) -> Result<List<u8>, NoMemory>
     }
 }
 
+/// The line of a reason for which a meaning claims nothing.
+fn left_line(alloc: Global, reason: Reason) -> Result<List<u8>, NoMemory>
+    ensures { IfOk result (λ l. l ≡ left_text reason) }
+{
+    match reason {
+        Reason::Bounds => copy_list(alloc, b"left bounds\n"),
+        Reason::Dead => copy_list(alloc, b"left dead\n"),
+        Reason::Constant => copy_list(alloc, b"left constant\n"),
+        Reason::Unset => copy_list(alloc, b"left unset\n"),
+        Reason::Mixed => copy_list(alloc, b"left mixed\n"),
+        Reason::Order => copy_list(alloc, b"left order\n"),
+        Reason::Equal => copy_list(alloc, b"left equal\n"),
+        Reason::Callee => copy_list(alloc, b"left callee\n"),
+        Reason::Overlap => copy_list(alloc, b"left overlap\n"),
+        Reason::Gep => copy_list(alloc, b"left gep\n"),
+    }
+}
+
 /// The line of an outcome.
 fn outcome_line(alloc: Global, outcome: Outcome) -> Result<List<u8>, NoMemory>
     ensures { IfOk result (λ l. l ≡ outcome_text outcome) }
@@ -157,11 +176,14 @@ fn outcome_line(alloc: Global, outcome: Outcome) -> Result<List<u8>, NoMemory>
         Outcome::Trapped(Trap::Divide) => copy_list(alloc, b"trapped divide\n"),
         Outcome::Trapped(Trap::Invalid) => copy_list(alloc, b"trapped invalid\n"),
         Outcome::Trapped(Trap::Breakpoint) => copy_list(alloc, b"trapped breakpoint\n"),
+        Outcome::Trapped(Trap::Unreachable) => copy_list(alloc, b"trapped trap\n"),
+        Outcome::Trapped(Trap::Depth) => copy_list(alloc, b"trapped depth\n"),
         Outcome::Going => copy_list(alloc, b"going\n"),
         Outcome::Stopped(Stop::PageFault) => copy_list(alloc, b"stopped pagefault\n"),
         Outcome::Stopped(Stop::NoForm) => copy_list(alloc, b"stopped noform\n"),
         Outcome::Stopped(Stop::NoFlag) => copy_list(alloc, b"stopped noflag\n"),
         Outcome::Stopped(Stop::BadCall) => copy_list(alloc, b"stopped badcall\n"),
+        Outcome::Left(reason) => left_line(alloc, reason),
     }
 }
 

@@ -3,6 +3,7 @@
 ghost use Rattle.std.specs.Prelude.{◌≡◌};
 ghost use Rattle.xom_machine.specs.Standing.{ending_of};
 ghost use Rattle.rd_top.specs.Answers.{ending_from};
+ghost use Rattle.rd_top.specs.Courses.{AnyInput};
 ghost use Rattle.rd_top.specs.Machines.{machine_course};
 
 use crate::answer::{Outcome, Stop, Trap};
@@ -30,6 +31,8 @@ fn outcome_of(outcome: MachOutcome) -> Outcome
 }
 
 impl Program for Image {
+    ghost reads = { AnyInput };
+
     ghost course = { machine_course };
 
     fn run<I: Source, O: Sink>(

@@ -1,9 +1,9 @@
 //! Streaming a run: the output comes out as it is printed, and the answer is how the run stands.
 //!
-//! `Program` is what runs: today the machine of an image, in `machine`. What a run is, and what each
-//! answer says of one, stands in `specs/Courses.antt`.
+//! `Program` is what runs: the machine of an image, in `machine`, or a module by its meaning, in
+//! `meaning`. What a run is, and what each answer says of one, stands in `specs/Courses.antt`.
 
-ghost use Rattle.std.specs.Prelude.{◌≡◌};
+ghost use Rattle.std.specs.Prelude.{◌≡◌, ℕ, List as Row};
 ghost use Rattle.rd_top.specs.Courses.{Course, Streams, run_answer};
 ghost use Rattle.rd_top.specs.World.{KeepsInput, KeepsOut};
 
@@ -13,6 +13,9 @@ use std::alloc::Global;
 
 /// What runs over an input and an output, step by step.
 pub trait Program {
+    /// The inputs of which the course is that of the run.
+    ghost reads: { Row ℕ → Type 0 };
+
     ghost course: { Self → Course };
 
     /// Takes a number of steps from the start, and answers how the run stands then.
@@ -23,8 +26,8 @@ pub trait Program {
         input: &mut I,
         out: &mut O,
     ) -> Result<Outcome, RunFault>
-        ensures streams { Streams (course self.now) steps (I.told input.old) (I.told input.new)
-            (O.told out.old) (O.told out.new) (run_answer result) }
+        ensures streams { Streams reads (course self.now) steps (I.told input.old)
+            (I.told input.new) (O.told out.old) (O.told out.new) (run_answer result) }
         ensures input { KeepsInput (I.told input.old) (I.told input.new) (run_answer result) }
         ensures out { KeepsOut (O.told out.old) (O.told out.new) (run_answer result) };
 }
@@ -49,8 +52,8 @@ pub fn stream<P: Program, I: Source, O: Sink>(
     input: &mut I,
     out: &mut O,
 ) -> Answer
-    ensures streams { Streams (P.course program.now) steps (I.told input.old) (I.told input.new)
-        (O.told out.old) (O.told out.new) result }
+    ensures streams { Streams P.reads (P.course program.now) steps (I.told input.old)
+        (I.told input.new) (O.told out.old) (O.told out.new) result }
     ensures input { KeepsInput (I.told input.old) (I.told input.new) result }
     ensures out { KeepsOut (O.told out.old) (O.told out.new) result }
 {

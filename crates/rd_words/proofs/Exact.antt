@@ -5,7 +5,7 @@ use Rattle.std.specs.Cmp.Lexicographic.{same_text}
 use Rattle.std.proofs.lemmas.Bool.{eqb-true}
 use Rattle.std.proofs.lemmas.Bool.Decides.{nat_tests}
 use Rattle.rd_words.specs.Arguments.{Argument, File, Given, same, files, values, IsLine}
-use Rattle.rd_words.specs.Words.{Reading, Compile, Build, Lay, Run, Show, Watch, Check, Print, number_of, IsReading, IsReadingOf}
+use Rattle.rd_words.specs.Words.{Reading, Compile, Build, Lay, Run, Show, Eval, Watch, Check, Print, number_of, IsReading, IsReadingOf}
 use Rattle.rd_words.specs.Read.{arguments_of, only, file_behind, value_behind, count_behind, if_number, are, FileNumber, with_one, with_two, with_three, with_file, file_and_number, ask, file_alone, ask_file, by_command, reading_of}
 use Rattle.rd_words.proofs.Parts.{arguments_are, arguments_back}
 
@@ -205,6 +205,12 @@ module _ (rest : List (List ℕ)) (r : Reading) where
       let l = one_line rest (codes "show") (codes "--steps") (arguments_of rest) x.0 refl x.1 in
       subst (IsReading (codes "show" ∷ rest)) x.2 (l.word, (l.line, l.number))
 
+  eval_is : ask Eval (file_and_number (codes "--steps") rest) ≡ Some r → IsReading (codes "eval" ∷ rest) r
+  eval_is k =
+      let x = asked_is Eval (file_and_number (codes "--steps") rest) r k in
+      let l = one_line rest (codes "eval") (codes "--steps") (arguments_of rest) x.0 refl x.1 in
+      subst (IsReading (codes "eval" ∷ rest)) x.2 (l.word, (l.line, l.number))
+
   check_is : ask_file Check (file_alone rest) ≡ Some r → IsReading (codes "check" ∷ rest) r
   check_is k =
       let x = file_asked Check (file_alone rest) r k in
@@ -222,9 +228,10 @@ command_is command rest r h =
     chosen command (codes "lay") rest _ _ r h2 (lay_is rest r) (λ h3.
     chosen command (codes "run") rest _ _ r h3 (run_is rest r) (λ h4.
     chosen command (codes "show") rest _ _ r h4 (show_is rest r) (λ h5.
-    chosen command (codes "watch") rest _ _ r h5 (watch_is rest (arguments_of rest) r refl) (λ h6.
-    chosen command (codes "check") rest _ _ r h6 (check_is rest r) (λ h7.
-    chosen command (codes "print") rest _ _ r h7 (print_is rest r) (λ h8. absurd (cc)))))))))
+    chosen command (codes "eval") rest _ _ r h5 (eval_is rest r) (λ h6.
+    chosen command (codes "watch") rest _ _ r h6 (watch_is rest (arguments_of rest) r refl) (λ h7.
+    chosen command (codes "check") rest _ _ r h7 (check_is rest r) (λ h8.
+    chosen command (codes "print") rest _ _ r h8 (print_is rest r) (λ h9. absurd (cc))))))))))
 
 reading_is : (words : List (List ℕ)) (r : Reading) → reading_of words ≡ Some r → IsReading words r
 reading_is [] r h = absurd (cc)
@@ -271,6 +278,7 @@ reading_back words (Build file m n k) (a, b, c, h) =
 reading_back words (Lay file n) (a, h) = ap reading_of h.0.command_first ∙ ap (ask Lay) (one_back words (codes "lay") (codes "--layout-seed") file a n h.0 h.1)
 reading_back words (Run file n) (a, h) = ap reading_of h.0.command_first ∙ ap (ask Run) (one_back words (codes "run") (codes "--steps") file a n h.0 h.1)
 reading_back words (Show file n) (a, h) = ap reading_of h.0.command_first ∙ ap (ask Show) (one_back words (codes "show") (codes "--steps") file a n h.0 h.1)
+reading_back words (Eval file n) (a, h) = ap reading_of h.0.command_first ∙ ap (ask Eval) (one_back words (codes "eval") (codes "--steps") file a n h.0 h.1)
 reading_back words (Watch file script) l =
     ap reading_of l.command_first ∙
     (ap (λ o. if are (count_behind 0 o) 2 then with_file (file_behind [] o) (value_behind (codes "--script") [] o) else None) (arguments_back l.args l.others l.spelled) ∙

@@ -2,7 +2,7 @@
 use Rattle.std.specs.Prelude.{Option, Some, None}
 use Rattle.rd_words.specs.declared.Command.{Command}
 use Rattle.rd_words.specs.declared.Command.TheVariants as command
-use Rattle.rd_words.specs.Words.{Reading, Compile, Build, Lay, Run, Show, Watch, Check, Print}
+use Rattle.rd_words.specs.Words.{Reading, Compile, Build, Lay, Run, Show, Eval, Watch, Check, Print}
 
 abbrev pub asked : Command → Reading
 asked (command.Compile file slot_seed reg_seed) = Compile file.now slot_seed reg_seed
@@ -10,6 +10,7 @@ asked (command.Build file slot_seed reg_seed layout_seed) = Build file.now slot_
 asked (command.Lay file layout_seed) = Lay file.now layout_seed
 asked (command.Run file steps) = Run file.now steps
 asked (command.Show file steps) = Show file.now steps
+asked (command.Eval file steps) = Eval file.now steps
 asked (command.Watch file script) = Watch file.now script.now
 asked (command.Check file) = Check file.now
 asked (command.Print file) = Print file.now

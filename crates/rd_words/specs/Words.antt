@@ -10,6 +10,7 @@ pub data Reading : Type 0 where
   Lay : (file : List ℕ) → (layout_seed : ℕ) → Reading
   Run : (file : List ℕ) → (steps : ℕ) → Reading
   Show : (file : List ℕ) → (steps : ℕ) → Reading
+  Eval : (file : List ℕ) → (steps : ℕ) → Reading
   Watch : (file : List ℕ) → (script : List ℕ) → Reading
   Check : (file : List ℕ) → Reading
   Print : (file : List ℕ) → Reading
@@ -27,6 +28,7 @@ IsReading words (Build file slot_seed reg_seed layout_seed) =
 IsReading words (Lay file layout_seed) = (a : List ℕ) × (IsLine words (codes "lay") (File file ∷ Given (codes "--layout-seed") a ∷ []) × (number_of a ≡ Some layout_seed))
 IsReading words (Run file steps) = (a : List ℕ) × (IsLine words (codes "run") (File file ∷ Given (codes "--steps") a ∷ []) × (number_of a ≡ Some steps))
 IsReading words (Show file steps) = (a : List ℕ) × (IsLine words (codes "show") (File file ∷ Given (codes "--steps") a ∷ []) × (number_of a ≡ Some steps))
+IsReading words (Eval file steps) = (a : List ℕ) × (IsLine words (codes "eval") (File file ∷ Given (codes "--steps") a ∷ []) × (number_of a ≡ Some steps))
 IsReading words (Watch file script) = IsLine words (codes "watch") (File file ∷ Given (codes "--script") script ∷ [])
 IsReading words (Check file) = IsLine words (codes "check") (File file ∷ [])
 IsReading words (Print file) = IsLine words (codes "print") (File file ∷ [])

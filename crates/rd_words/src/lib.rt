@@ -48,6 +48,10 @@ pub enum Command<'a> {
         file: &'a str,
         steps: u64,
     },
+    Eval {
+        file: &'a str,
+        steps: u64,
+    },
     Watch {
         file: &'a str,
         script: &'a str,
@@ -159,6 +163,10 @@ fn of_command<'a>(command: &str, words: &'a [String]) -> Option<Command<'a>>
         "show" => {
             let (file, steps) = one_number(words, "--steps")?;
             Some(Command::Show { file, steps })
+        }
+        "eval" => {
+            let (file, steps) = one_number(words, "--steps")?;
+            Some(Command::Eval { file, steps })
         }
         "watch" => watch(words),
         "check" => {

@@ -1,4 +1,4 @@
-//! Fifty command lines and what they ask for. The words of a line stand between bars.
+//! Command lines and what they ask for. The words of a line stand between bars.
 
 use crate::{Command, read_words};
 use std::alloc::{AllocError, Global};
@@ -30,6 +30,7 @@ fn told(alloc: Global, line: &str) -> Result<String, AllocError> {
         Some(Command::Lay { file, layout_seed }) => format!(in alloc; "lay {file} {layout_seed}"),
         Some(Command::Run { file, steps }) => format!(in alloc; "run {file} {steps}"),
         Some(Command::Show { file, steps }) => format!(in alloc; "show {file} {steps}"),
+        Some(Command::Eval { file, steps }) => format!(in alloc; "eval {file} {steps}"),
         Some(Command::Watch { file, script }) => format!(in alloc; "watch {file} {script}"),
         Some(Command::Check { file }) => format!(in alloc; "check {file}"),
         Some(Command::Print { file }) => format!(in alloc; "print {file}"),
@@ -38,7 +39,7 @@ fn told(alloc: Global, line: &str) -> Result<String, AllocError> {
 }
 
 #[rattlefmt::skip]
-const LINES: [(&str, &str); 50] = [
+const LINES: [(&str, &str); 51] = [
     ("run|m|--steps|1", "run m 1"),
     ("run|--steps|1|m", "run m 1"),
     ("run|--steps=1|m", "run m 1"),
@@ -47,6 +48,7 @@ const LINES: [(&str, &str); 50] = [
     ("run|-|--steps|0", "run - 0"),
     ("run||--steps|0", "run  0"),
     ("show|--steps|2|m", "show m 2"),
+    ("eval|--steps|2|m", "eval m 2"),
     ("lay|--layout-seed=3|m", "lay m 3"),
     ("compile|m|--reg-seed|2|--slot-seed|1", "compile m 1 2"),
     ("compile|--slot-seed=1|--reg-seed=2|m", "compile m 1 2"),

@@ -5,3 +5,4 @@ pub mod Scripts
 pub mod Spelling
 pub mod Unique
 pub mod Watches
+pub mod Pieces

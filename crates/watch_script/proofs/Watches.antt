@@ -1,5 +1,5 @@
 -- Replies, and how far a run came that was cut off.
-use Rattle.std.proofs.Common.{◌≡◌, ℕ, ◌+◌, ◌-◌, ◌<◌, ◌≤◌, ◌^◌, min, Bool, true, false, ◌&&◌, cond, nat_le, List, [], ◌∷◌, ◌++◌, length, get_or, append_assoc, take, drop, Option, Some, None, Err, refl, sym, ap, subst, ◌∙◌, arith}
+use Rattle.std.proofs.Common.{◌≡◌, ℕ, ◌+◌, ◌-◌, ◌<◌, ◌≤◌, ◌^◌, min, Bool, true, false, ◌&&◌, cond, nat_le, List, [], ◌∷◌, ◌++◌, length, get_or, append_assoc, take, drop, Option, Some, None, Err, refl, sym, ap, subst, ◌∙◌, inl, inr, arith}
 use Rattle.std.proofs.lemmas.Bool.Decides.{nat_tests}
 use Rattle.std.proofs.lemmas.List.{drop_more}
 use Rattle.behavior.specs.System.{iter}
@@ -16,7 +16,7 @@ use Rattle.x86_core.specs.Step.{State}
 use Rattle.x86_core.specs.Machine.{machine_start, machine_step}
 use Rattle.xom_machine.specs.declared.machine.Machine.{Machine}
 use Rattle.xom_machine.specs.Standing.{ending_of, state_of, StreamsTold, streams, Stands}
-use Rattle.xom_machine.specs.Calls.{Took, Charged, CutOff, AsksIn}
+use Rattle.xom_machine.specs.Calls.{Took, Charged, CutOff, IsCut, AsksIn}
 use Rattle.watch_script.specs.declared.event.Event.{Event}
 use Rattle.watch_script.specs.declared.report.Reply.{Reply}
 use Rattle.watch_script.specs.declared.report.Report.{Report}
@@ -42,6 +42,11 @@ read_readable (s ∷ ss) at n = by (read_readable ss at n) (reads s.rights) refl
 asks : (s : State ℕ) (m : Machine) → state_of m s.left s.printed s.taken ≡ s → AsksIn machine_step m → TakesByte s
 asks s m is a = subst (λ t. TakesByte t) is a
 
+-- where memory was wanting the input has lost what was taken before
+lost : (s : State ℕ) (m : Machine) (a b : StreamsTold) → IsCut a b s m fault.NoMemory → b.left ≡ Some s.left
+lost s m a b (inl h) = h.left
+lost s m a b (inr h) = h.1
+
 -- a run that was cut off, whose output doesn't fail
 pub cut : (n : ℕ) (old new : Machine) (a b : StreamsTold) (e : RunFault) → (e ≡ fault.Output → ⊥) → CutOff n old new a b e → (xs : List ℕ) → a.left ≡ Some xs → Halted (state_of old xs [] 0) n b.left e
 unfolding CutOff
@@ -52,7 +57,7 @@ cut n old new a b fault.Output never h xs left = never refl
 cut n old new a b fault.NoMemory never h xs left =
     let c = h xs left in
     let early : c.0 < n = c.1.0 in
-    record { taken = c.0; within = omega arith; took = c.1.1.1 }
+    record { taken = c.0; within = omega arith; took = lost (iter machine_step c.0 (state_of old xs [] 0)) new a b c.1.1 }
 
 -- the output of a sink that counts doesn't fail
 pub no_output : (T : Type 0) (source source2 : SourceTold) (sink sink2 : SinkTold) (e : RunFault) → sink2.faults ≡ 0 → Charged {T = T} source source2 sink sink2 (Err e) → e ≡ fault.Output → ⊥
@@ -93,12 +98,14 @@ halted_on k n total m m2 a b left2 e t few h xs left = by e (h (iter machine_ste
           took = g.took ∙ ap (λ (s : State ℕ). Some s.left) (sym (whole g.taken));
         }
 
--- the next event comes no earlier than the one before, and no later than the last
+-- the next event comes no earlier than the one before, and no later than the last, and reads 1 to 4,096 bytes
 pub record Place (done : ℕ) (now rest : List Event) (e : Event) : Type 0 where
   pub late : done ≤ e.after
   pub early : e.after ≤ last_after done now
   pub order : are_in_order e.after rest ≡ true
   pub last : last_after e.after rest ≡ last_after done now
+  pub some : 1 ≤ e.len
+  pub few : e.len ≤ 4096
 
 and_both : (a b : Bool) → (a && b) ≡ true → (a ≡ true) × (b ≡ true)
 and_both true b h = (refl, h)
@@ -122,7 +129,7 @@ at_front done e es h =
     let a = and_both (nat_le done e.after) _ h in
     let b = and_both (nat_le 1 e.len) _ a.1 in
     let c = and_both (nat_le e.len 4096) _ b.1 in
-    record { late = le_is done e.after a.0; early = never_falls e.after es c.1; order = c.1; last = refl }
+    record { late = le_is done e.after a.0; early = never_falls e.after es c.1; order = c.1; last = refl; some = le_is 1 e.len b.0; few = le_is e.len 4096 c.0 }
 
 pub place_of : (done : ℕ) (events : List Event) (i : ℕ) (d : Event) → i < length events → are_in_order done (drop i events) ≡ true → Place done (drop i events) (drop (i + 1) events) (get_or events i d)
 place_of done events i d h order =

@@ -1,4 +1,6 @@
 //! The lines of the segments that may be read. Each byte is looked at once, and none is copied but into the text.
+//!
+//! A segment is gone through page by page, and pages that nothing was written to are passed over.
 
 ghost use Rattle.std.specs.Prelude.{◌≡◌, ◌+◌, ◌*◌, ◌/◌, ◌%◌, ◌^◌, ◌≤◌, ◌<◌, ◌++◌, OnOk, length, take, drop};
 ghost use Rattle.x86_core.specs.Observation.{readable};
@@ -9,8 +11,10 @@ use crate::digits::{put_bytes, put_number, put_word};
 use rd_num::list::List;
 use rd_num::width::NoMemory;
 use x86_core::image::Rights;
+use xom_memory::lent::ReadableSegment;
 use xom_memory::memory::Memory;
-use xom_memory::segment::{ReadableSegment, may_execute, may_read, may_write};
+use xom_memory::page::PAGE_BYTES;
+use xom_memory::segment::{may_execute, may_read, may_write};
 
 /// Appends the letters of rights.
 fn put_rights(text: &mut List<u8>, rights: Rights) -> Result<(), NoMemory>
@@ -31,7 +35,7 @@ fn put_outline(text: &mut List<u8>, segment: &ReadableSegment) -> Result<(), NoM
     text.append(b"segment ")?;
     put_word(text, segment.start)?;
     text.append(b" ")?;
-    put_number(text, segment.bytes.len() as u64)?;
+    put_number(text, segment.len())?;
     text.append(b" ")?;
     put_rights(text, segment.rights)?;
     text.append(b"\n")
@@ -86,13 +90,38 @@ fn put_pieces(text: &mut List<u8>, start: u64, bytes: &[u8]) -> Result<(), NoMem
     Ok(())
 }
 
+/// Appends the lines of the page with an index of a segment that starts at an address.
+fn put_page(text: &mut List<u8>, start: u64, i: usize, page: &[u8]) -> Result<(), NoMemory>
+    requires { 4096 * i < 2 ^ 64 }
+    ensures { OnOk result (text.new ≡ text.old ++
+        pieces_text ((start + 4096 * i) % 2 ^ 64) page.now ((length page.now + 15) / 16)) }
+{
+    let from = (PAGE_BYTES * i) as u64;
+    put_pieces(text, start.wrapping_add(from), page)
+}
+
+/// Appends the lines of a segment's pages.
+#[tactic(auto, using(crate::proofs::Pieces::pages_first, crate::proofs::Pieces::pages_all))]
+fn put_pages(text: &mut List<u8>, segment: &ReadableSegment) -> Result<(), NoMemory>
+    ensures { let bytes = (lent segment.now).bytes in OnOk result (text.new ≡ text.old ++
+        pieces_text segment.now.start bytes ((length bytes + 15) / 16)) }
+{
+    let count = segment.len().div_ceil(PAGE_BYTES as u64) as usize;
+    for i in segment.first_page()..count {
+        if let Some(page) = segment.page(i) {
+            put_page(text, segment.start, i, page)?;
+        }
+    }
+    Ok(())
+}
+
 /// Appends the lines of a segment.
 #[tactic(auto, unfolding(crate::specs::ShowText::segment_text))]
 fn put_segment(text: &mut List<u8>, segment: &ReadableSegment) -> Result<(), NoMemory>
     ensures { OnOk result (text.new ≡ text.old ++ segment_text (lent segment.now)) }
 {
     put_outline(text, segment)?;
-    put_pieces(text, segment.start, segment.bytes)
+    put_pages(text, segment)
 }
 
 /// Appends the lines of all segments that may be read.

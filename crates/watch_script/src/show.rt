@@ -16,7 +16,7 @@ use xom_machine::machine::Machine;
 /// segment that may be read with those of its bytes that aren't zero.
 ///
 /// Nothing of other segments and no place of code is in the text. Besides the text itself it takes
-/// no memory, and zeros cost one look each.
+/// no memory. Zeros cost one look each; pages that nothing was written to are passed over.
 pub fn show_text(alloc: Global, machine: &Machine) -> Result<List<u8>, NoMemory>
     ensures { IfOk result (λ text. (left printed : Row ℕ) (taken : ℕ) → text ≡
         text_of (observe (state_of machine.now left printed taken))) }

@@ -3,7 +3,7 @@
 //! One machine runs on from read to read: each instruction is taken once, and each reply copies its
 //! bytes once. Nobody gets what is printed; its bytes are counted.
 
-ghost use Rattle.std.specs.Prelude.{◌≡◌, ℕ, List as Row, [], length, None, Some, true, IfOk, IfErr, OnOk};
+ghost use Rattle.std.specs.Prelude.{◌≡◌, ◌^◌, ◌<◌, ◌≤◌, ℕ, List as Row, [], length, None, Some, true, IfOk, IfErr, OnOk};
 ghost use Rattle.behavior.specs.System.{iter};
 ghost use Rattle.x86_core.specs.Machine.{machine_step};
 ghost use Rattle.x86_core.specs.Memory.{read_at};
@@ -26,18 +26,26 @@ use std::alloc::Global;
 use x86_core::image::Image;
 use xom_machine::machine::Machine;
 
-/// What a read answers as memory stands.
+/// How many bytes a read asks for at most.
+const MOST_READ: usize = 4096;
+
+/// What a read answers as memory stands, by way of a room for so many bytes.
 #[tactic(auto, using(crate::proofs::Watches::read_readable))]
-fn reply(alloc: Global, machine: &Machine, event: Event) -> Result<Reply, NoMemory>
+fn reply<const N: usize>(alloc: Global, machine: &Machine, event: Event) -> Result<Reply, NoMemory>
+    requires some { 1 ≤ event.len }
+    requires room { event.len ≤ N }
+    requires small { N < 2 ^ 63 }
     ensures { let bytes = read_at (readable machine.now.memory) event.at event.len in
         IfOk result (λ r. r ≡ reply_of bytes) }
 {
-    match machine.memory().bytes(event.at, event.len as usize) {
-        Some(bytes) => {
+    let mut room = [0; N];
+    let bytes = &mut room[..event.len as usize];
+    match machine.memory().read_into(event.at, bytes) {
+        Ok(()) => {
             let own = copy_list(alloc, bytes)?;
             Ok(Reply::Bytes(own))
         }
-        None => Ok(Reply::Refused),
+        Err(_) => Ok(Reply::Refused),
     }
 }
 
@@ -50,6 +58,8 @@ fn reply_after<I: Source>(
     steps: u64,
     event: Event,
 ) -> Result<Reply, RunFault>
+    requires some { 1 ≤ event.len }
+    requires few { event.len ≤ 4096 }
     ensures did { OnOk result (Took steps machine.old machine.new
         (streams (I.told input.old).left None (Some sink.old.count))
         (streams (I.told input.new).left None (Some sink.new.count))) }
@@ -63,7 +73,7 @@ fn reply_after<I: Source>(
         Ok(_) => {}
         Err(fault) => return Err(fault),
     }
-    match reply(alloc, machine, event) {
+    match reply::<MOST_READ>(alloc, machine, event) {
         Ok(reply) => Ok(reply),
         Err(_) => Err(RunFault::NoMemory),
     }

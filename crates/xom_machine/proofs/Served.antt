@@ -1,5 +1,5 @@
 -- What the kernel does is what the machine's definition says, for each of its answers and each fault of the outside.
-use Rattle.std.proofs.Common.{◌≡◌, ℕ, ◌+◌, ◌<◌, Bool, true, false, List, [], ◌∷◌, length, Option, Some, None, Result, Ok, Err, refl, sym, ap, subst, ◌∙◌, arith, length-append}
+use Rattle.std.proofs.Common.{◌≡◌, ℕ, ◌+◌, ◌<◌, Bool, true, false, List, [], ◌∷◌, length, Option, Some, None, Result, Ok, Err, refl, sym, ap, subst, ◌∙◌, inl, inr, arith, length-append}
 use Rattle.rd_io.specs.Outside.{Gets, GetsPart, Counts, CountsPart, Takes}
 use Rattle.rd_io.specs.declared.RunFault.{RunFault}
 use Rattle.rd_io.specs.declared.RunFault.TheVariants as fault
@@ -33,6 +33,20 @@ pub cut_off : (f : State ℕ → State ℕ) (m : Machine) (a b : StreamsTold) (e
 unfolding Ran
 cut_off f m a b e k = (refl, k)
 
+-- what the machine does alone where the outside told the same before and after
+pub done_unasked : (f : State ℕ → State ℕ) (m m2 m3 : Machine) (a b : StreamsTold) → m2 ≡ m3 → Becomes f m m3 → b ≡ a → Ran {T = Unit {0}} f m m2 a b (Ok tt)
+done_unasked f m m2 m3 a b e h same = let P : StreamsTold → Type 0 = λ t. Ran {T = Unit {0}} f m m2 a t (Ok tt) in subst P (sym same) (done_alone f m m2 m3 a e h)
+
+-- memory was wanting before the outside had a part
+pub wanted : (f : State ℕ → State ℕ) (m m2 : Machine) (a b : StreamsTold) → m2 ≡ m → b ≡ a → Ran {T = Unit {0}} f m m2 a b (Err fault.NoMemory)
+unfolding Ran
+wanted f m m2 a b e same = (e, inl same)
+
+-- the input failed
+pub asked_in_vain : (f : State ℕ → State ℕ) (m m2 : Machine) (a b : StreamsTold) → m2 ≡ m → AsksIn f m → b ≡ a → Ran {T = Unit {0}} f m m2 a b (Err fault.Input)
+unfolding Ran
+asked_in_vain f m m2 a b e asks same = (e, (asks, same))
+
 -- the same for another that does the same from each state in which the machine stands
 pub ran_as : {T : Type 0} (f h : State ℕ → State ℕ) (m m2 : Machine) (a b : StreamsTold) (r : Result T RunFault) →
     ((left printed : List ℕ) (taken : ℕ) → f (state_of m left printed taken) ≡ h (state_of m left printed taken)) → Ran f m m2 a b r → Ran h m m2 a b r
@@ -43,7 +57,8 @@ ran_as f h m m2 a b (Err e) same d = (d.0, kept e d.1)
     kept : (e : RunFault) → Kept f m a b e → Kept h m a b e
     kept fault.Input k = (ap (λ (s : State ℕ). s.taken) (sym (same (0 ∷ []) [] 0)) ∙ k.0, k.1)
     kept fault.Output k = let P : List ℕ → Type 0 = λ p. GotPart a b [] p in (k.0, subst P (ap (λ (s : State ℕ). s.printed) (same [] [] 0)) k.1)
-    kept fault.NoMemory k = let P : List ℕ → Type 0 = λ p. GotPart a b [] p in (k.0, subst P (ap (λ (s : State ℕ). s.printed) (same [] [] 0)) k.1)
+    kept fault.NoMemory (inl k) = inl k
+    kept fault.NoMemory (inr k) = let P : List ℕ → Type 0 = λ p. GotPart a b [] p in inr (k.0, subst P (ap (λ (s : State ℕ). s.printed) (same [] [] 0)) k.1)
 
 module _ (m : Machine) (after : ℕ) where
   abbrev with_answer : ℕ → Machine

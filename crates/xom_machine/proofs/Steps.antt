@@ -1,5 +1,5 @@
 -- Steps in a row: none, one more, and none that counts once the machine has stopped.
-use Rattle.std.proofs.Common.{◌≡◌, ℕ, ◌+◌, ◌-◌, ◌<◌, ◌≤◌, zero, suc, true, false, List, [], length, Some, Result, Ok, Err, OnOk, OnErr, IfErr, refl, sym, ap, subst, ◌∙◌, arith}
+use Rattle.std.proofs.Common.{◌≡◌, ℕ, ◌+◌, ◌-◌, ◌<◌, ◌≤◌, zero, suc, true, false, List, [], length, Some, Result, Ok, Err, OnOk, OnErr, IfErr, refl, sym, ap, subst, ◌∙◌, inl, inr, arith}
 use Rattle.behavior.specs.Ending.{is_going}
 use Rattle.behavior.specs.System.{iter}
 use Rattle.behavior.proofs.Between.{iter_add}
@@ -81,7 +81,8 @@ cut_after k n m m2 m3 a b c e h t same kept xs left =
     by : (e : RunFault) → let s = iter machine_step k (state_of m xs [] 0) in Stands s m2 a b → Kept machine_step m2 b c e → IsCut a c s m2 e
     by fault.Input at kept = (kept.0, let P : StreamsTold → Type 0 = λ t. Stands (iter machine_step k (state_of m xs [] 0)) m2 a t in subst P (sym kept.1) at)
     by fault.Output at kept = (at.machine, kept.0 ∙ at.left, part_after a b c _ _ at.written at.total kept.1)
-    by fault.NoMemory at kept = (at.machine, kept.0 ∙ at.left, part_after a b c _ _ at.written at.total kept.1)
+    by fault.NoMemory at (inl kept) = inl (let P : StreamsTold → Type 0 = λ t. Stands (iter machine_step k (state_of m xs [] 0)) m2 a t in subst P (sym kept) at)
+    by fault.NoMemory at (inr kept) = inr (at.machine, kept.0 ∙ at.left, part_after a b c _ _ at.written at.total kept.1)
 
 -- one step by what was done once
 pub step_took : {T : Type 0} (m m2 : Machine) (a b : StreamsTold) (r : Result T RunFault) → Ran machine_step m m2 a b r → OnOk r (Took 1 m m2 a b)

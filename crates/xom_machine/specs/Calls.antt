@@ -1,5 +1,5 @@
 -- What the calls of a machine do to it and to the outside, by the steps of the machine's definition.
-use Rattle.std.specs.Prelude.{ℕ, ◌≡◌, ◌+◌, ◌<◌, ◌≤◌, List, [], ◌∷◌, ◌++◌, length, Some, Result, Ok, Err}
+use Rattle.std.specs.Prelude.{ℕ, ◌≡◌, ◌+◌, ◌<◌, ◌≤◌, ◌⊎◌, List, [], ◌∷◌, ◌++◌, length, Some, Result, Ok, Err}
 use Rattle.behavior.specs.System.{iter}
 use Rattle.rd_io.specs.Causes.{Rose}
 use Rattle.rd_io.specs.Outside.{Gets, Counts, IsPrefixOf}
@@ -36,11 +36,12 @@ pub record GotPart (before now : StreamsTold) (bytes piece : List ℕ) : Type 0 
   pub written : (part : List ℕ) × (IsPrefixOf part piece × Gets before.written now.written (bytes ++ part))
   pub total : (count : ℕ) × ((count ≤ length piece) × Counts before.total now.total (length bytes + count))
 
--- a step that the outside did not let happen, from where the machine stands
+-- a step that the outside, or want of memory, did not let happen, from where the machine stands: memory is wanting for a page,
+-- before the outside has a part in the step, or in a sink
 abbrev pub Kept : (State ℕ → State ℕ) → Machine → StreamsTold → StreamsTold → RunFault → Type 0
 Kept f m before now Input = AsksIn f m × (now ≡ before)
 Kept f m before now Output = (now.left ≡ before.left) × GotPart before now [] (piece_of f m)
-Kept f m before now NoMemory = (now.left ≡ before.left) × GotPart before now [] (piece_of f m)
+Kept f m before now NoMemory = (now ≡ before) ⊎ ((now.left ≡ before.left) × GotPart before now [] (piece_of f m))
 
 -- something was done once, whatever was printed and taken before
 unfoldable pub Did : (State ℕ → State ℕ) → Machine → Machine → StreamsTold → StreamsTold → Type 0
@@ -48,7 +49,7 @@ Did f old new before now = (xs printed : List ℕ) (taken : ℕ) (first : Stream
     Gets first.written before.written printed → Counts first.total before.total (length printed) →
     Stands (f (state_of old xs printed taken)) new first now
 
--- it was done, or the outside did not let it happen
+-- it was done, or the outside or want of memory did not let it happen
 unfoldable pub Ran : {T : Type 0} → (State ℕ → State ℕ) → Machine → Machine → StreamsTold → StreamsTold → Result T RunFault → Type 0
 Ran f old new before now (Ok x) = Did f old new before now
 Ran f old new before now (Err e) = (new ≡ old) × Kept f old before now e
@@ -57,11 +58,16 @@ Ran f old new before now (Err e) = (new ≡ old) × Kept f old before now e
 abbrev pub Becomes : (State ℕ → State ℕ) → Machine → Machine → Type 0
 Becomes f old new = (left printed : List ℕ) (taken : ℕ) → state_of new left printed taken ≡ f (state_of old left printed taken)
 
--- where a run of fewer than n steps was cut off: before a step that the outside did not let happen
+-- the same, unless memory is wanting: then the machine is as it was
+abbrev pub Tries : {T E : Type 0} → (State ℕ → State ℕ) → Machine → Machine → Result T E → Type 0
+Tries f old new (Ok x) = Becomes f old new
+Tries f old new (Err e) = new ≡ old
+
+-- where a run of fewer than n steps was cut off: before a step that the outside or want of memory did not let happen
 abbrev pub IsCut : StreamsTold → StreamsTold → State ℕ → Machine → RunFault → Type 0
 IsCut before now s m Input = AsksIn machine_step m × Stands s m before now
 IsCut before now s m Output = (state_of m s.left s.printed s.taken ≡ s) × (now.left ≡ Some s.left) × GotPart before now s.printed (piece_of machine_step m)
-IsCut before now s m NoMemory = (state_of m s.left s.printed s.taken ≡ s) × (now.left ≡ Some s.left) × GotPart before now s.printed (piece_of machine_step m)
+IsCut before now s m NoMemory = Stands s m before now ⊎ ((state_of m s.left s.printed s.taken ≡ s) × (now.left ≡ Some s.left) × GotPart before now s.printed (piece_of machine_step m))
 
 unfoldable pub CutOff : ℕ → Machine → Machine → StreamsTold → StreamsTold → RunFault → Type 0
 CutOff n old new before now e = (xs : List ℕ) → before.left ≡ Some xs → (k : ℕ) × ((k < n) × IsCut before now (iter machine_step k (state_of old xs [] 0)) new e)

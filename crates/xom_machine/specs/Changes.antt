@@ -1,7 +1,7 @@
 -- Where a machine goes on after what an instruction does to registers and flags.
-use Rattle.std.specs.Prelude.{ℕ, ◌<◌, Some}
+use Rattle.std.specs.Prelude.{◌≡◌, ℕ, ◌<◌, ◌≤◌, List, Option, Some}
 use Rattle.behavior.specs.Ending.{Divide, Invalid, Breakpoint, NoFlag}
-use Rattle.rd_num.specs.Number.{le_bytes}
+use Rattle.rd_num.specs.Number.{le_bytes, le_number}
 use Rattle.x86_core.specs.declared.reg.Reg.TheVariants.{Rsp, R11}
 use Rattle.x86_core.specs.declared.effect.Next.{Next}
 use Rattle.x86_core.specs.declared.effect.Next.TheVariants as next
@@ -41,10 +41,16 @@ asked_for (Prints count) = request.Prints count
 asked_for Takes = request.Takes
 asked_for Unknown = request.Unknowns
 
--- no request is to print no byte
+-- a request to print is for 1 to 4,096 bytes
 abbrev pub PrintsSome : Request → Type 0
 PrintsSome Exits = Unit {0}
 PrintsSome Idles = Unit {0}
-PrintsSome (Prints count) = 0 < count
+PrintsSome (Prints count) = (0 < count) × (count ≤ 4096)
 PrintsSome Takes = Unit {0}
 PrintsSome Unknown = Unit {0}
+
+-- bytes that were read spell a word
+pub record Spells (bytes : Option (List ℕ)) (word : ℕ) : Type 0 where
+  pub read : List ℕ
+  pub is : bytes ≡ Some read
+  pub spelled : word ≡ le_number read

@@ -3,28 +3,28 @@
 //! `rax` says which; a call that isn't known stops the machine. The answer goes to `rax`, the place
 //! after the call to `rcx` and the flags to `r11`, where a flag that isn't known counts 0.
 
-ghost use Rattle.std.specs.Prelude.{◌≡◌, ◌+◌, ◌*◌, ◌<◌, [], ◌∷◌, Some, IsTrue};
+ghost use Rattle.std.specs.Prelude.{◌≡◌, ◌+◌, ◌*◌, ◌^◌, ◌<◌, ◌≤◌, Some, length};
 ghost use Rattle.rd_io.specs.Told.{SourceTold, SinkTold};
 ghost use Rattle.x86_core.specs.declared.reg.Reg.TheVariants.{Rsi};
 ghost use Rattle.x86_core.specs.Registers.{word};
-ghost use Rattle.x86_core.specs.Memory.{writes, is_allowed, write_at};
+ghost use Rattle.x86_core.specs.Memory.{read_at};
 ghost use Rattle.x86_core.specs.Step.{Prints, Takes, request_of, answered, flag_number, served};
 ghost use Rattle.xom_machine.specs.Standing.{streams_told};
 ghost use Rattle.xom_machine.specs.Changes.{asked_for, PrintsSome};
 ghost use Rattle.xom_machine.specs.Calls.{Ran, Charged};
 
 use crate::machine::Machine;
-use rd_io::{Failed, PutFail, RunFault, Sink, Source};
+use rd_io::{PutFail, RunFault, Sink, Source};
 use x86_core::flags::{Flag, Flags};
 use x86_core::image::MachOutcome;
 use x86_core::reg::{Reg, Regs};
-use xom_memory::memory::{Memory, WriteFault};
+use xom_memory::memory::TakeFault;
 
 /// The answer to an address that may not be used: -14.
 const BAD_ADDRESS: u64 = u64::MAX - 13;
 
 /// How many bytes one call prints at most.
-const MOST_PRINTED: u64 = 4096;
+const MOST_PRINTED: usize = 4096;
 
 /// What a system call asks for.
 #[derive(Clone, Copy)]
@@ -43,7 +43,7 @@ pub fn asked(regs: &Regs) -> Request
     ensures value { asked_for result ≡ request_of regs.now }
     ensures some { PrintsSome result }
 {
-    let count = regs.get(Reg::Rdx).min(MOST_PRINTED);
+    let count = regs.get(Reg::Rdx).min(MOST_PRINTED as u64);
     match (regs.get(Reg::Rax), regs.get(Reg::Rdi)) {
         (60, _) => Request::Exits,
         (1, 1) if count == 0 => Request::Idles,
@@ -72,14 +72,6 @@ fn packed(flags: &Flags) -> u64
     514 + bit(flags.c) + 64 * bit(flags.z) + 128 * bit(flags.s) + 2048 * bit(flags.o)
 }
 
-// Writes a byte where that is allowed.
-fn put_byte(memory: &mut Memory, at: u64, byte: u8)
-    requires { IsTrue (is_allowed writes memory.old at 1) }
-    ensures { write_at memory.old at (byte ∷ []) ≡ Some memory.new }
-{
-    let _written = memory.write_from(at, &[byte]);
-}
-
 impl Machine {
     /// Does what the registers ask of the kernel, with the place behind the system call.
     ///
@@ -105,7 +97,7 @@ impl Machine {
                 self.answer(0, after);
                 Ok(())
             }
-            Request::Prints(count) => self.print(count as usize, after, sink),
+            Request::Prints(count) => { self.print::<O, MOST_PRINTED>(count as usize, after, sink) }
             Request::Takes => self.take(after, input),
             Request::Unknown => {
                 self.outcome = MachOutcome::BadCall;
@@ -114,9 +106,16 @@ impl Machine {
         }
     }
 
-    // Prints the bytes that `rsi` points to, in one piece.
-    fn print<O: Sink>(&mut self, count: usize, after: u64, sink: &mut O) -> Result<(), RunFault>
-        requires { 0 < count }
+    // Prints the bytes that `rsi` points to, in one piece, by way of a room for so many.
+    fn print<O: Sink, const N: usize>(
+        &mut self,
+        count: usize,
+        after: u64,
+        sink: &mut O,
+    ) -> Result<(), RunFault>
+        requires some { 0 < count }
+        requires room { count ≤ N }
+        requires small { N < 2 ^ 63 }
         ensures ran { (source : SourceTold) →
             Ran (served (Prints count) after after) self.old self.new
             (streams_told source (O.told sink.old))
@@ -124,52 +123,48 @@ impl Machine {
         ensures charged { (source : SourceTold) →
             Charged source source (O.told sink.old) (O.told sink.new) result }
     {
-        match self.memory.bytes(self.regs.get(Reg::Rsi), count) {
-            Some(bytes) => match sink.put(bytes) {
-                Ok(()) => {
-                    self.answer(count as u64, after);
-                    Ok(())
-                }
-                Err(PutFail::Failed) => Err(RunFault::Output),
-                Err(PutFail::NoMemory) => Err(RunFault::NoMemory),
-            },
-            None => {
+        let mut room = [0; N];
+        let bytes = &mut room[..count];
+        match self.memory.read_into(self.regs.get(Reg::Rsi), bytes) {
+            Ok(()) => self.put(bytes, after, sink),
+            Err(_) => {
                 self.answer(BAD_ADDRESS, after);
                 Ok(())
             }
         }
     }
 
-    // Takes a byte to where `rsi` points. The right to write there is tested first.
+    // Puts the bytes that `rsi` points to.
+    fn put<O: Sink>(&mut self, bytes: &[u8], after: u64, sink: &mut O) -> Result<(), RunFault>
+        requires some { 0 < length bytes.now }
+        requires read { read_at self.old.memory (word self.old.regs Rsi) (length bytes.now) ≡
+            Some bytes.now }
+        ensures ran { (source : SourceTold) →
+            Ran (served (Prints (length bytes.now)) after after) self.old self.new
+            (streams_told source (O.told sink.old))
+            (streams_told source (O.told sink.new)) result }
+        ensures charged { (source : SourceTold) →
+            Charged source source (O.told sink.old) (O.told sink.new) result }
+    {
+        match sink.put(bytes) {
+            Ok(()) => {
+                self.answer(bytes.len() as u64, after);
+                Ok(())
+            }
+            Err(PutFail::Failed) => Err(RunFault::Output),
+            Err(PutFail::NoMemory) => Err(RunFault::NoMemory),
+        }
+    }
+
+    // Takes a byte to where `rsi` points. The source is asked last.
     fn take<I: Source>(&mut self, after: u64, input: &mut I) -> Result<(), RunFault>
         ensures ran { (sink : SinkTold) → Ran (served Takes after after) self.old self.new
             (streams_told (I.told input.old) sink) (streams_told (I.told input.new) sink) result }
         ensures charged { (sink : SinkTold) →
             Charged (I.told input.old) (I.told input.new) sink sink result }
     {
-        let at = self.regs.get(Reg::Rsi);
-        match self.memory.prepare(at, 1) {
-            Ok(()) => self.take_to(at, after, input),
-            Err(WriteFault::Refused) => {
-                self.answer(BAD_ADDRESS, after);
-                Ok(())
-            }
-            Err(WriteFault::NoMemory) => Err(RunFault::NoMemory),
-        }
-    }
-
-    // Takes a byte to an address that may be written.
-    fn take_to<I: Source>(&mut self, at: u64, after: u64, input: &mut I) -> Result<(), RunFault>
-        requires place { at ≡ word self.old.regs Rsi }
-        requires allowed { IsTrue (is_allowed writes self.old.memory at 1) }
-        ensures ran { (sink : SinkTold) → Ran (served Takes after after) self.old self.new
-            (streams_told (I.told input.old) sink) (streams_told (I.told input.new) sink) result }
-        ensures charged { (sink : SinkTold) →
-            Charged (I.told input.old) (I.told input.new) sink sink result }
-    {
-        match input.take() {
-            Ok(Some(byte)) => {
-                put_byte(&mut self.memory, at, byte);
+        match self.memory.take(self.regs.get(Reg::Rsi), input) {
+            Ok(Some(_byte)) => {
                 self.answer(1, after);
                 Ok(())
             }
@@ -177,7 +172,12 @@ impl Machine {
                 self.answer(0, after);
                 Ok(())
             }
-            Err(Failed) => Err(RunFault::Input),
+            Err(TakeFault::Refused) => {
+                self.answer(BAD_ADDRESS, after);
+                Ok(())
+            }
+            Err(TakeFault::NoMemory) => Err(RunFault::NoMemory),
+            Err(TakeFault::Failed) => Err(RunFault::Input),
         }
     }
 

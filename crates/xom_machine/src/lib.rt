@@ -2,7 +2,8 @@
 //!
 //! `machine` has the value with its start, its steps and its readers, `step` what one instruction
 //! does, and `kernel` the three system calls. What a machine is stands in `x86_core`,
-//! `specs/Machine.antt`; a step here takes no memory, and a machine that has stopped stays as it is.
+//! `specs/Machine.antt`. A step takes memory only for a page that it is the first to write to, and a
+//! machine that has stopped stays as it is.
 //! Source: Intel 64 and IA-32 Architectures Software Developer's Manual, volume 2, for instructions.
 #![tactic(auto)]
 

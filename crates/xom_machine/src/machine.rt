@@ -81,8 +81,9 @@ impl Machine {
     /// Takes one step. A machine that has stopped stays as it is.
     ///
     /// `Input` comes only where the source has failed, at a step that asks for a byte; `Output` only
-    /// where the sink has failed, which then has a prefix of what the step prints. After each error
-    /// the machine stands before that system call.
+    /// where the sink has failed, which then has a prefix of what the step prints. `NoMemory` comes
+    /// where a sink wants memory, with such a prefix, or where a page can't be made, with nothing
+    /// taken and put. After each error the machine stands before that instruction.
     pub fn step<I: Source, O: Sink>(&mut self, input: &mut I, sink: &mut O) -> Result<(), RunFault>
         ensures did { OnOk result (Took 1 self.old self.new
             (streams_told (I.told input.old) (O.told sink.old))

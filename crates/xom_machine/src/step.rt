@@ -1,9 +1,10 @@
 //! One instruction: fetched, carried out, and where it leads.
 //!
 //! What is refused or has no answer stops the machine, and then nothing but the outcome changes: so
-//! registers are only given their new words once the access to memory was allowed.
+//! registers are only given their new words once the access to memory was allowed. Where memory for
+//! a page is wanting, nothing changes at all.
 
-ghost use Rattle.std.specs.Prelude.{◌≡◌, ◌≤◌, ◌<◌, Some, length, pos, take, not};
+ghost use Rattle.std.specs.Prelude.{◌≡◌, ◌≤◌, ◌<◌, None, Some, MatchOption, pos, not};
 ghost use Rattle.rd_num.specs.Number.{le_bytes, le_number};
 ghost use Rattle.x86_core.specs.declared.reg.Reg.TheVariants.{Rsp};
 ghost use Rattle.x86_core.specs.Registers.{word};
@@ -11,22 +12,23 @@ ghost use Rattle.x86_core.specs.Arithmetic.{moved};
 ghost use Rattle.x86_core.specs.Memory.{read_at, write_at};
 ghost use Rattle.x86_core.specs.Step.{size_bytes, after_read, after_write, by_access, below, called, returned, act, sorted};
 ghost use Rattle.x86_core.specs.Machine.{machine_fetch, machine_step, by_decoded};
-ghost use Rattle.xom_memory.specs.Access.{Wrote};
+ghost use Rattle.xom_memory.specs.Access.{Written};
 ghost use Rattle.behavior.specs.Ending.{is_going};
 ghost use Rattle.xom_machine.specs.Standing.{ending_of, streams_told};
-ghost use Rattle.xom_machine.specs.Changes.{moved_on};
-ghost use Rattle.xom_machine.specs.Calls.{Becomes, Ran, Charged};
+ghost use Rattle.xom_machine.specs.Changes.{moved_on, Spells};
+ghost use Rattle.xom_machine.specs.Calls.{Becomes, Tries, Ran, Charged};
 
 use crate::machine::Machine;
 use rd_io::{RunFault, Sink, Source};
 use rd_num::bytes::put_u64_le;
+use rd_num::width::NoMemory;
 use x86_core::effect::{Access, Change, Next, effect};
 use x86_core::flags::Flags;
 use x86_core::image::MachOutcome;
 use x86_core::instr::{Decoded, Instr, Size};
 use x86_core::reg::{Reg, Regs};
 use x86_decode::decode_one;
-use xom_memory::memory::Memory;
+use xom_memory::memory::{Memory, WriteFault};
 
 // How many bytes an access has.
 fn bytes_in(size: Size) -> usize
@@ -50,15 +52,19 @@ fn number(bytes: [u8; 8]) -> u64
     u64::from_le_bytes([a, b, c, d, e, f, g, h])
 }
 
-// The word that at most eight bytes spell, with zeros above them.
+// The word that at most eight bytes at an address spell, where they may be read.
 #[tactic(auto, using(crate::proofs::Words::le_number_padded))]
-fn word_of(bytes: &[u8]) -> u64
-    requires { length bytes.now ≤ 8 }
-    ensures { result ≡ le_number bytes.now }
+fn loaded(memory: &Memory, at: u64, size: usize) -> Option<u64>
+    requires some { 0 < size }
+    requires few { size ≤ 8 }
+    ensures { let bytes = read_at memory.now at size in
+        MatchOption result (bytes ≡ None) (Spells bytes) }
 {
     let mut all = [0; 8];
-    all[..bytes.len()].copy_from_slice(bytes);
-    number(all)
+    match memory.read_into(at, &mut all[..size]) {
+        Ok(()) => Some(number(all)),
+        Err(_) => None,
+    }
 }
 
 // A number moved by a displacement, modulo 2^64.
@@ -68,13 +74,13 @@ fn moved_by(n: u64, by: i32) -> u64
     n.wrapping_add_signed(by as i64)
 }
 
-// Writes the low bytes of a word, and says whether that was allowed.
-fn stored(memory: &mut Memory, at: u64, size: Size, word: u64) -> bool
-    ensures { Wrote result (write_at memory.old at (le_bytes (size_bytes size) word)) memory.old
-        memory.new }
+// Writes the low bytes of a word.
+fn stored(memory: &mut Memory, at: u64, size: Size, word: u64) -> Result<(), WriteFault>
+    ensures { Written result (write_at memory.old at (le_bytes (size_bytes size) word))
+        memory.old memory.new }
 {
     let all = put_u64_le(word);
-    memory.write_from(at, &all[..bytes_in(size)]).is_ok()
+    memory.write_from(at, &all[..bytes_in(size)])
 }
 
 impl Machine {
@@ -103,9 +109,8 @@ impl Machine {
         ensures { let bytes = read_at self.old.memory at (size_bytes size) in
             Becomes (after_read bytes change into after) self.old self.new }
     {
-        match self.memory.bytes(at, bytes_in(size)) {
-            Some(bytes) => {
-                let word = word_of(bytes);
+        match loaded(&self.memory, at, bytes_in(size)) {
+            Some(word) => {
                 let mut regs = change.regs;
                 regs.set(into, word);
                 self.settle(regs, change.flags, after);
@@ -115,39 +120,64 @@ impl Machine {
     }
 
     // A change with its write to memory.
-    fn write(&mut self, change: Change, at: u64, size: Size, word: u64, after: u64)
+    fn write(
+        &mut self,
+        change: Change,
+        at: u64,
+        size: Size,
+        word: u64,
+        after: u64,
+    ) -> Result<(), NoMemory>
         ensures { let written = write_at self.old.memory at (le_bytes (size_bytes size) word) in
-            Becomes (after_write written change after) self.old self.new }
+            Tries (after_write written change after) self.old self.new result }
     {
-        if stored(&mut self.memory, at, size, word) {
-            self.settle(change.regs, change.flags, after);
-        } else {
-            self.outcome = MachOutcome::PageFault;
+        match stored(&mut self.memory, at, size, word) {
+            Ok(()) => {
+                self.settle(change.regs, change.flags, after);
+                Ok(())
+            }
+            Err(WriteFault::Refused) => {
+                self.outcome = MachOutcome::PageFault;
+                Ok(())
+            }
+            Err(WriteFault::NoMemory) => Err(NoMemory),
         }
     }
 
     // An instruction that goes on to the next one.
-    fn commit(&mut self, change: Change, after: u64)
-        ensures { Becomes (by_access change.access change after) self.old self.new }
+    fn commit(&mut self, change: Change, after: u64) -> Result<(), NoMemory>
+        ensures { Tries (by_access change.access change after) self.old self.new result }
     {
         match change.access {
-            Access::Nothing => self.settle(change.regs, change.flags, after),
-            Access::Read { at, size, into } => self.read(change, at, size, into, after),
+            Access::Nothing => {
+                self.settle(change.regs, change.flags, after);
+                Ok(())
+            }
+            Access::Read { at, size, into } => {
+                self.read(change, at, size, into, after);
+                Ok(())
+            }
             Access::Write { at, size, word } => self.write(change, at, size, word, after),
         }
     }
 
     // To a place, with a number pushed.
-    fn call(&mut self, to: u64, back: u64)
+    fn call(&mut self, to: u64, back: u64) -> Result<(), NoMemory>
         ensures { let pushed = write_at self.old.memory (below self.old.regs) (le_bytes 8 back) in
-            Becomes (called to pushed) self.old self.new }
+            Tries (called to pushed) self.old self.new result }
     {
         let top = moved_by(self.regs.get(Reg::Rsp), -8);
-        if stored(&mut self.memory, top, Size::W64, back) {
-            self.regs.set(Reg::Rsp, top);
-            self.next = to;
-        } else {
-            self.outcome = MachOutcome::PageFault;
+        match stored(&mut self.memory, top, Size::W64, back) {
+            Ok(()) => {
+                self.regs.set(Reg::Rsp, top);
+                self.next = to;
+                Ok(())
+            }
+            Err(WriteFault::Refused) => {
+                self.outcome = MachOutcome::PageFault;
+                Ok(())
+            }
+            Err(WriteFault::NoMemory) => Err(NoMemory),
         }
     }
 
@@ -157,9 +187,9 @@ impl Machine {
             Becomes (returned Some top) self.old self.new }
     {
         let top = self.regs.get(Reg::Rsp);
-        match self.memory.bytes(top, 8) {
-            Some(bytes) => {
-                self.next = word_of(bytes);
+        match loaded(&self.memory, top, 8) {
+            Some(word) => {
+                self.next = word;
                 self.regs.set(Reg::Rsp, moved_by(top, 8));
             }
             None => self.outcome = MachOutcome::PageFault,
@@ -167,24 +197,45 @@ impl Machine {
     }
 
     // Where a change leads without the kernel.
-    fn go_on(&mut self, change: Change, after: u64)
-        ensures { Becomes (moved_on change.next change after) self.old self.new }
+    fn go_on(&mut self, change: Change, after: u64) -> Result<(), NoMemory>
+        ensures { Tries (moved_on change.next change after) self.old self.new result }
     {
         match change.next {
             Next::Fall => self.commit(change, after),
-            Next::Branch(by) => self.next = moved_by(after, by),
             Next::Call(by) => self.call(moved_by(after, by), after),
-            Next::Return => self.go_back(),
-            Next::ToR11 => self.next = self.regs.get(Reg::R11),
             Next::CallR11 => {
                 let to = self.regs.get(Reg::R11);
-                self.call(to, after);
+                self.call(to, after)
             }
-            Next::Kernel => {}
-            Next::Divide => self.outcome = MachOutcome::Divide,
-            Next::Invalid => self.outcome = MachOutcome::Invalid,
-            Next::Breakpoint => self.outcome = MachOutcome::Breakpoint,
-            Next::NoFlag => self.outcome = MachOutcome::NoFlag,
+            Next::Kernel => Ok(()),
+            Next::Branch(by) => {
+                self.next = moved_by(after, by);
+                Ok(())
+            }
+            Next::Return => {
+                self.go_back();
+                Ok(())
+            }
+            Next::ToR11 => {
+                self.next = self.regs.get(Reg::R11);
+                Ok(())
+            }
+            Next::Divide => {
+                self.outcome = MachOutcome::Divide;
+                Ok(())
+            }
+            Next::Invalid => {
+                self.outcome = MachOutcome::Invalid;
+                Ok(())
+            }
+            Next::Breakpoint => {
+                self.outcome = MachOutcome::Breakpoint;
+                Ok(())
+            }
+            Next::NoFlag => {
+                self.outcome = MachOutcome::NoFlag;
+                Ok(())
+            }
         }
     }
 
@@ -205,10 +256,10 @@ impl Machine {
         let change = effect(instr, &self.regs, &self.flags);
         match change.next {
             Next::Kernel => self.system_call(after, input, sink),
-            _ => {
-                self.go_on(change, after);
-                Ok(())
-            }
+            _ => match self.go_on(change, after) {
+                Ok(()) => Ok(()),
+                Err(_) => Err(RunFault::NoMemory),
+            },
         }
     }
 

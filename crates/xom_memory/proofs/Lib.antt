@@ -2,5 +2,7 @@ pub mod Rights
 pub mod Behind
 pub mod Allowed
 pub mod Places
-pub mod Zeros
 pub mod Whole
+pub mod Laid
+pub mod Taken
+pub mod Cut

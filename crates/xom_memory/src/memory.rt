@@ -1,13 +1,16 @@
 //! The store and its calls, each of which is allowed or refused as a whole.
 
-ghost use Rattle.std.specs.Prelude.{◌≡◌, ◌≢◌, ◌↔◌, ◌≤◌, ◌<◌, [], ◌∷◌, ◌++◌, None, Some, Bool, false, IfOk, IfErr, IfSome, OnOk, OnErr, IsOk, IsErr, IsTrue, MatchOption, MatchResult, option_map, slice_get, take, drop, length};
+ghost use Rattle.std.specs.Prelude.{◌≡◌, ◌≢◌, ◌↔◌, ◌≤◌, ◌<◌, [], ◌∷◌, ◌++◌, None, Some, Bool, true, false, IfOk, IfErr, IfSome, OnOk, OnErr, IsOk, IsErr, IsTrue, MatchOption, MatchResult, option_map, slice_get, take, drop, length};
 ghost use Rattle.x86_core.specs.Memory.{reads, writes, executes, one_covers, is_allowed, read_at, write_at, code_at};
 ghost use Rattle.x86_core.specs.Data.{stack_start, segment};
 ghost use Rattle.x86_core.specs.Machine.{machine_segments};
-ghost use Rattle.xom_memory.specs.Access.{bytes_at, written_at, outline_of, place_of, readable_at, lent as lent_segment, Wrote};
+ghost use Rattle.xom_memory.specs.Access.{bytes_at, written_at, outline_of, place_of, readable_at, lent as lent_segment, Filled, Wrote, Written, Permits};
+ghost use Rattle.xom_memory.specs.Taking.{TakesTo};
 
-use crate::segment::{Part, ReadableSegment, may_execute, may_read, may_write};
+use crate::lent::ReadableSegment;
+use crate::segment::{Part, may_execute, may_read, may_write};
 use crate::stack::Stack;
+use rd_io::Source;
 use rd_num::width::NoMemory;
 use std::alloc::Global;
 use std::marker::Model;
@@ -22,6 +25,17 @@ pub struct Refused;
 pub enum WriteFault {
     Refused,
     NoMemory,
+}
+
+/// Why no byte was taken from a source.
+#[derive(Clone, Copy, PartialEq, Debug)]
+pub enum TakeFault {
+    /// The address may not be written; the source was not asked.
+    Refused,
+    /// The source was not asked.
+    NoMemory,
+    /// The source failed.
+    Failed,
 }
 
 /// The segments of an image, and the stack behind them; contracts see the list of all segments.
@@ -47,7 +61,7 @@ impl Memory {
         ensures { IfOk result (λ m. m ≡ machine_segments image.now) }
     {
         let parts = copies(alloc, image.segments.as_slice())?;
-        let stack = Stack::new(alloc)?;
+        let stack = Stack::new(alloc);
         Ok(Memory { parts, stack })
     }
 
@@ -76,73 +90,67 @@ impl Memory {
         readable_part(self.parts.as_slice(), &self.stack, i)
     }
 
-    /// The bytes of a range, where one segment that may be read covers it.
-    #[tactic(auto, using(crate::proofs::Allowed::read_length))]
-    pub fn bytes(&self, at: u64, len: usize) -> Option<&[u8]>
-        ensures count { IfSome result (λ b. length b.now ≡ len) }
-        ensures read { MatchOption result (read_at self.now at len ≡ None)
-            (λ b. read_at self.now at len ≡ Some b.now) }
-    {
-        lent(self.parts.as_slice(), &self.stack, at, len)
-    }
-
     /// Reads the bytes from the address `at` on.
     ///
     /// `Refused` comes exactly where no one segment that may be read covers the whole range; nothing
-    /// changes then. An empty range is always allowed.
+    /// changes then. An empty range is always allowed. Takes no memory.
     #[tactic(auto, using(crate::proofs::Allowed::read_length, crate::proofs::Allowed::read_allowed, crate::proofs::Allowed::read_refused, crate::proofs::Allowed::read_nothing))]
     pub fn read_into(&self, at: u64, out: &mut [u8]) -> Result<(), Refused>
         ensures allowed { IsOk result ↔ IsTrue (is_allowed reads self.now at (length out.old)) }
         ensures read { OnOk result (out.new ≡ bytes_at self.now at (length out.old)) }
         ensures unchanged { OnErr result (out.new ≡ out.old) }
+        ensures some { 0 < length out.old →
+            MatchResult result (λ _. read_at self.now at (length out.old) ≡ Some out.new)
+            (λ _. read_at self.now at (length out.old) ≡ None) }
     {
         if out.is_empty() {
             return Ok(());
         }
-        let Some(bytes) = self.bytes(at, out.len()) else {
-            return Err(Refused);
-        };
-        out.copy_from_slice(bytes);
-        Ok(())
+        if read_any(self.parts.as_slice(), &self.stack, at, out) {
+            Ok(())
+        } else {
+            Err(Refused)
+        }
     }
 
     /// Writes bytes from the address `at` on.
     ///
     /// `Refused` comes exactly where no one segment that may be written covers the whole range;
-    /// nothing changes then. No bytes may be written anywhere.
-    #[tactic(auto, using(crate::proofs::Allowed::write_allowed, crate::proofs::Allowed::write_refused))]
+    /// nothing changes after an error. No bytes may be written anywhere.
+    #[tactic(auto, using(crate::proofs::Taken::written_permits, crate::proofs::Taken::written_is, crate::proofs::Taken::written_same))]
     pub fn write_from(&mut self, at: u64, bytes: &[u8]) -> Result<(), WriteFault>
-        ensures allowed { IsOk result ↔ IsTrue (is_allowed writes self.old at (length bytes.now)) }
+        ensures allowed { Permits result (is_allowed writes self.old at (length bytes.now)) }
         ensures written { OnOk result (self.new ≡ written_at self.old at bytes.now) }
         ensures unchanged { OnErr result (self.new ≡ self.old) }
-        ensures refused { IfErr result (λ e. e ≡ WriteFault.Refused) }
         ensures some { 0 < length bytes.now →
-            MatchResult result (λ _. write_at self.old at bytes.now ≡ Some self.new)
-            (λ _. write_at self.old at bytes.now ≡ None) }
+            Written result (write_at self.old at bytes.now) self.old self.new }
     {
         if bytes.is_empty() {
             return Ok(());
         }
-        if put_at(self.parts.as_mut_slice(), &mut self.stack, at, bytes) {
-            Ok(())
-        } else {
-            Err(WriteFault::Refused)
-        }
+        put_at(self.parts.as_mut_slice(), &mut self.stack, at, bytes)
     }
 
-    /// Answers as a write of `len` bytes from the address `at` on would, and changes nothing.
+    /// Answers as a write of `len` bytes from the address `at` on would, and changes no byte.
     ///
-    /// After `Ok` a write inside that range is allowed, up to the next change of the segments.
+    /// After `Ok` a write inside that range wants no memory.
     pub fn prepare(&mut self, at: u64, len: u64) -> Result<(), WriteFault>
-        ensures allowed { IsOk result ↔ IsTrue (is_allowed writes self.old at len) }
+        ensures allowed { Permits result (is_allowed writes self.old at len) }
         ensures unchanged { self.new ≡ self.old }
-        ensures refused { IfErr result (λ e. e ≡ WriteFault.Refused) }
     {
-        if len == 0 || is_writable(self.parts.as_slice(), &self.stack, at, len as usize) {
-            Ok(())
-        } else {
-            Err(WriteFault::Refused)
+        if len == 0 {
+            return Ok(());
         }
+        prepare_at(self.parts.as_slice(), &mut self.stack, at, len as usize)
+    }
+
+    /// Takes a byte from a source to the address `at`.
+    ///
+    /// The source is asked last, once nothing but its own answer can hinder the byte.
+    pub fn take<I: Source>(&mut self, at: u64, input: &mut I) -> Result<Option<u8>, TakeFault>
+        ensures { TakesTo result at self.old self.new (I.told input.old) (I.told input.new) }
+    {
+        take_at(self.parts.as_mut_slice(), &mut self.stack, at, input)
     }
 
     /// The code from the address `at` on: sixteen bytes, or as many as are left of the segment.
@@ -201,43 +209,98 @@ fn readable_part<'a>(parts: &'a [Part], stack: &'a Stack, i: usize) -> Option<Re
     }
 }
 
-// The bytes of a range, where a segment or the stack may be read and covers it.
-#[tactic(auto, using(crate::proofs::Behind::read_front, crate::proofs::Behind::read_back))]
-fn lent<'a>(parts: &'a [Part], stack: &'a Stack, at: u64, len: usize) -> Option<&'a [u8]>
-    ensures { MatchOption result (read_at (parts.now ++
-        segment stack_start stack.now 6 ∷ []) at len ≡ None)
-        (λ b. read_at (parts.now ++ segment stack_start stack.now 6 ∷ []) at len ≡ Some b.now) }
+// Reads the bytes of a range where a segment or the stack may be read and covers it.
+#[tactic(auto, using(crate::proofs::Allowed::read_length, crate::proofs::Behind::read_front, crate::proofs::Behind::read_back))]
+fn read_any(parts: &[Part], stack: &Stack, at: u64, out: &mut [u8]) -> bool
+    ensures { Filled result (read_at (parts.now ++ segment stack_start stack.now 6 ∷ [])
+        at (length out.old)) out.old out.new }
 {
-    match readable(parts, at, len) {
-        Some(bytes) => Some(bytes),
-        None if stack.covers(at, len) => Some(stack.range(at, len)),
-        None => None,
+    match readable(parts, at, out.len()) {
+        Some(bytes) => {
+            out.copy_from_slice(bytes);
+            true
+        }
+        None if stack.covers(at, out.len()) => {
+            stack.read(at, out);
+            true
+        }
+        None => false,
     }
 }
 
-// Whether a segment or the stack may be written and covers a range.
+// Makes the pages of a range where a segment or the stack may be written and covers it.
 #[tactic(auto, using(crate::proofs::Behind::holds_behind))]
-fn is_writable(parts: &[Part], stack: &Stack, at: u64, len: usize) -> bool
-    ensures { result ≡ one_covers writes (parts.now ++
-        segment stack_start stack.now 6 ∷ []) at len }
+fn prepare_at(parts: &[Part], stack: &mut Stack, at: u64, len: usize) -> Result<(), WriteFault>
+    requires { 0 < len }
+    ensures allowed { Permits result (one_covers writes (parts.now ++
+        segment stack_start stack.old 6 ∷ []) at len) }
+    ensures unchanged { stack.new ≡ stack.old }
 {
-    is_any_writable(parts, at, len) || stack.covers(at, len)
+    if is_any_writable(parts, at, len) {
+        return Ok(());
+    }
+    if !stack.covers(at, len) {
+        return Err(WriteFault::Refused);
+    }
+    match stack.prepare(at, len) {
+        Ok(()) => Ok(()),
+        Err(_) => Err(WriteFault::NoMemory),
+    }
 }
 
 // Writes bytes where a segment or the stack may be written and covers their range.
 #[tactic(auto, using(crate::proofs::Behind::write_front, crate::proofs::Behind::write_back, crate::proofs::Behind::write_none))]
-fn put_at(parts: &mut [Part], stack: &mut Stack, at: u64, bytes: &[u8]) -> bool
-    ensures { let all = parts.old ++ segment stack_start stack.old 6 ∷ [] in Wrote result
+fn put_at(parts: &mut [Part], stack: &mut Stack, at: u64, bytes: &[u8]) -> Result<(), WriteFault>
+    requires { 0 < length bytes.now }
+    ensures { let all = parts.old ++ segment stack_start stack.old 6 ∷ [] in Written result
         (write_at all at bytes.now) all (parts.new ++ segment stack_start stack.new 6 ∷ []) }
 {
     if write_in(parts, at, bytes) {
-        return true;
+        return Ok(());
     }
-    let fits = stack.covers(at, bytes.len());
-    if fits {
-        stack.put(at, bytes);
+    if !stack.covers(at, bytes.len()) {
+        return Err(WriteFault::Refused);
     }
-    fits
+    match stack.write(at, bytes) {
+        Ok(()) => Ok(()),
+        Err(_) => Err(WriteFault::NoMemory),
+    }
+}
+
+// Takes a byte to an address where a segment or the stack may be written and covers it.
+#[tactic(auto, using(crate::proofs::Taken::taken_front, crate::proofs::Taken::taken_back, crate::proofs::Behind::holds_behind))]
+fn take_at<I: Source>(
+    parts: &mut [Part],
+    stack: &mut Stack,
+    at: u64,
+    input: &mut I,
+) -> Result<Option<u8>, TakeFault>
+    ensures { TakesTo result at (parts.old ++ segment stack_start stack.old 6 ∷ [])
+        (parts.new ++ segment stack_start stack.new 6 ∷ []) (I.told input.old) (I.told input.new) }
+{
+    if is_any_writable(parts, at, 1) {
+        return take_in(parts, at, input);
+    }
+    if !stack.covers(at, 1) {
+        return Err(TakeFault::Refused);
+    }
+    stack.take(at, input)
+}
+
+// Takes a byte to an address that one of the segments covers and that may be written.
+#[tactic(auto, using(crate::proofs::Taken::wrote_allowed))]
+fn take_in<I: Source>(parts: &mut [Part], at: u64, input: &mut I) -> Result<Option<u8>, TakeFault>
+    requires { one_covers writes parts.old at 1 ≡ true }
+    ensures { TakesTo result at parts.old parts.new (I.told input.old) (I.told input.new) }
+{
+    match input.take() {
+        Ok(Some(byte)) => {
+            let _written = write_in(parts, at, &[byte]);
+            Ok(Some(byte))
+        }
+        Ok(None) => Ok(None),
+        Err(_) => Err(TakeFault::Failed),
+    }
 }
 
 // Equal parts of the segments, in their order.

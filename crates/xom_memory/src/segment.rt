@@ -4,6 +4,7 @@ ghost use Rattle.std.specs.Prelude.{◌≡◌, ◌-◌, ◌+◌, ◌&&◌, nat_l
 ghost use Rattle.x86_core.specs.Memory.{covers, reads, writes, executes, with_bytes};
 ghost use Rattle.xom_memory.specs.Access.{outline_of, where_readable, lent};
 
+use crate::lent::{Lent, ReadableSegment};
 use bitflags::Flags;
 use rd_num::width::NoMemory;
 use std::alloc::Global;
@@ -42,14 +43,6 @@ pub fn may_execute(rights: Rights) -> bool
     ensures { result ≡ executes rights }
 {
     rights.contains(Rights::X)
-}
-
-/// A segment that may be read, lent for as long as its memory stays unchanged.
-#[derive(Clone, Copy)]
-pub struct ReadableSegment<'a> {
-    pub start: u64,
-    pub bytes: &'a [u8],
-    pub rights: Rights,
 }
 
 /// A segment of an image whose bytes can change; contracts see it as the segment.
@@ -100,7 +93,7 @@ impl Part {
         }
         Some(ReadableSegment {
             start: self.start,
-            bytes: self.bytes.as_slice(),
+            bytes: Lent::Whole(self.bytes.as_slice()),
             rights: self.rights,
         })
     }

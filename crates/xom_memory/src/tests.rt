@@ -63,7 +63,7 @@ fn writes_are_whole_or_refused(rt: HostRuntime) {
     let Ok(mut memory) = loaded(rt.alloc()) else {
         panic!(rt; "no memory");
     };
-    let rows: [(u64, &[u8], bool); 8] = [
+    let rows: [(u64, &[u8], bool); 12] = [
         (0x20004, &[7], true),
         (0x20005, &[8], true),
         (0x20005, &[9, 9], false),
@@ -72,6 +72,10 @@ fn writes_are_whole_or_refused(rt: HostRuntime) {
         (0, &[], true),
         (STACK_END - 2, &[3, 4], true),
         (STACK_END - 1, &[9, 9], false),
+        (STACK_END - 4098, &[5, 6, 7, 8], true),
+        (STACK_START - 1, &[9, 9], false),
+        (STACK_START, &[1], true),
+        (u64::MAX, &[9, 9], false),
     ];
     for (at, bytes, allowed) in rows {
         let want = if allowed {
@@ -88,9 +92,12 @@ fn writes_are_whole_or_refused(rt: HostRuntime) {
     }
     let mut data = [0; 2];
     let mut top = [0; 2];
+    let mut pages = [9; 6];
     assert_eq!(rt; memory.read_into(0x20004, &mut data), Ok(()));
     assert_eq!(rt; memory.read_into(STACK_END - 2, &mut top), Ok(()));
+    assert_eq!(rt; memory.read_into(STACK_END - 4099, &mut pages), Ok(()));
     assert_eq!(rt; (data, top), ([7, 8], [3, 4]));
+    assert_eq!(rt; pages, [0, 5, 6, 7, 8, 0]);
 }
 
 #[test]

@@ -18,10 +18,20 @@ returns-in-Lay-clause-means g c =
     means_as c.args.command _ (world (g.F.Files.told c.args.files.now) (g.I.Source.told c.args.input.now) (g.O.Sink.told c.args.out.now))
     (world (g.F.Files.told c.lay_file.new.files) (g.I.Source.told c.args.input.now) (g.O.Sink.told c.lay_file.new.out)) c.lay_file.result c.in-Lay.is (c.lay_file.ensures.means, refl)
 
+pub returns-in-Run-clause-means : goal.returns-in-Run-clause-means
+returns-in-Run-clause-means g c =
+    means_as c.args.command _ (world (g.F.Files.told c.args.files.now) (g.I.Source.told c.args.input.now) (g.O.Sink.told c.args.out.now))
+    (world (g.F.Files.told c.run_file.new.files) (g.I.Source.told c.run_file.new.input) (g.O.Sink.told c.run_file.new.out)) c.run_file.result c.in-Run.is c.run_file.ensures.means
+
 pub returns-in-Show-clause-means : goal.returns-in-Show-clause-means
 returns-in-Show-clause-means g c =
     means_as c.args.command _ (world (g.F.Files.told c.args.files.now) (g.I.Source.told c.args.input.now) (g.O.Sink.told c.args.out.now))
     (world (g.F.Files.told c.show_file.new.files) (g.I.Source.told c.show_file.new.input) (g.O.Sink.told c.show_file.new.out)) c.show_file.result c.in-Show.is c.show_file.ensures.means
+
+pub returns-in-Eval-clause-means : goal.returns-in-Eval-clause-means
+returns-in-Eval-clause-means g c =
+    means_as c.args.command _ (world (g.F.Files.told c.args.files.now) (g.I.Source.told c.args.input.now) (g.O.Sink.told c.args.out.now))
+    (world (g.F.Files.told c.eval_file.new.files) (g.I.Source.told c.eval_file.new.input) (g.O.Sink.told c.eval_file.new.out)) c.eval_file.result c.in-Eval.is c.eval_file.ensures.means
 
 pub returns-in-Watch-clause-means : goal.returns-in-Watch-clause-means
 returns-in-Watch-clause-means g c =

@@ -22,6 +22,11 @@ none = record { after = 0; at = 0; len = 0 }
 pub loop-event-init : goal.loop-event-init
 loop-event-init g c = record { took = took_none _ _; number = ap length c.new-all.ensures; replies = λ xs h. rw c.new-all.ensures refl; order = c.requires; last = refl; faults = refl }
 
+pub reply_after-requires : goal.reply_after-requires
+reply_after-requires g c =
+    let p = place_of c.loop-event.done c.args.events.now c.loop-event.event-index none c.loop-event-test.true c.loop-event.invariant.order in
+    record { some = p.some; few = p.few }
+
 pub returns-in-Err-add-clause-halted : goal.returns-in-Err-add-clause-halted
 returns-in-Err-add-clause-halted g c =
     let e : Event = get_or c.args.events.now c.loop-event.event-index none in

@@ -1,27 +1,36 @@
-use Rattle.std.proofs.Common.{refl, arith}
-use Rattle.rd_io.specs.declared.RunFault.TheVariants as fault
-use Rattle.xom_machine.proofs.Served.{done, done_alone, cut_off, print_refused, print_done, print_cut}
+use Rattle.std.proofs.Common.{◌≡◌, ℕ, ◌<◌, ◌≤◌, List, None, ◌∙◌, arith, subst, length, take}
+use Rattle.std.specs.Prelude.{replicate}
+use Rattle.std.proofs.lemmas.List.{length-replicate, length-take-le}
+use Rattle.x86_core.specs.Memory.{read_at}
+use Rattle.x86_core.specs.Step.{Prints, served}
+use Rattle.xom_machine.specs.Standing.{streams_told}
+use Rattle.xom_machine.specs.Calls.{Ran}
+use Rattle.xom_machine.proofs.Served.{done_alone, print_refused}
 use Rattle.xom_machine.proofs.machine.Machine.print.Goals as goal
 
+-- the room, before bytes are read into it
+abbrev room : ℕ → List ℕ
+room n = replicate n 0
+
+size : (n : ℕ) → length (room n) ≡ n
+size n = length-replicate n 0
+
+count_of : (n k : ℕ) → k ≤ n → length (take k (room n)) ≡ k
+count_of n k h = length-take-le k (room n) (omega (arith, size n))
+
+pub whole_as_front-bytes : goal.whole_as_front-bytes
+whole_as_front-bytes g c = omega (arith, size g.row.N, c.requires.room, c.requires.small)
+
 pub returns-in-Ok-clause-ran : goal.returns-in-Ok-clause-ran
-returns-in-Ok-clause-ran g c = λ source. done _ _ _ _ _ _ c.answer.ensures
-    (print_done c.args.self.now c.args.after c.args.count c.in-Some.bytes.now source.left _ _ _ _
-    (cc (c.get.ensures, c.in-Some.ensures.read)) c.in-Ok.ensures.bytes c.in-Ok.ensures.number)
+returns-in-Ok-clause-ran g c = λ source.
+    let count : length c.read_into.new.out ≡ c.args.count = c.read_into.auto.out ∙ count_of g.row.N c.args.count c.requires.room in
+    subst (λ n. Ran {T = Unit {0}} (served (Prints n) c.args.after c.args.after) c.args.self.now c.put.new.self
+    (streams_told source (g.O.Sink.told c.args.sink.now)) (streams_told source (g.O.Sink.told c.put.new.sink)) c.put.result)
+    count (c.put.ensures.ran source)
 
-pub returns-in-Err-Failed-clause-ran : goal.returns-in-Err-Failed-clause-ran
-returns-in-Err-Failed-clause-ran g c = λ source. cut_off _ _ _ _ fault.Output (
-  refl,
-  print_cut c.args.self.now c.args.after c.args.count c.in-Some.bytes.now source.left _ _ _ _
-      (cc (c.get.ensures, c.in-Some.ensures.read)) (omega (arith, c.in-Some.ensures.count)) c.in-Err-Failed.ensures.bytes c.in-Err-Failed.ensures.number,
-)
-
-pub returns-in-Err-NoMemory-clause-ran : goal.returns-in-Err-NoMemory-clause-ran
-returns-in-Err-NoMemory-clause-ran g c = λ source. cut_off _ _ _ _ fault.NoMemory (
-  refl,
-  print_cut c.args.self.now c.args.after c.args.count c.in-Some.bytes.now source.left _ _ _ _
-      (cc (c.get.ensures, c.in-Some.ensures.read)) (omega (arith, c.in-Some.ensures.count)) c.in-Err-NoMemory.ensures.bytes c.in-Err-NoMemory.ensures.number,
-)
-
-pub returns-in-None-clause-ran : goal.returns-in-None-clause-ran
-returns-in-None-clause-ran g c = λ source. done_alone _ _ _ _ _ c.answer-in-None.ensures
-    (print_refused c.args.self.now c.args.after c.args.count (cc (c.get.ensures, c.in-None.ensures.read)))
+pub returns-in-Err-clause-ran : goal.returns-in-Err-clause-ran
+returns-in-Err-clause-ran g c = λ source.
+    let count : length (take c.args.count (room g.row.N)) ≡ c.args.count = count_of g.row.N c.args.count c.requires.room in
+    let some : 0 < length (take c.args.count (room g.row.N)) = omega (arith, count, c.requires.some) in
+    let none : read_at c.args.self.now.memory c.get.result c.args.count ≡ None = subst (λ n. read_at c.args.self.now.memory c.get.result n ≡ None) count (c.in-Err.ensures.some some) in
+    done_alone _ _ _ _ _ c.answer.ensures (print_refused c.args.self.now c.args.after c.args.count (cc (c.get.ensures, none)))
