@@ -4,8 +4,9 @@
 //! of the edge are put aside before the first is taken up; so a swap, a cycle and a phi that reads
 //! itself come out right. Blocks without phis are entered as before. Time and size are near linear
 //! in instructions, edges and entries of phis, each by the length of its names: blocks, entries and
-//! edges are found by sets of names, and edges from one block to another share one chunk. `specs/Lowered` has what stands where,
-//! `specs/Bound` how long a run becomes. What a program of moves means stands in `low_core`.
+//! edges are found by sets of names, and edges from one block to another share one chunk.
+//! `specs/Lowered` has what stands where, `specs/Bound` how long a run becomes. What a program of
+//! moves means stands in `low_core`.
 #![tactic(auto)]
 
 ghost use Rattle.std.specs.Prelude.{◌≡◌, ◌+◌, ◌≤◌, All, IfOk};
