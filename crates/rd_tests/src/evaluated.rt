@@ -225,12 +225,12 @@ const EXCHANGES: [(&[u8], &str, &[u8], &[u8], &[u8]); 6] = [
 
 /// The status that belongs to a line.
 fn status_of(line: &[u8]) -> u8 {
-    match line[0] {
-        b'e' => 0,
-        b't' => 20,
-        b'g' => 21,
-        b'l' => 23,
-        b'o' => 9,
+    match line {
+        [b'e', ..] => 0,
+        [b't', ..] => 20,
+        [b'g', ..] => 21,
+        [b'l', ..] => 23,
+        [b'o', ..] => 9,
         _ => 10,
     }
 }
