@@ -7,12 +7,13 @@ several runs, less that of a run of no steps; steps are counted by halving the b
 
 import os
 import shutil
-import subprocess
 import sys
 import tempfile
 
-HERE = os.path.dirname(os.path.abspath(__file__))
-PROGRAM = os.path.join(HERE, "..", "crates", "read_main", "out", "read_main")
+from reading import PROGRAM, spent
+
+# Runs of each measurement.
+RUNS = 3
 
 LOOP = """define i32 @main() {
 entry:
@@ -98,19 +99,6 @@ out:
 PROGRAMS = [("a loop", LOOP, (250000, 1000000)), ("a recursion", RECURSION, (21, 24)), ("a sort", SORT, (500, 1000))]
 
 
-def spent(words, runs=3):
-    """The least processor time of several runs, and what was said."""
-    least = float("inf")
-    for _ in range(runs):
-        process = subprocess.Popen(words, stdin=subprocess.DEVNULL, stdout=subprocess.DEVNULL, stderr=subprocess.PIPE)
-        said = process.stderr.read().decode("latin-1").strip()
-        process.stderr.close()
-        _, status, used = os.wait4(process.pid, 0)
-        process.returncode = os.waitstatus_to_exitcode(status)
-        least = min(least, used.ru_utime + used.ru_stime)
-    return least, said
-
-
 def evaluating(path, steps):
     return [PROGRAM, "eval", path, "--steps", str(steps)]
 
@@ -120,7 +108,7 @@ def steps_of(path):
     low, high = 0, 1 << 26
     while high - low > 1:
         middle = (low + high) // 2
-        if spent(evaluating(path, middle), 1)[1] == "going":
+        if spent(evaluating(path, middle), 1)[2] == "going":
             low = middle
         else:
             high = middle
@@ -148,15 +136,15 @@ def main():
                 with open(path, "w", encoding="ascii") as file:
                     file.write(text.replace("COUNT", str(count)))
                 steps = steps_of(path)
-                start, _ = spent(evaluating(path, 0))
-                cost, said = spent(evaluating(path, steps))
+                start, _, _ = spent(evaluating(path, 0), RUNS)
+                cost, _, said = spent(evaluating(path, steps), RUNS)
                 if said != "ended 0":
                     print(f"{name}: '{said}' in place of 'ended 0'")
                     return 1
                 costs.append(((cost - start) / steps, steps))
             print(f"{name + ', a step':<36} {costs[1][0] * 1e9:>8.0f} ns, {costs[1][0] / costs[0][0]:.2f} times that of {costs[0][1]} steps")
             if theirs is not None:
-                other, said = spent([*theirs, path])
+                other, _, said = spent([*theirs, path], RUNS)
                 if said:
                     print(f"left out: lli, which says {said!r}")
                     theirs = None
