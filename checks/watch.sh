@@ -4,7 +4,7 @@
 
 # 25 places, each read before the first instruction and after 5, 10, .. 35: the slots, the widest range of code, constants, data, the stack and its two ends
 places="10000000 10000005 10000010 1000002f 40000000 46474000 47c58000 4a000000 50000000 50010000"
-places="$places 20000000 30000000 30000010 bbfff000 bfffff00 bfffffc8 bfffffd0 bfffffd8 bfffffe0 bfffffe8 bffffff0 bffffff8 bfffffff c0000000 ffffffffffffffff"
+places="$places 20000000 30000000 30000010 9ffff000 bfffff00 bfffffc8 bfffffd0 bfffffd8 bfffffe0 bfffffe8 bffffff0 bffffff8 bfffffff c0000000 ffffffffffffffff"
 for steps in 0 5 10 15 20 25 30 35; do
   for place in $places; do
     echo "$steps read $place 8"

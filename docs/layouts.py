@@ -12,7 +12,7 @@ import sys
 NAMES = ["main", "start", "putchar", "getchar", "exit", "memcpy", "memset"]
 COLOURS = ["#3b6ea5", "#c0504d", "#8aa64f", "#7f63a3", "#4ba3b5", "#d68b3c", "#9c8a5a"]
 SLOTS, CODE, CODE_END = 0x10000000, 0x40000000, 0x50000000
-STACK, STACK_END = 0xBBFFF000, 0xC0000000
+STACK, STACK_END = 0x9FFFF000, 0xC0000000
 
 
 def functions_of(path):
@@ -76,9 +76,10 @@ def column(left, title, functions, segments):
     scale = height / STACK_END
     parts = [text(left + 190, 34, title, "middle", 15)]
     parts.append(box(left + 100, top, 70, height, "#ffffff"))
-    for address, name, fill in [(SLOTS, "slots", "#555555"), (0x20000000, "data", "#bbbbbb"), (STACK, "stack", "#dddddd")]:
+    stack = (STACK_END - STACK) * scale
+    for address, size, name, fill in [(SLOTS, 10, "slots", "#555555"), (0x20000000, 10, "data", "#bbbbbb"), (STACK, stack, "stack", "#dddddd")]:
         y = top + height - address * scale
-        parts += [box(left + 100, y - 10, 70, 10, fill), text(left + 94, y, f"{name} {address:x}", "end", 11)]
+        parts += [box(left + 100, y - size, 70, size, fill), text(left + 94, y, f"{name} {address:x}", "end", 11)]
     address, code, _ = segments[-1]
     y = top + height - address * scale
     span = (CODE_END - CODE) * scale

@@ -16,3 +16,15 @@ pub mod EntriesThere
 pub mod LightLaws
 pub mod BodyLaws
 pub mod Known
+pub mod ShapeLimits
+pub mod ShapeWalk
+pub mod ShapeBase
+pub mod ShapeMentions
+pub mod ShapeCounts
+pub mod ShapeBuilt
+pub mod ShapeLabels
+pub mod ShapeNames
+pub mod ShapeKnown
+pub mod ShapeKinds
+pub mod ShapeFits
+pub mod ShapeAll

@@ -14,7 +14,7 @@ ghost use Rattle.behavior.specs.Preserves.{Preserves, ReachesWithin};
 ghost use Rattle.ir_core.specs.Run.{source_run};
 ghost use Rattle.ir_core.specs.Counts.{code_count};
 ghost use Rattle.low_core.specs.Plain.{plain, moves_run};
-ghost use Rattle.low_core.specs.Shaped.{IsBody, returns_of, local_calls_of};
+ghost use Rattle.low_core.specs.Shaped.{IsBody, IsLow, returns_of, local_calls_of};
 ghost use Rattle.low_core.specs.Weights.{weight};
 ghost use Rattle.phi_lower.specs.Lowered.{bodies_without_phis};
 ghost use Rattle.phi_lower.specs.Bound.{most_steps};
@@ -38,6 +38,7 @@ pub fn lower<'a>(alloc: Global, valid: &'a Valid) -> Result<Low<'a>, NoMemory>
     ensures base { IfOk result (λ low. low.base.now ≡ valid.now.kept) }
     ensures bodies { IfOk result (λ low. low.bodies ≡ bodies_without_phis valid.now.kept) }
     ensures made { IfOk result (λ low. All IsBody low.bodies) }
+    ensures shaped { IfOk result IsLow }
     ensures keeps { IfOk result (λ low.
         Preserves (source_run valid.now.kept) (moves_run low.base.now low.bodies)) }
     ensures within { IfOk result (λ low. ReachesWithin 0 (most_steps valid.now.kept)

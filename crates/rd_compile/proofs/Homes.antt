@@ -13,7 +13,7 @@ use Rattle.rd_compile.specs.Frame.{frame_start, home_offset, HomeHolds, stack_of
 
 -- the bytes of the stack are all there
 abbrev pub IsStack : List ℕ → Type 0
-IsStack bytes = length bytes ≡ 67112960
+IsStack bytes = length bytes ≡ 536875008
 
 take_within : (n m : ℕ) (xs : List ℕ) → n ≤ m → take n (take m xs) ≡ take n xs
 take_within zero m xs le = refl
@@ -42,11 +42,11 @@ module _ (results k : ℕ) (few : results ≤ 4000) (below : k < results) where
   low : stack_start ≤ address
   low = omega arith
 
-  high : (n : ℕ) → n ≤ 8 → address + n ≤ stack_start + 67112960
+  high : (n : ℕ) → n ≤ 8 → address + n ≤ stack_start + 536875008
   high n le = omega arith
 
   inside : (bytes : List ℕ) → IsStack bytes → covers (segment stack_start bytes 6) address 4 ≡ true
-  inside bytes h = let e : length bytes ≡ 67112960 = h in and_from _ _ (le-leb stack_start address low) (le-leb (address + 4) (stack_start + length bytes) (omega (arith, e, high 4 (omega arith))))
+  inside bytes h = let e : length bytes ≡ 536875008 = h in and_from _ _ (le-leb stack_start address low) (le-leb (address + 4) (stack_start + length bytes) (omega (arith, e, high 4 (omega arith))))
 
   offset_is : address - stack_start ≡ home_offset results k
   offset_is = ap (λ a. a - stack_start) address_is
@@ -65,18 +65,18 @@ module _ (results k : ℕ) (few : results ≤ 4000) (below : k < results) where
       ap (λ b. if b then Some (with_bytes (segment stack_start bytes 6) address (le_bytes 4 w) ∷ []) else None) (inside bytes h) ∙
       ap (λ d. Some (segment stack_start (take d bytes ++ (le_bytes 4 w ++ drop (d + 4) bytes)) 6 ∷ [])) offset_is
 
-  within : home_offset results k + 8 ≤ 67112960
+  within : home_offset results k + 8 ≤ 536875008
   within = omega arith
 
   pub home_stack : (bytes : List ℕ) (w : ℕ) → IsStack bytes → IsStack (with_home bytes w)
   home_stack bytes w h =
-      let e : length bytes ≡ 67112960 = h in
+      let e : length bytes ≡ 536875008 = h in
       let front = take (home_offset results k) bytes in
       let back = drop (home_offset results k + 4) bytes in
       omega (arith, e, within, length-append front (le_bytes 4 w ++ back), length-append (le_bytes 4 w) back, length-take (home_offset results k) bytes, length-drop (home_offset results k + 4) bytes)
 
   front_long : (bytes : List ℕ) → IsStack bytes → length (take (home_offset results k) bytes) ≡ home_offset results k
-  front_long bytes h = let e : length bytes ≡ 67112960 = h in omega (arith, e, within, length-take (home_offset results k) bytes)
+  front_long bytes h = let e : length bytes ≡ 536875008 = h in omega (arith, e, within, length-take (home_offset results k) bytes)
 
   -- what was written is there
   pub home_written : (bytes : List ℕ) (w : ℕ) → w < 2 ^ 32 → IsStack bytes → HomeHolds results (with_home bytes w) k w
@@ -91,5 +91,5 @@ module _ (results k : ℕ) (few : results ≤ 4000) (below : k < results) where
       let front = take (home_offset results k) bytes in
       let back = drop (home_offset results k + 4) bytes in
       let room : home_offset results j + 4 ≤ home_offset results k = omega arith in
-      let same : take 4 (drop (home_offset results j) (front ++ (le_bytes 4 w ++ back))) ≡ take 4 (drop (home_offset results j) bytes) = unchanged bytes (home_offset results j) (home_offset results k) (le_bytes 4 w ++ back) room (let e : length bytes ≡ 67112960 = h in omega (arith, e, within)) in
+      let same : take 4 (drop (home_offset results j) (front ++ (le_bytes 4 w ++ back))) ≡ take 4 (drop (home_offset results j) bytes) = unchanged bytes (home_offset results j) (home_offset results k) (le_bytes 4 w ++ back) room (let e : length bytes ≡ 536875008 = h in omega (arith, e, within)) in
       ap le_number same ∙ covers

@@ -175,7 +175,7 @@ fn system_calls_answer(rt: HostRuntime) {
     let rows: [([u32; 4], MachOutcome, u64, u64); 13] = [
         ([60, 0x1FF, 0, 0], MachOutcome::Ended(255), 60, 0),
         ([1, 1, 0x2000_0000, 2], MachOutcome::Going, 2, 2),
-        ([1, 1, 0xBBFF_F000, 5000], MachOutcome::Going, 4096, 4096),
+        ([1, 1, 0x9FFF_F000, 5000], MachOutcome::Going, 4096, 4096),
         ([1, 1, 0x2000_0001, 2], MachOutcome::Going, BAD_ADDRESS, 0),
         ([1, 1, 0x4000_0000, 1], MachOutcome::Going, BAD_ADDRESS, 0),
         ([1, 1, 0, 0], MachOutcome::Going, 0, 0),
@@ -315,5 +315,5 @@ fn the_end_of_the_input_stores_nothing(rt: HostRuntime) {
     };
     assert!(rt; machine.run(&mut input, &mut CountSink::new(), 5) == Ok(MachOutcome::Going));
     assert_eq!(rt; machine.regs().get(Reg::Rax), 0);
-    assert_eq!(rt; STACK_START, 0xBBFF_F000);
+    assert_eq!(rt; STACK_START, 0x9FFF_F000);
 }

@@ -7,6 +7,6 @@ use Rattle.x86_core.specs.Data.{stack_bytes}
 copies_long : (n k : ℕ) → length (replicate n k) ≡ n
 copies_long n k = length-replicate n k
 
-pub stack_long : length stack_bytes ≡ 67112960
+pub stack_long : length stack_bytes ≡ 536875008
 unfolding stack_bytes
-stack_long = copies_long 67112960 0
+stack_long = copies_long 536875008 0

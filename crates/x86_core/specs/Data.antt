@@ -16,9 +16,9 @@ stack_start = STACK_START
 abbrev pub stack_end : ℕ
 stack_end = STACK_END
 
--- 64 MiB and 4,096 bytes; never opened in a proof
+-- 512 MiB and 4,096 bytes; never opened in a proof
 unfoldable pub stack_bytes : List ℕ
-stack_bytes = replicate 67112960 0
+stack_bytes = replicate 536875008 0
 
 abbrev pub segment : ℕ → List ℕ → ℕ → Segment
 segment start bytes rights = record { start = start; bytes = bytes; rights = record { 0 = rights } }

@@ -12,7 +12,7 @@ pub const RO_START: u64 = 0x2000_0000;
 pub const RW_START: u64 = 0x3000_0000;
 
 /// The lowest address of the stack.
-pub const STACK_START: u64 = 0xBBFF_F000;
+pub const STACK_START: u64 = 0x9FFF_F000;
 
 /// The address behind the stack.
 pub const STACK_END: u64 = 0xC000_0000;

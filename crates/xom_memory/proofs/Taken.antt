@@ -1,17 +1,17 @@
 -- A write or a byte that is taken, in front of the stack or in it, is allowed exactly where the definition says.
-use Rattle.std.proofs.Common.{◌≡◌, ℕ, ◌-◌, ◌<◌, zero, suc, Bool, true, false, ◌&&◌, ◌||◌, eqb, List, [], ◌∷◌, ◌++◌, length, Option, Some, None, IsSome, Result, Ok, Err, OnOk, OnErr, refl, ap, sym, ◌∙◌, subst, arith}
+use Rattle.std.proofs.Common.{◌≡◌, ℕ, ◌-◌, ◌<◌, Bool, true, false, ◌&&◌, ◌||◌, eqb, List, [], ◌∷◌, ◌++◌, length, Option, Some, None, IsSome, Result, Ok, Err, OnOk, OnErr, refl, ap, sym, ◌∙◌, subst, arith}
 use Rattle.std.proofs.lemmas.Bool.Decides.{nat_tests}
 use Rattle.std.specs.Option.{unwrap_or}
 use Rattle.rd_io.specs.Told.{SourceTold}
 use Rattle.x86_core.specs.declared.image.Segment.{Segment}
 use Rattle.x86_core.specs.Data.{segment}
-use Rattle.x86_core.specs.Memory.{writes, covers, one_covers, is_allowed, write_at, with_bytes}
+use Rattle.x86_core.specs.Memory.{writes, covers, one_covers, is_allowed, write_at}
 use Rattle.xom_memory.specs.declared.memory.WriteFault.{WriteFault}
 use Rattle.xom_memory.specs.declared.memory.WriteFault.TheVariants.{Refused, NoMemory}
 use Rattle.xom_memory.specs.declared.memory.TakeFault.{TakeFault}
 use Rattle.xom_memory.specs.declared.memory.TakeFault.TheVariants as take
 use Rattle.xom_memory.specs.Access.{written_at, Wrote, Written, Permits}
-use Rattle.xom_memory.specs.Taking.{Asked, TakesTo, TakesInto}
+use Rattle.xom_memory.specs.Taking.{TakesTo, TakesInto}
 use Rattle.xom_memory.proofs.Allowed.{write_allowed, write_refused}
 use Rattle.xom_memory.proofs.Behind.{write_front, write_back, holds_behind}
 

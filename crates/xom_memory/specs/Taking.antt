@@ -1,5 +1,5 @@
 -- What a byte that is taken from a source to an address does to the segments and to the source.
-use Rattle.std.specs.Prelude.{◌≡◌, ℕ, Bool, true, false, List, [], ◌∷◌, Option, None, Some, Result, Ok, Err}
+use Rattle.std.specs.Prelude.{◌≡◌, ℕ, true, false, List, [], ◌∷◌, Option, None, Some, Result, Ok, Err}
 use Rattle.rd_io.specs.Causes.{Caused}
 use Rattle.rd_io.specs.Outside.{Takes, Ends}
 use Rattle.rd_io.specs.Told.{SourceTold}

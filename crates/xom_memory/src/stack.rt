@@ -1,4 +1,4 @@
-//! The stack: 64 MiB and 4,096 bytes that are zero at first and may be read and written.
+//! The stack: 512 MiB and 4,096 bytes that are zero at first and may be read and written.
 //!
 //! It is kept in pages, so that it takes memory for the pages that were written to and no others.
 

@@ -127,7 +127,7 @@ fn segments_are_told_in_order(rt: HostRuntime) {
         Some((0x10000, 3, 1)),
         Some((0x20000, 4, 4)),
         Some((0x20004, 2, 6)),
-        Some((STACK_START, 67_112_960, 6)),
+        Some((STACK_START, 536_875_008, 6)),
         None,
     ];
     for (i, want) in rows.iter().enumerate() {

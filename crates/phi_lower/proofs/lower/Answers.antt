@@ -1,3 +1,4 @@
+use Rattle.phi_lower.proofs.ShapeAll.{known_shaped}
 use Rattle.phi_lower.proofs.Known.{known_single, known_keeps, known_within, known_weighs, known_returns, known_calls, known_made}
 use Rattle.phi_lower.proofs.lower.Goals as goal
 
@@ -21,3 +22,6 @@ returns-clause-calls c = known_calls _ _ _ c.module-base.ensures.value c.in_ok-b
 
 pub returns-clause-made : goal.returns-clause-made
 returns-clause-made c = known_made _ _ c.module-base.ensures.valid c.in_ok-bodies.ensures
+
+pub returns-clause-shaped : goal.returns-clause-shaped
+returns-clause-shaped c = known_shaped _ _ c.module-base.ensures.valid c.in_ok-bodies.ensures
