@@ -57,7 +57,7 @@ end_weight Ret = 96
 end_weight (RetValue ty a) = 96 + operand_weight a
 end_weight (Br to) = 8
 end_weight (BrIf condition taken other) = 28 + operand_weight condition
-end_weight (Switch ty a default cases) = 40 + operand_weight a + cases_weight cases
+end_weight (Switch ty a default cases) = 96 + operand_weight a + cases_weight cases
 end_weight Unreachable = 8
 
 -- a block

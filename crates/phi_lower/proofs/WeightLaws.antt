@@ -105,7 +105,7 @@ ways_weight blocks from Ret = refl
 ways_weight blocks from (RetValue ty a) = refl
 ways_weight blocks from (Br to) = refl
 ways_weight blocks from (BrIf condition taken other) = refl
-ways_weight blocks from (Switch ty a default cases) = ap (λ n. 40 + operand_weight a + n) (sum_map (λ (c : Case). 144) (λ (c : Case). case_to c (first_on_way blocks from c.to)) cases)
+ways_weight blocks from (Switch ty a default cases) = ap (λ n. 96 + operand_weight a + n) (sum_map (λ (c : Case). 144) (λ (c : Case). case_to c (first_on_way blocks from c.to)) cases)
 ways_weight blocks from Unreachable = refl
 
 -- moves
