@@ -84,3 +84,18 @@ sel_own = 112
 -- what a function asks of its frame: each register is a word, and so is each argument that is passed on the stack
 abbrev pub sel_room : SelFun → ℕ
 sel_room f = sel_own + 8 * f.registers + 8 * words_passed f + f.frame
+
+-- an operation that goes by a slot
+abbrev pub calls_at : SelOp → ℕ
+calls_at (Call f r args) = 1
+calls_at (CallAt s r args) = 1
+calls_at (Outside which r args) = 1
+calls_at other = 0
+
+-- the calls of a program
+abbrev pub calls_of : Sel → ℕ
+calls_of sel = sum_by (λ (f : SelFun). sum_by (λ (b : SelBlock). sum_by calls_at b.ops) f.blocks) sel.functions
+
+-- slots that a program may come to: one for each function and each call, the entry, and five of the routines
+abbrev pub most_slots_of : Sel → ℕ
+most_slots_of sel = length sel.functions + calls_of sel + 6

@@ -1,10 +1,12 @@
 //! Laws of programs without phis, and of programs of registers.
 
-ghost use Rattle.std.specs.Prelude.{◌≡◌, ℕ, List};
+ghost use Rattle.std.specs.Prelude.{◌≡◌, ℕ, ◌<◌, List};
 ghost use Rattle.ir_core.specs.declared.module.Module.{Module};
 ghost use Rattle.low_core.specs.Plain.{plain, bodies_of};
 ghost use Rattle.low_core.specs.declared.sel.Sel.{Sel};
 ghost use Rattle.low_core.specs.Plan.{Plan, Content};
+ghost use Rattle.low_core.specs.SelShaped.{IsSel};
+ghost use Rattle.low_core.specs.SelWeights.{most_slots_of};
 ghost use Rattle.low_core.specs.SelRun.{SelAddsByteByByte, SelStaysStopped};
 
 /// Every module is one that some bodies stand for, those of its own blocks: with a copy in place of a
@@ -21,4 +23,11 @@ pub fn register_runs()
         SelAddsByteByByte sel plan contents input }
     ensures stays { (sel : Sel) (plan : Plan) (contents : List Content) (input : List ℕ) →
         SelStaysStopped sel plan contents input }
+{}
+
+/// A function and each kind of call weigh so much that no program of registers asks for more slots
+/// than an object can have.
+#[tactic(auto, using(crate::proofs::FewSlots::few_slots))]
+pub fn slots_are_few()
+    ensures { (sel : Sel) → IsSel sel → most_slots_of sel < 1048576 }
 {}
