@@ -1,5 +1,6 @@
 -- What ties a memory of objects to flat memory. Objects have no addresses; here each has one, the dead ones too.
 use Rattle.std.specs.Prelude.{◌≡◌, ◌≢◌, ℕ, ◌+◌, ◌<◌, ◌≤◌, ◌^◌, List, [], ◌∷◌, ◌++◌, ◌⊎◌, Bool, true, false, length, map, slice_get, Option, Some, get_or}
+use Rattle.rd_num.specs.Number.{bits}
 use Rattle.ir_core.specs.declared.memory.Value.{Value}
 use Rattle.ir_core.specs.declared.memory.Value.TheVariants.{Num, Null, At, Fun}
 use Rattle.ir_core.specs.declared.memory.Cell.{Cell}
@@ -34,27 +35,40 @@ pub record Lives (m : Memory) (i : ℕ) (x : Object0) : Type 0 where
 abbrev pub place_of : Places → ℕ → ℕ
 place_of at i = get_or at.objects i 0
 
--- a value that can arise: a place in one of so many objects, or a function to which a pointer may arise
+-- a place in one of so many objects, or a function to which a pointer may arise
+abbrev pub IsAddress : ℕ → List Bool → Value → Type 0
+IsAddress objects taken (Num w n) = ⊥
+IsAddress objects taken Null = ⊥
+IsAddress objects taken (At o d) = (o < objects) × (d < 2 ^ 64)
+IsAddress objects taken (Fun f) = slice_get taken f ≡ Some true
+
+-- a value that can arise: an address, null, or a number of its width
 abbrev pub IsKnown : ℕ → List Bool → Value → Type 0
-IsKnown objects taken (Num w n) = Unit {0}
+IsKnown objects taken (Num w n) = n < 2 ^ bits w
 IsKnown objects taken Null = Unit {0}
-IsKnown objects taken (At o d) = (o < objects) × (d < 2 ^ 64)
-IsKnown objects taken (Fun f) = slice_get taken f ≡ Some true
+IsKnown objects taken (At o d) = IsAddress objects taken (At o d)
+IsKnown objects taken (Fun f) = IsAddress objects taken (Fun f)
 
 -- a byte in flat memory fits a cell: a number is there, a piece is that byte of its value's word, and an unset one may be any
 abbrev pub FitsCell : ℕ → List Bool → Places → Option ℕ → Cell → Type 0
 FitsCell objects taken at b Unset = Unit {0}
 FitsCell objects taken at b (Byte n) = b ≡ Some n
-FitsCell objects taken at b (Piece v k) = (b ≡ Some (byte_of k (word_of at v))) × IsKnown objects taken v
+FitsCell objects taken at b (Piece v k) = (b ≡ Some (byte_of k (word_of at v))) × IsAddress objects taken v
 
 abbrev pub IsOneOf : ℕ → List ℕ → Type 0
 IsOneOf i [] = ⊥
 IsOneOf i (o ∷ os) = (i ≡ o) ⊎ IsOneOf i os
 
--- the object is an alloca of one of the calls, inside of that call's own memory
+-- the object is an alloca of a call, inside of that call's own memory, which may be written
+pub record IsAllocaOf (c : CallMemory) (i at size : ℕ) : Type 0 where
+  pub made : IsOneOf i c.objects
+  pub inside : covers at size c.own ≡ true
+  pub writable : c.own.writable ≡ true
+
+-- of one of the calls
 abbrev pub IsInCall : List CallMemory → ℕ → ℕ → ℕ → Type 0
 IsInCall [] i at size = ⊥
-IsInCall (c ∷ cs) i at size = (IsOneOf i c.objects × (covers at size c.own ≡ true)) ⊎ IsInCall cs i at size
+IsInCall (c ∷ cs) i at size = IsAllocaOf c i at size ⊎ IsInCall cs i at size
 
 -- a global is the live object of its number, at its address, with the size and the constancy of its content
 pub record IsGlobal (m : Memory) (at : Places) (n a : ℕ) (c : Content) : Type 0 where

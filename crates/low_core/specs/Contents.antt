@@ -6,6 +6,7 @@ use Rattle.ir_core.specs.declared.memory.Cell.{Cell}
 use Rattle.ir_core.specs.declared.memory.Cell.TheVariants.{Unset, Byte, Piece}
 use Rattle.ir_core.specs.declared.memory.Object0.{Object0}
 use Rattle.ir_core.specs.declared.module.Module.{Module}
+use Rattle.ir_core.specs.Memory.{Memory}
 use Rattle.ir_core.specs.Globals.{first_objects}
 use Rattle.low_core.specs.Plan.{Plan, Content}
 
@@ -36,6 +37,14 @@ cell_byte at Unset = 0
 abbrev pub content_of : Places → Object0 → Content
 content_of at x = record { constant = x.constant; bytes = map (cell_byte at) x.cells }
 
--- the globals of a module under a plan
+-- the addresses that a plan gives to globals and to functions
+abbrev pub places_of : Plan → Places
+places_of plan = record { objects = plan.globals; functions = plan.functions }
+
+-- globals under a plan
+abbrev pub contents_of : Plan → Memory → List Content
+contents_of plan objects = map (content_of (places_of plan)) objects
+
+-- the globals of a module under it
 abbrev pub data_bytes : Module → Plan → List Content
-data_bytes m plan = map (content_of (record { objects = plan.globals; functions = plan.functions })) (first_objects m)
+data_bytes m plan = contents_of plan (first_objects m)
