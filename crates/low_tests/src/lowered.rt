@@ -1,13 +1,12 @@
 //! Phis taken out of valid modules: how many chunks the first function comes to.
 
+use ir_check::check;
 use ir_core::valid::Valid;
+use ir_lex::lex;
+use ir_parse::parse::parse;
 use phi_lower::lower;
-use rd_top::file::FileKind;
 use std::alloc::Global;
 use std::test::Fail;
-
-/// The most bytes of a text.
-const MOST: usize = 8_388_608;
 
 /// Modules, and the blocks of the first function with a chunk for each two blocks that an edge to
 /// phis leads between.
@@ -38,12 +37,16 @@ const CHUNKS: [(&[u8], usize); 5] = [
     (b"define i32 @main() { ret i32 7 }", 1),
 ];
 
+/// The module of a text, if it is valid.
+fn valid_of(alloc: Global, text: &[u8]) -> Option<Valid> {
+    let tokens = lex(alloc, text).ok()?;
+    let whole = parse(alloc, &tokens, text.len() as u64).ok()?;
+    check(alloc, whole).ok()
+}
+
 /// The number of chunks in the first function of the module of a text, if it is valid.
 fn chunks(alloc: Global, text: &[u8]) -> Option<usize> {
-    if text.len() > MOST {
-        return None;
-    }
-    let valid: Valid = Valid::parse(alloc, text).ok()?;
+    let valid = valid_of(alloc, text)?;
     let low = lower(alloc, &valid).ok()?;
     match low.bodies.as_slice() {
         [first, ..] => Some(first.chunks.len()),
