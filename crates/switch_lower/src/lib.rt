@@ -7,10 +7,6 @@
 //! each. Time and size go by n log n in the cases. `specs/Bodies` has what stands where.
 #![tactic(auto)]
 
-ghost use Rattle.std.specs.Prelude.{◌≡◌};
-
-pub fn id(n: u32) -> u32
-    ensures { result ≡ n }
-{
-    n
-}
+pub mod fresh;
+pub mod tree;
+pub mod ways;
