@@ -1,2 +1,4 @@
 pub mod FreshLaws
 pub mod ListLaws
+pub mod TreeLaws
+pub mod BodyLaws
