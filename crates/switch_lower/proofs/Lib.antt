@@ -5,3 +5,4 @@ pub mod BodyLaws
 pub mod Same
 pub mod Names
 pub mod Turns
+pub mod Labels
