@@ -6,3 +6,4 @@ pub mod Same
 pub mod Names
 pub mod Turns
 pub mod Labels
+pub mod WayLaws
