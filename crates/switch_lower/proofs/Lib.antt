@@ -7,3 +7,4 @@ pub mod Names
 pub mod Turns
 pub mod Labels
 pub mod WayLaws
+pub mod Runs
