@@ -8,3 +8,4 @@ pub mod Turns
 pub mod Labels
 pub mod WayLaws
 pub mod Runs
+pub mod Facts
