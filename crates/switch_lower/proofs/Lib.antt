@@ -9,3 +9,4 @@ pub mod Labels
 pub mod WayLaws
 pub mod Runs
 pub mod Facts
+pub mod Ends

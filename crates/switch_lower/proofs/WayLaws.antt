@@ -205,10 +205,10 @@ pub ways_some : (ty : Ty) (c : Case) (cs : List Case) → 0 < length (ways ty (c
 ways_some ty c cs = put_some (ways ty cs) (case_number (kind_of ty) c.value) c.to
 
 -- a case that fits is a number
-abbrev IsNumber : Module → Kind → Operand → ℕ → Type 0
+abbrev pub IsNumber : Module → Kind → Operand → ℕ → Type 0
 IsNumber m kind a n = (u : Width) × (value_of m [] kind a ≡ Ok (Num u n))
 
-case_is : (m : Module) (kind : Kind) (w : Width) (a : Operand) → same_kind kind (Number w) ≡ true → operand_fits m (λ name. None) (Number w) a ≡ true → IsNumber m kind a (case_number (Number w) a)
+pub case_is : (m : Module) (kind : Kind) (w : Width) (a : Operand) → same_kind kind (Number w) ≡ true → operand_fits m (λ name. None) (Number w) a ≡ true → IsNumber m kind a (case_number (Number w) a)
 case_is m NoValue w a same fits = not_true same
 case_is m Pointer w a same fits = not_true same
 case_is m (Number v) w (Int (pos n)) same fits = (v, ap (λ b. Ok (Num v (n % 2 ^ b))) (eqb-true (bits v) (bits w) same))
