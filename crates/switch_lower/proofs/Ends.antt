@@ -41,7 +41,7 @@ use Rattle.switch_lower.specs.Fresh.{zeros_of, chunk_name}
 use Rattle.switch_lower.specs.Tree.{Choice, tree, tree_of, ways_within}
 use Rattle.switch_lower.specs.Bodies.{with_end, chunks_by, chunks_for, chunks_from, padding_in, body_of, bodies_without_switches}
 use Rattle.switch_lower.specs.Bound.{cases_at, most_cases, depth_within, depth_for}
-use Rattle.switch_lower.proofs.Same.{NamesAgree, Same, IsUnder, value_same, not_true}
+use Rattle.switch_lower.proofs.Same.{NamesAgree, Same, IsUnder, value_any, value_same, not_true}
 use Rattle.switch_lower.proofs.Names.{name_is}
 use Rattle.switch_lower.proofs.TreeLaws.{tree_deep, ways_many}
 use Rattle.switch_lower.proofs.Turns.{with_body, lowered, lowered_all, IsFound, IsBeside, AreBeside, with_frames, TurnsBeside, then_beside, return_beside}
@@ -239,9 +239,9 @@ module _ (base : Module) (bodies : List Body) (input : List ℕ) where
     pub return_met : MetBy Ret Ret
     return_met from = turned_met s (g ∷ gs) _ _ all (return_beside base bodies s f g fs gs (g ∷ gs) None x.into x.objects callers)
 
-    pub value_met : (ty : Ty) (a : Operand) → operand_fits m env (kind_of ty) a ≡ true → MetBy (RetValue ty a) (RetValue ty a)
-    value_met ty a fits from =
-        turned_met s (g ∷ gs) _ _ all (then_beside base bodies (value_of m f.locals (kind_of ty) a) (value_of w g.locals (kind_of ty) a) _ _ (value_both (kind_of ty) a fits)
+    pub value_met : (ty : Ty) (fit : Kind) (a : Operand) → operand_fits m env fit a ≡ true → MetBy (RetValue ty a) (RetValue ty a)
+    value_met ty fit a fits from =
+        turned_met s (g ∷ gs) _ _ all (then_beside base bodies (value_of m f.locals (kind_of ty) a) (value_of w g.locals (kind_of ty) a) _ _ (value_any m (lowered_all base bodies) agree padding env under f.locals g.locals x.locals (kind_of ty) fit a fits)
         (λ v. return_beside base bodies s f g fs gs (g ∷ gs) (Some v) x.into x.objects callers))
 
     pub br_met : (to : List ℕ) → MetBy (Br to) (Br to)

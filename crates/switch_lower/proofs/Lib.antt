@@ -10,3 +10,4 @@ pub mod WayLaws
 pub mod Runs
 pub mod Facts
 pub mod Ends
+pub mod Keeps

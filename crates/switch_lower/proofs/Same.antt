@@ -74,16 +74,19 @@ module _ (m : Module) (fs : List Function) (agree : NamesAgree m fs) (padding : 
   abbrev pub w : Module
   w = with_functions m fs
 
-  -- an operand
+  -- an operand, at the kind that it fits or at another
+  pub value_any : (kind fit : Kind) (a : Operand) → operand_fits m env fit a ≡ true → value_of m locals kind a ≡ value_of w locals2 kind a
+  value_any kind fit (Int n) fits = refl
+  value_any kind fit (Truth b) fits = refl
+  value_any kind fit NullWord fits = refl
+  value_any kind fit Undef fits = refl
+  value_any kind fit Poison fits = refl
+  value_any kind fit (LocalName name) fits = same name (under name fit (and_parts (is_value fit) (has_kind (env name) fit) fits).1)
+  value_any kind fit (Global name) fits = ap (named_value (global_number m name)) (sym (agree name))
+  value_any kind fit (Const place) fits = refl
+
   pub value_same : (kind : Kind) (a : Operand) → operand_fits m env kind a ≡ true → value_of m locals kind a ≡ value_of w locals2 kind a
-  value_same kind (Int n) fits = refl
-  value_same kind (Truth b) fits = refl
-  value_same kind NullWord fits = refl
-  value_same kind Undef fits = refl
-  value_same kind Poison fits = refl
-  value_same kind (LocalName name) fits = same name (under name kind (and_parts (is_value kind) (has_kind (env name) kind) fits).1)
-  value_same kind (Global name) fits = ap (named_value (global_number m name)) (sym (agree name))
-  value_same kind (Const place) fits = refl
+  value_same kind a fits = value_any kind kind a fits
 
   -- arguments that pass a test by which their values fit
   pub values_same : (test : Arg → Bool) → ((a : Arg) → test a ≡ true → operand_fits m env (kind_of a.ty) a.value ≡ true) → (args : List Arg) → list_all test args ≡ true → values_of m locals args ≡ values_of w locals2 args

@@ -53,9 +53,9 @@ pub record IsFound (fs : List Function) (bodies : List Body) (number : ℕ) : Ty
   pub in_second : slice_get (with_bodies fs (bodies_of fs bodies)) number ≡ Some (lowered fn body)
 
 -- there is one, or there is none
-pub find : (fs : List Function) (bodies : List Body) (number : ℕ) → (slice_get (with_bodies fs bodies) number ≡ None) ⊎ IsFound fs bodies number
-find [] bodies number = inl refl
-find (f ∷ fs) [] number = inl refl
+pub find : (fs : List Function) (bodies : List Body) (number : ℕ) → ((slice_get (with_bodies fs bodies) number ≡ None) × (slice_get (with_bodies fs (bodies_of fs bodies)) number ≡ None)) ⊎ IsFound fs bodies number
+find [] bodies number = inl (refl, refl)
+find (f ∷ fs) [] number = inl (refl, refl)
 find (f ∷ fs) (b ∷ bs) zero = inr (record { fn = f; body = b; body_at = refl; in_first = refl; in_second = refl })
 find (f ∷ fs) (b ∷ bs) (suc number) = elim (find fs bs number) [
   | inl e ↦ inl e
@@ -212,7 +212,7 @@ module _ (base : Module) (bodies : List Body) where
     -- a call of a function of the module
     entry_beside : (s : State) (fs gs frames2 : List Frame) (ret : Kind) (kinds : List Kind) (values : List Value) (into : Option (List ℕ)) (callee : Value) → length frames2 ≡ length s.frames → AreBeside base bodies fs gs → TurnsBeside (entry_turn m s fs ret kinds values into callee) (entry_turn w (with_frames s frames2) gs ret kinds values into callee)
     entry_beside s fs gs frames2 ret kinds values into (Fun number) many all = elim (find base.functions bodies number) [
-      | inl none ↦ subst (λ o. TurnsBeside (and_then (found_or Malformed o) (entered s number (length s.frames) fs ret kinds values into)) (entry_turn w (with_frames s frames2) gs ret kinds values into (Fun number))) (sym none) (inl refl)
+      | inl none ↦ subst (λ o. TurnsBeside (and_then (found_or Malformed o) (entered s number (length s.frames) fs ret kinds values into)) (entry_turn w (with_frames s frames2) gs ret kinds values into (Fun number))) (sym none.0) (inl refl)
       | inr x ↦
           subst (λ o. TurnsBeside (and_then (found_or Malformed o) (entered s number (length s.frames) fs ret kinds values into)) (entry_turn w (with_frames s frames2) gs ret kinds values into (Fun number))) (sym x.in_first)
           (subst (λ o. TurnsBeside (entered s number (length s.frames) fs ret kinds values into (with_body x.fn x.body)) (and_then (found_or Malformed o) (entered s number (length frames2) gs ret kinds values into))) (sym x.in_second)
