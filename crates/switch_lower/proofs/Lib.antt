@@ -11,3 +11,4 @@ pub mod Runs
 pub mod Facts
 pub mod Ends
 pub mod Keeps
+pub mod Known

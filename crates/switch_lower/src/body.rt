@@ -2,14 +2,14 @@
 
 ghost use Rattle.std.specs.Prelude.{◌≡◌, ◌++◌, IfOk, OnOk, length};
 ghost use Rattle.ir_core.specs.declared.instruction.Term.TheVariants.{Switch as SwitchEnd};
-ghost use Rattle.switch_lower.specs.Bodies.{chunks_by, chunks_for, chunks_from, body_of, bodies_of};
+ghost use Rattle.switch_lower.specs.Bodies.{chunks_by, chunks_for, chunks_from, body_of, bodies_of, bodies_without_switches};
 
 use crate::copy::{copy_chunk, copy_moves};
 use crate::fresh::{chunk_name, padding};
 use crate::tree::Switch;
 use crate::ways::ways;
 use ir_core::instruction::{Case, Term};
-use ir_core::module::Function;
+use ir_core::module::{Function, Module};
 use low_core::copies::copy_name;
 use low_core::moves::{Body, Chunk};
 use rd_num::list::List;
@@ -89,8 +89,19 @@ fn lower_body(alloc: Global, f: &Function, b: &Body) -> Result<Body, NoMemory>
     Ok(Body { chunks })
 }
 
+/// The bodies of a program without switches.
+pub fn lower_program(
+    alloc: Global,
+    base: &Module,
+    bodies: &List<Body>,
+) -> Result<List<Body>, NoMemory>
+    ensures { IfOk result (λ bs. bs ≡ bodies_without_switches base.now bodies.now) }
+{
+    lower_bodies(alloc, base.functions.as_slice(), bodies.as_slice())
+}
+
 /// The bodies of functions without switches.
-pub fn lower_bodies(
+fn lower_bodies(
     alloc: Global,
     functions: &[Function],
     bodies: &[Body],

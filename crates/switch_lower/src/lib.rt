@@ -8,8 +8,11 @@
 #![tactic(auto)]
 
 ghost use Rattle.std.specs.Prelude.{◌≡◌, IfOk};
+ghost use Rattle.behavior.specs.Preserves.{Preserves, ReachesWithin};
+ghost use Rattle.low_core.specs.Plain.{moves_run};
 ghost use Rattle.low_core.specs.Shaped.{IsLow};
 ghost use Rattle.switch_lower.specs.Bodies.{bodies_without_switches};
+ghost use Rattle.switch_lower.specs.Bound.{most_steps};
 
 pub mod body;
 pub mod copy;
@@ -17,7 +20,7 @@ pub mod fresh;
 pub mod tree;
 pub mod ways;
 
-use crate::body::lower_bodies;
+use crate::body::lower_program;
 use low_core::moves::{Lean, Low};
 use rd_num::width::NoMemory;
 use std::alloc::Global;
@@ -31,8 +34,12 @@ pub fn lower<'a>(alloc: Global, low: &Low<'a>) -> Result<Lean<'a>, NoMemory>
     ensures base { IfOk result (λ lean. lean.base.now ≡ low.now.base.now) }
     ensures bodies { IfOk result (λ lean. lean.bodies ≡
         bodies_without_switches low.now.base.now low.now.bodies) }
+    ensures keeps { IfOk result (λ lean. Preserves (moves_run low.now.base.now low.now.bodies)
+        (moves_run lean.base.now lean.bodies)) }
+    ensures within { IfOk result (λ lean. ReachesWithin 0 (most_steps low.now.bodies)
+        (moves_run low.now.base.now low.now.bodies) (moves_run lean.base.now lean.bodies)) }
 {
     let base = low.base;
-    let bodies = lower_bodies(alloc, base.functions.as_slice(), low.bodies.as_slice())?;
+    let bodies = lower_program(alloc, base, &low.bodies)?;
     Ok(Lean { base, bodies })
 }
