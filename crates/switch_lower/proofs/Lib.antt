@@ -1,5 +1,3 @@
-pub mod FreshLaws
-pub mod ListLaws
 pub mod ShapeRows
 pub mod ShapeTree
 pub mod ShapeWays
@@ -18,3 +16,7 @@ pub mod ShapeKnown
 pub mod ShapeTypes
 pub mod ShapeFits
 pub mod ShapeAll
+pub mod FreshLaws
+pub mod ListLaws
+pub mod TreeLaws
+pub mod BodyLaws

@@ -7,6 +7,32 @@
 //! each. Time and size go by n log n in the cases. `specs/Bodies` has what stands where.
 #![tactic(auto)]
 
+ghost use Rattle.std.specs.Prelude.{◌≡◌, IfOk};
+ghost use Rattle.low_core.specs.Shaped.{IsLow};
+ghost use Rattle.switch_lower.specs.Bodies.{bodies_without_switches};
+
+pub mod body;
+pub mod copy;
 pub mod fresh;
 pub mod tree;
 pub mod ways;
+
+use crate::body::lower_bodies;
+use low_core::moves::{Lean, Low};
+use rd_num::width::NoMemory;
+use std::alloc::Global;
+
+/// A program without switches that means what a program without phis means.
+///
+/// `bodies` says which it is. A step of the program is met by at least one step and at most so many
+/// as `most_steps` says.
+pub fn lower<'a>(alloc: Global, low: &Low<'a>) -> Result<Lean<'a>, NoMemory>
+    requires { IsLow low.now }
+    ensures base { IfOk result (λ lean. lean.base.now ≡ low.now.base.now) }
+    ensures bodies { IfOk result (λ lean. lean.bodies ≡
+        bodies_without_switches low.now.base.now low.now.bodies) }
+{
+    let base = low.base;
+    let bodies = lower_bodies(alloc, base.functions.as_slice(), low.bodies.as_slice())?;
+    Ok(Lean { base, bodies })
+}

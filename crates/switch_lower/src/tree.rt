@@ -1,8 +1,9 @@
 //! The compare tree of a switch.
 
-ghost use Rattle.std.specs.Prelude.{◌≡◌, ◌+◌, [], ◌∷◌, ◌++◌, IfOk, OnOk, length};
-ghost use Rattle.ir_core.specs.declared.instruction.Pred.TheVariants.{Eq};
-ghost use Rattle.switch_lower.specs.Tree.{compare_chunk, read_chunk, onward, tests, row};
+ghost use Rattle.std.specs.Prelude.{◌≡◌, ◌+◌, ◌*◌, ◌^◌, [], ◌∷◌, ◌++◌, ◌≤◌, IfOk, OnOk, length};
+ghost use Rattle.ir_core.specs.declared.instruction.Pred.TheVariants.{Eq, Ult};
+ghost use Rattle.switch_lower.specs.Fresh.{chunk_name as chunk_name_of};
+ghost use Rattle.switch_lower.specs.Tree.{compare_chunk, read_chunk, onward, tests, row, ways_within, size_within, tree, tree_of};
 
 use crate::fresh::{chunk_name, test_name};
 use ir_core::instruction::{Op, Pred, Term};
@@ -36,6 +37,31 @@ impl<'a> Model for Switch<'a> {
 
     ghost view = { λ s. record {
         ty = s.ty.now; value = s.value.now; default = s.default.now; padding = s.padding } };
+}
+
+/// How many chunks a full tree of a depth has, with the comparison in front of it. Takes no memory.
+fn size(depth: u32) -> u64
+    requires { depth ≤ 60 }
+    ensures value { result ≡ size_within depth }
+    ensures within { result ≤ 5 * 2 ^ 60 }
+{
+    5 << depth
+}
+
+/// How many ways a tree of a depth can have. Takes no memory.
+fn half(depth: u32) -> usize
+    requires { depth ≤ 60 }
+    ensures { result ≡ ways_within depth }
+{
+    4 << depth
+}
+
+/// A depth that serves all ways that a memory can hold. Takes no memory.
+fn deepest(ways: &[(u64, Name)]) -> u32
+    ensures serves { length ways.now ≤ ways_within result }
+    ensures within { result ≤ 61 }
+{
+    61
 }
 
 impl<'a> Switch<'a> {
@@ -147,5 +173,63 @@ impl<'a> Switch<'a> {
         } else {
             self.add_tests(alloc, all, ways)
         }
+    }
+
+    /// Adds the comparison that leads to the left half of a tree or to its right half.
+    fn add_halving(
+        &self,
+        alloc: Global,
+        all: &mut List<Chunk>,
+        number: u64,
+        depth: u32,
+    ) -> Result<(), NoMemory>
+        requires { depth ≤ 60 }
+        ensures { OnOk result (all.new ≡ all.old ++ compare_chunk self.now (length all.old) Ult
+            number (chunk_name_of self.now.padding (length all.old + 1))
+            (chunk_name_of self.now.padding (length all.old + size_within depth)) ∷ []) }
+    {
+        let at = all.as_slice().len() as u64;
+        let left = chunk_name(alloc, self.padding, at + 1)?;
+        let right = chunk_name(alloc, self.padding, at + size(depth))?;
+        let halving = self.compare(alloc, at, Pred::Ult, number, left, right)?;
+        all.add(halving)
+    }
+
+    /// Adds a tree of at most a depth.
+    fn add_tree(
+        &self,
+        alloc: Global,
+        all: &mut List<Chunk>,
+        ways: &[(u64, Name)],
+        depth: u32,
+    ) -> Result<(), NoMemory>
+        requires { depth ≤ 61 }
+        ensures { OnOk result (all.new ≡ all.old ++
+            tree self.now depth (length all.old) ways.now) }
+    {
+        if depth == 0 {
+            return self.add_row(alloc, all, ways);
+        }
+        let half = half(depth - 1);
+        if ways.len() <= half {
+            return self.add_tree(alloc, all, ways, depth - 1);
+        }
+        self.add_halving(alloc, all, ways[half].0, depth - 1)?;
+        self.add_tree(alloc, all, &ways[..half], depth - 1)?;
+        self.add_tree(alloc, all, &ways[half..], depth - 1)?;
+        Ok(())
+    }
+
+    /// Adds the compare tree of a switch with these ways.
+    pub fn add(
+        &self,
+        alloc: Global,
+        all: &mut List<Chunk>,
+        ways: &[(u64, Name)],
+    ) -> Result<(), NoMemory>
+        ensures { OnOk result (all.new ≡ all.old ++ tree_of self.now (length all.old) ways.now) }
+    {
+        self.add_tree(alloc, all, ways, deepest(ways))?;
+        Ok(())
     }
 }
