@@ -16,6 +16,7 @@ pub mod ShapeKnown
 pub mod ShapeTypes
 pub mod ShapeFits
 pub mod ShapeAll
+pub mod ShapeResult
 pub mod FreshLaws
 pub mod ListLaws
 pub mod TreeLaws

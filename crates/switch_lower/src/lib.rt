@@ -7,8 +7,10 @@
 //! each. Time and size go by n log n in the cases. `specs/Bodies` has what stands where.
 #![tactic(auto)]
 
-ghost use Rattle.std.specs.Prelude.{◌≡◌, IfOk};
-ghost use Rattle.low_core.specs.Shaped.{IsLow};
+ghost use Rattle.std.specs.Prelude.{◌≡◌, ◌≤◌, IfOk};
+ghost use Rattle.low_core.specs.Plain.{plain};
+ghost use Rattle.low_core.specs.Shaped.{IsLow, IsLean, returns_of, local_calls_of};
+ghost use Rattle.low_core.specs.Weights.{weight};
 ghost use Rattle.switch_lower.specs.Bodies.{bodies_without_switches};
 
 pub mod body;
@@ -31,6 +33,13 @@ pub fn lower<'a>(alloc: Global, low: &Low<'a>) -> Result<Lean<'a>, NoMemory>
     ensures base { IfOk result (λ lean. lean.base.now ≡ low.now.base.now) }
     ensures bodies { IfOk result (λ lean. lean.bodies ≡
         bodies_without_switches low.now.base.now low.now.bodies) }
+    ensures shaped { IfOk result IsLean }
+    ensures weighs { IfOk result (λ lean.
+        weight (plain lean.base.now lean.bodies) ≤ weight (plain low.now.base.now low.now.bodies)) }
+    ensures returns { IfOk result (λ lean. returns_of (plain lean.base.now lean.bodies)
+        ≤ returns_of (plain low.now.base.now low.now.bodies)) }
+    ensures calls { IfOk result (λ lean. local_calls_of (plain lean.base.now lean.bodies)
+        ≤ local_calls_of (plain low.now.base.now low.now.bodies)) }
 {
     let base = low.base;
     let bodies = lower_bodies(alloc, base.functions.as_slice(), low.bodies.as_slice())?;
