@@ -21,3 +21,8 @@ pub mod FreshLaws
 pub mod ListLaws
 pub mod TreeLaws
 pub mod BodyLaws
+pub mod Same
+pub mod Names
+pub mod Turns
+pub mod Labels
+pub mod WayLaws
