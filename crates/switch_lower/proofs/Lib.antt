@@ -26,3 +26,5 @@ pub mod Names
 pub mod Turns
 pub mod Labels
 pub mod WayLaws
+pub mod Runs
+pub mod Facts

@@ -24,6 +24,13 @@ pub ways_many : (n : ℕ) → n ≤ ways_within n
 ways_many zero = omega arith
 ways_many (suc n) = let p = ways_many n in let r = one-le-pow n 2 (omega arith) in let q : 2 ^ suc n ≡ 2 ^ n + 2 ^ n = omega arith in omega arith
 
+-- room for one way at least, and twice as many one level deeper
+pub ways_some : (d : ℕ) → 0 < ways_within d
+ways_some d = let p = one-le-pow d 2 (omega arith) in omega arith
+
+pub twice : (d : ℕ) → ways_within (suc d) ≡ ways_within d + ways_within d
+twice d = omega arith
+
 -- the two halves behind their comparison
 abbrev pub halved : Choice → ℕ → ℕ → List Way → List Chunk
 halved s d at ws =
