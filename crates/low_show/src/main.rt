@@ -9,7 +9,6 @@ use ir_core::valid::Valid;
 use ir_lex::lex;
 use ir_parse::parse::parse;
 use low_core::moves::Body;
-use phi_lower::lower;
 use rd_io::Files;
 use rd_io::real::DiskFiles;
 use std::alloc::Global;
@@ -52,11 +51,15 @@ fn main(rt: HostRuntime) -> ExitCode {
     let Some(valid) = valid_of(alloc, text.as_slice()) else {
         return ExitCode::from(1);
     };
-    let Ok(low) = lower(alloc, &valid) else {
+    let Ok(low) = phi_lower::lower(alloc, &valid) else {
         return ExitCode::from(1);
     };
-    let count = chunks(low.bodies.as_slice());
-    match println!(rt; "without phis {count}") {
+    let Ok(lean) = switch_lower::lower(alloc, &low) else {
+        return ExitCode::from(1);
+    };
+    let without_phis = chunks(low.bodies.as_slice());
+    let without_switches = chunks(lean.bodies.as_slice());
+    match println!(rt; "without phis {without_phis}, without switches {without_switches}") {
         Ok(()) => ExitCode::from(0),
         Err(_) => ExitCode::from(1),
     }
