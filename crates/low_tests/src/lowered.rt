@@ -57,7 +57,11 @@ const CHUNKS: [(&[u8], usize, usize); 9] = [
         3,
         9,
     ),
-    (b"define i32 @main() { e: switch i8 7, label %d [ ] d: ret i32 0 }", 2, 3),
+    (
+        b"define i32 @main() { e: switch i8 7, label %d [ ] d: ret i32 0 }",
+        2,
+        3,
+    ),
     (b"define i32 @main() { ret i32 7 }", 1, 1),
 ];
 
