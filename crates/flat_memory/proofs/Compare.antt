@@ -15,8 +15,8 @@ use Rattle.ir_core.specs.Arithmetic.{compared}
 use Rattle.ir_core.specs.Memory.{Memory}
 use Rattle.ir_core.specs.Pointers.{holds_place, is_inside, apart_if, pointers_equal, reaches, pointers_ordered, pointers_compared, unmoved_pointer, moved_pointer}
 use Rattle.low_core.specs.Flat.{Bytes}
-use Rattle.low_core.specs.Contents.{Places, word_of}
-use Rattle.low_core.specs.Bridge.{Setting, CallMemory, Lives, place_of, IsAddress, IsKnown, Bridges}
+use Rattle.low_core.specs.Contents.{Addresses, word_of}
+use Rattle.low_core.specs.Bridge.{Setting, CallMemory, Lives, address_of, IsAddress, IsKnown, Bridges}
 use Rattle.flat_memory.specs.Accesses.{SettingFits, IsPointer, Moves}
 use Rattle.flat_memory.proofs.Tests.{then_ok, FirstOk, first_ok}
 use Rattle.flat_memory.proofs.Load.{inside_word}
@@ -58,7 +58,7 @@ le_shifted a d e =
       | inr le ↦ le-leb (a + d) (a + e) (omega arith) ∙ sym (le-leb d e le)
     ]
 
-module _ (g : Setting) (calls : List CallMemory) (m : Memory) (at : Places) (bytes : Bytes) (fits : SettingFits g) (b : Bridges g calls m at bytes) where
+module _ (g : Setting) (calls : List CallMemory) (m : Memory) (at : Addresses) (bytes : Bytes) (fits : SettingFits g) (b : Bridges g calls m at bytes) where
   -- the live object in which an offset is
   record Found (o d : ℕ) : Type 0 where
     object : Object0
@@ -75,7 +75,7 @@ module _ (g : Setting) (calls : List CallMemory) (m : Memory) (at : Places) (byt
           record { object = x; lives = record { stands = is; live = both.0 }; lt = ltb-true d x.size both.1 }
 
   -- where a place is inside, its word is its address
-  plain : (o d : ℕ) (x : Found o d) → word_of at (At o d) ≡ place_of at o + d
+  plain : (o d : ℕ) (x : Found o d) → word_of at (At o d) ≡ address_of at o + d
   plain o d x = let lt = x.lt in inside_word g calls m at bytes fits b o d x.object x.lives.stands (omega (arith, lt))
 
   -- the word of a function, and what is told of it
@@ -120,7 +120,7 @@ module _ (g : Setting) (calls : List CallMemory) (m : Memory) (at : Places) (byt
 
   one_object : (o d e : ℕ) → d < 2 ^ 64 → e < 2 ^ 64 → nat_eq (word_of at (At o d)) (word_of at (At o e)) ≡ nat_eq d e
   one_object o d e ld le =
-      let a : ℕ = place_of at o in
+      let a : ℕ = address_of at o in
       same_test (word_of at (At o d)) (word_of at (At o e)) d e (λ h. omega arith) (λ h. ap (λ i. (a + i) % 2 ^ 64) h)
 
   two_objects : (o d p e : ℕ) → o ≢ p → Found o d → Found p e → word_of at (At o d) ≢ word_of at (At p e)
@@ -156,10 +156,10 @@ module _ (g : Setting) (calls : List CallMemory) (m : Memory) (at : Places) (byt
   equal_law (At o d) (At p e) r ku kv h = places_equal o d p e r ku.1 kv.1 h
 
   -- a place that is at most at its object's end, dead or alive
-  reached : (o d : ℕ) → reaches (slice_get m o) d ≡ true → word_of at (At o d) ≡ place_of at o + d
+  reached : (o d : ℕ) → reaches (slice_get m o) d ≡ true → word_of at (At o d) ≡ address_of at o + d
   reached o d h = go (slice_get m o) refl h
     where
-      go : (q : Option Object0) → slice_get m o ≡ q → reaches q d ≡ true → word_of at (At o d) ≡ place_of at o + d
+      go : (q : Option Object0) → slice_get m o ≡ q → reaches q d ≡ true → word_of at (At o d) ≡ address_of at o + d
       go None is h2 = absurd (cc)
       go (Some x) is h2 = inside_word g calls m at bytes fits b o d x is (leb-true d x.size h2)
 
@@ -186,9 +186,9 @@ module _ (g : Setting) (calls : List CallMemory) (m : Memory) (at : Places) (byt
       record {
         first = d;
         second = e;
-        start = place_of at o;
+        start = address_of at o;
         first_word = reached o d both.0;
-        second_word = subst (λ q. word_of at (At q e) ≡ place_of at o + e) (eqb-true o p same.0) (reached o e both.1);
+        second_word = subst (λ q. word_of at (At q e) ≡ address_of at o + e) (eqb-true o p same.0) (reached o e both.1);
         says = truth_same x.1;
       }
 
@@ -231,5 +231,5 @@ module _ (g : Setting) (calls : List CallMemory) (m : Memory) (at : Places) (byt
       let is = a.word in
       unmoved by (Fun f) u known (omega (arith, lt, is)) h
   moved_law by (At o d) u known h =
-      let p : ℕ = place_of at o in
+      let p : ℕ = address_of at o in
       subst (Moves g m at by (At o d)) (value_same h) (record { word = omega arith; pointer = (known.0, omega arith) })

@@ -10,12 +10,12 @@ use Rattle.ir_core.specs.declared.memory.Cell.TheVariants.{Unset, Byte, Piece}
 use Rattle.ir_core.specs.Shapes.{bytes_of}
 use Rattle.ir_core.specs.Memory.{pointer_cells, cells_of, numbers, any_unset}
 use Rattle.low_core.specs.Flat.{Bytes, bytes_from, all_set}
-use Rattle.low_core.specs.Contents.{Places, word_of, byte_of, cell_byte}
+use Rattle.low_core.specs.Contents.{Addresses, word_of, byte_of, cell_byte}
 use Rattle.low_core.specs.Bridge.{IsAddress, IsKnown, FitsCell}
 use Rattle.flat_memory.proofs.Lists.{get_range, length_range}
 use Rattle.flat_memory.proofs.Points.{get_from, length_from}
 
-module _ (objects : ℕ) (taken : List Bool) (at : Places) where
+module _ (objects : ℕ) (taken : List Bool) (at : Addresses) where
   -- a byte for each cell
   abbrev pub AllFit : List (Option ℕ) → List Cell → Type 0
   AllFit [] [] = Unit {0}

@@ -8,4 +8,5 @@ pub mod Put
 pub mod Store
 pub mod Compare
 pub mod Frames
+pub mod Named
 pub mod Start

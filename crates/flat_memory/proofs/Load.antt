@@ -19,8 +19,8 @@ use Rattle.ir_core.specs.Arithmetic.{modulus}
 use Rattle.ir_core.specs.Memory.{Memory, Range, range_of, readable_range, cells_at, load_at, value_read, number_read, pointer_read, numbers, any_unset, kind_size, same_cells, same_value, pointer_cells, cells_of}
 use Rattle.low_core.specs.Flat.{Span, Bytes, Flat, covers, is_inside, is_writable, bytes_from, all_set, word_at}
 use Rattle.low_core.specs.Plan.{Content, Lies, global_spans}
-use Rattle.low_core.specs.Contents.{Places, word_of, cell_byte}
-use Rattle.low_core.specs.Bridge.{Setting, CallMemory, flat_in, Lives, place_of, IsAddress, IsKnown, FitsCell, IsOneOf, IsAllocaOf, IsInCall, IsGlobal, Bridges}
+use Rattle.low_core.specs.Contents.{Addresses, word_of, cell_byte}
+use Rattle.low_core.specs.Bridge.{Setting, CallMemory, flat_in, Lives, address_of, IsAddress, IsKnown, FitsCell, IsAllocaOf, IsInCall, IsGlobal, Bridges}
 use Rattle.flat_memory.specs.Accesses.{SettingFits, of_kind, Loads}
 use Rattle.flat_memory.proofs.Lists.{get_range, length_range}
 use Rattle.flat_memory.proofs.Fits.{AllFit, fit_from, set_numbers, set_cells, spelled_back}
@@ -84,7 +84,7 @@ cut_small W16 n = omega arith
 cut_small W32 n = omega arith
 cut_small W64 n = omega arith
 
-module _ (g : Setting) (fits : SettingFits g) (m : Memory) (at : Places) (same_functions : at.functions ≡ g.plan.functions) where
+module _ (g : Setting) (fits : SettingFits g) (m : Memory) (at : Addresses) (same_functions : at.functions ≡ g.plan.functions) where
   -- the word of an address is one of 64 bits
   pub address_small : (v : Value) → IsAddress (length m) g.taken v → word_of at v < 2 ^ 64
   address_small (Num w n) known = absurd known
@@ -164,25 +164,25 @@ module _ (g : Setting) (fits : SettingFits g) (m : Memory) (at : Places) (same_f
     known = r.known;
   }
 
-module _ (g : Setting) (calls : List CallMemory) (m : Memory) (at : Places) (bytes : Bytes) (fits : SettingFits g) (b : Bridges g calls m at bytes) where
+module _ (g : Setting) (calls : List CallMemory) (m : Memory) (at : Addresses) (bytes : Bytes) (fits : SettingFits g) (b : Bridges g calls m at bytes) where
   -- the bytes of a range fit its cells
-  pub range_fits : (r : Range) (n : ℕ) → Lives m r.object r.held → r.offset + n ≤ r.held.size → AllFit (length m) g.taken at (bytes_from bytes (place_of at r.object + r.offset) n) (cells_at r n)
+  pub range_fits : (r : Range) (n : ℕ) → Lives m r.object r.held → r.offset + n ≤ r.held.size → AllFit (length m) g.taken at (bytes_from bytes (address_of at r.object + r.offset) n) (cells_at r n)
   range_fits r n lives le =
       let full = b.full r.object r.held lives in
-      fit_from (length m) g.taken at bytes (place_of at r.object + r.offset) n (cells_at r n) (length_range r.held.cells r.offset n (omega (arith, full, le)))
-      (λ j c e. subst (λ p. FitsCell (length m) g.taken at (bytes p) c) (sums (place_of at r.object) r.offset j) (b.cells r.object (r.offset + j) r.held c lives (get_range r.held.cells r.offset n j c e).1))
+      fit_from (length m) g.taken at bytes (address_of at r.object + r.offset) n (cells_at r n) (length_range r.held.cells r.offset n (omega (arith, full, le)))
+      (λ j c e. subst (λ p. FitsCell (length m) g.taken at (bytes p) c) (sums (address_of at r.object) r.offset j) (b.cells r.object (r.offset + j) r.held c lives (get_range r.held.cells r.offset n j c e).1))
     where
       sums : (a d j : ℕ) → a + (d + j) ≡ a + d + j
       sums a d j = omega arith
 
   -- the address of a place inside
-  pub inside_word : (o d : ℕ) (x : Object0) → slice_get m o ≡ Some x → d ≤ x.size → word_of at (At o d) ≡ place_of at o + d
+  pub inside_word : (o d : ℕ) (x : Object0) → slice_get m o ≡ Some x → d ≤ x.size → word_of at (At o d) ≡ address_of at o + d
   inside_word o d x is le = let low = b.below o x is in omega (arith, low, le)
 
   -- a range of an object may be used
-  pub range_inside : (o d n : ℕ) (x : Object0) → Lives m o x → d + n ≤ x.size → is_inside (place_of at o + d) n (flat_in g calls bytes).spans ≡ true
+  pub range_inside : (o d n : ℕ) (x : Object0) → Lives m o x → d + n ≤ x.size → is_inside (address_of at o + d) n (flat_in g calls bytes).spans ≡ true
   range_inside o d n x lives le =
-      inside_part (flat_in g calls bytes).spans (place_of at o) x.size (place_of at o + d) n (omega arith) (omega (arith, le)) (object_inside g calls m at bytes fits b o x lives)
+      inside_part (flat_in g calls bytes).spans (address_of at o) x.size (address_of at o + d) n (omega arith) (omega (arith, le)) (object_inside g calls m at bytes fits b o x lives)
 
   -- the law: a load that objects allow gives a word that has the value
   pub load_law : (kind : Kind) (v u : Value) → load_at m kind v ≡ Ok u → Loads g m at kind u (word_at (flat_in g calls bytes) (word_of at v) (kind_size kind))
@@ -191,8 +191,8 @@ module _ (g : Setting) (calls : List CallMemory) (m : Memory) (at : Places) (byt
       let r = range.first in
       let in_it = in_object m (kind_size kind) v r range.is in
       let read = else_ok (any_unset (cells_at r (kind_size kind))) (value_read kind (cells_at r (kind_size kind))) (Left WasUnset) u range.then_is in
-      let reads = kind_reads g fits m at b.functions kind (bytes_from bytes (place_of at r.object + r.offset) (kind_size kind)) (cells_at r (kind_size kind)) (range_fits r (kind_size kind) in_it.lives in_it.inside) u read.1 in
+      let reads = kind_reads g fits m at b.functions kind (bytes_from bytes (address_of at r.object + r.offset) (kind_size kind)) (cells_at r (kind_size kind)) (range_fits r (kind_size kind) in_it.lives in_it.inside) u read.1 in
       let inside = in_it.inside in
       let there = inside_word r.object r.offset r.held in_it.lives.stands (omega (arith, inside)) in
-      let loads = reads_there g fits m at b.functions kind u (flat_in g calls bytes) (place_of at r.object + r.offset) (kind_size kind) (range_inside r.object r.offset (kind_size kind) r.held in_it.lives in_it.inside) reads in
+      let loads = reads_there g fits m at b.functions kind u (flat_in g calls bytes) (address_of at r.object + r.offset) (kind_size kind) (range_inside r.object r.offset (kind_size kind) r.held in_it.lives in_it.inside) reads in
       subst (λ p. Loads g m at kind u (word_at (flat_in g calls bytes) p (kind_size kind))) (sym there ∙ ap (word_of at) (sym in_it.is_place)) loads

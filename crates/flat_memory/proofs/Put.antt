@@ -13,9 +13,9 @@ use Rattle.ir_core.specs.Stops.{Stop, Answer, and_then, Left}
 use Rattle.ir_core.specs.Memory.{Memory, Range, readable_range, writable_range, unless_constant, cells_at, cells_of, written, store_at}
 use Rattle.low_core.specs.Flat.{Span, Bytes, Flat, is_writable, is_inside, bytes_from, with_bytes, with_word_at}
 use Rattle.low_core.specs.Plan.{Content, Lies}
-use Rattle.low_core.specs.Contents.{Places, word_of}
-use Rattle.low_core.specs.Bridge.{Setting, CallMemory, flat_in, Lives, place_of, IsKnown, FitsCell, IsInCall, IsGlobal, Bridges}
-use Rattle.flat_memory.specs.Accesses.{SettingFits, Changes}
+use Rattle.low_core.specs.Contents.{Addresses, word_of}
+use Rattle.low_core.specs.Bridge.{Setting, CallMemory, flat_in, Lives, address_of, IsKnown, FitsCell, IsInCall, IsGlobal, Bridges}
+use Rattle.flat_memory.specs.Accesses.{SameObjects}
 use Rattle.flat_memory.proofs.Lists.{get_set_same, get_set_other, length_set, Splits, Beside, Within, splits, length_spliced, length_range}
 use Rattle.flat_memory.proofs.Points.{put_outside, put_inside}
 use Rattle.flat_memory.proofs.Fits.{AllFit, fit_length, fit_at, fit_value}
@@ -38,7 +38,7 @@ where_is start count p =
       ]
     ]
 
-module _ (g : Setting) (calls : List CallMemory) (m : Memory) (at : Places) (bytes : Bytes) (b : Bridges g calls m at bytes) (r : Range) (cs : List Cell) (bs : List (Option ℕ))
+module _ (g : Setting) (calls : List CallMemory) (m : Memory) (at : Addresses) (bytes : Bytes) (b : Bridges g calls m at bytes) (r : Range) (cs : List Cell) (bs : List (Option ℕ))
     (lives : Lives m r.object r.held) (inside : r.offset + length cs ≤ r.held.size) (fit : AllFit (length m) g.taken at bs cs) where
   abbrev new_cells : List Cell
   new_cells = take r.offset r.held.cells ++ cs ++ drop (r.offset + length cs) r.held.cells
@@ -50,7 +50,7 @@ module _ (g : Setting) (calls : List CallMemory) (m : Memory) (at : Places) (byt
   after = slice_set m r.object new_object
 
   abbrev start : ℕ
-  start = place_of at r.object + r.offset
+  start = address_of at r.object + r.offset
 
   abbrev new_bytes : Bytes
   new_bytes = with_bytes bytes start bs
@@ -119,14 +119,14 @@ module _ (g : Setting) (calls : List CallMemory) (m : Memory) (at : Places) (byt
                 stands = subst (λ k. slice_get after k ≡ Some new_object) (sym e) (get_set_same m r.object new_object (slice_get_within m r.object r.held lives.stands));
                 live = lives.live;
               };
-              place = was_global.place;
+              address_is = was_global.address_is;
               size = ap (λ (z : Object0). z.size) (sym same) ∙ was_global.size;
               constant = ap (λ (z : Object0). z.constant) (sym same) ∙ was_global.constant;
             }
         | inr ne ↦ record {
           object = was_global.object;
           lives = record { stands = get_set_other m r.object n new_object (λ e. ne (sym e)) ∙ was_global.lives.stands; live = was_global.lives.live };
-          place = was_global.place;
+          address_is = was_global.address_is;
           size = was_global.size;
           constant = was_global.constant;
         }
@@ -139,37 +139,37 @@ module _ (g : Setting) (calls : List CallMemory) (m : Memory) (at : Places) (byt
     | inr le ↦ let same = fit_length (length m) g.taken at bs cs fit in inr (omega (arith, le, same))
   ])
 
-  cell_after : (i k : ℕ) (y : Object0) (c : Cell) → Lives after i y → slice_get y.cells k ≡ Some c → Was i y → FitsCell (length m) g.taken at (new_bytes (place_of at i + k)) c
+  cell_after : (i k : ℕ) (y : Object0) (c : Cell) → Lives after i y → slice_get y.cells k ≡ Some c → Was i y → FitsCell (length m) g.taken at (new_bytes (address_of at i + k)) c
   cell_after i k y c l e (Same ne h) =
       let lives_before : Lives m i y = record { stands = h; live = l.live } in
       let full = b.full i y lives_before in
       let within = slice_get_within y.cells k c e in
       let before = b.cells i k y c lives_before e in
-      elim (where_is start (length cs) (place_of at i + k)) [
-        | Before lt ↦ subst (λ x. FitsCell (length m) g.taken at x c) (sym (beside (place_of at i + k) (inl lt))) before
-        | Behind le ↦ subst (λ x. FitsCell (length m) g.taken at x c) (sym (beside (place_of at i + k) (inr le))) before
+      elim (where_is start (length cs) (address_of at i + k)) [
+        | Before lt ↦ subst (λ x. FitsCell (length m) g.taken at x c) (sym (beside (address_of at i + k) (inl lt))) before
+        | Behind le ↦ subst (λ x. FitsCell (length m) g.taken at x c) (sym (beside (address_of at i + k) (inr le))) before
         | Inside d lt is ↦ absurd (b.apart i r.object k (r.offset + d) y r.held lives_before lives ne (omega (arith, within, full)) (omega (arith, lt, inside)) (omega (arith, is)))
       ]
   cell_after i k y c l e (Changed is n) =
       let e2 : slice_get new_cells k ≡ Some c = subst (λ (z : Object0). slice_get z.cells k ≡ Some c) (sym n) e in
-      subst (λ o. FitsCell (length m) g.taken at (new_bytes (place_of at o + k)) c) (sym is)
+      subst (λ o. FitsCell (length m) g.taken at (new_bytes (address_of at o + k)) c) (sym is)
       (elim (splits r.held.cells cs r.offset k c room e2) [
         | Beside side there ↦
-            let same : new_bytes (place_of at r.object + k) ≡ bytes (place_of at r.object + k) = beside (place_of at r.object + k) (elim side [
+            let same : new_bytes (address_of at r.object + k) ≡ bytes (address_of at r.object + k) = beside (address_of at r.object + k) (elim side [
               | inl lt ↦ inl (omega arith)
               | inr le ↦ inr (omega arith)
             ]) in
             subst (λ x. FitsCell (length m) g.taken at x c) (sym same) (b.cells r.object k r.held c lives there)
         | Within j k_is lt there ↦
             let x = fit_at (length m) g.taken at bs cs fit j c there in
-            let here : place_of at r.object + k ≡ start + j = omega (arith, k_is) in
+            let here : address_of at r.object + k ≡ start + j = omega (arith, k_is) in
             subst (λ y2. FitsCell (length m) g.taken at y2 c) (sym (ap new_bytes here ∙ put_inside bytes start bs j x.byte x.is)) x.fits
       ])
 
   -- the two memories stay tied
-  pub put_law : Bridges g calls (written m r cs) at (with_bytes bytes (place_of at r.object + r.offset) bs)
+  pub put_law : Bridges g calls (written m r cs) at (with_bytes bytes (address_of at r.object + r.offset) bs)
   put_law = record {
-    placed = b.placed ∙ sym (length_set m r.object new_object);
+    numbered = b.numbered ∙ sym (length_set m r.object new_object);
     functions = b.functions;
     full = λ i y l. full_after i y l (was i y l.stands);
     below = λ i y h. let o = old i y (was i y h) in let low = b.below i o.object o.stands in let size = o.size in omega (arith, low, size);
@@ -177,7 +177,7 @@ module _ (g : Setting) (calls : List CallMemory) (m : Memory) (at : Places) (byt
     in_call = λ i y l past.
         let o = old_of i y l in
         let before = b.in_call i o.object (old_lives i y l) past in
-        (sym o.constant ∙ before.0, subst (IsInCall calls i (place_of at i)) o.size before.1);
+        (sym o.constant ∙ before.0, subst (IsInCall calls i (address_of at i)) o.size before.1);
     apart = λ i j d e x y lx ly ne dx ey.
         let ox = old_of i x lx in
         let oy = old_of j y ly in
@@ -186,5 +186,9 @@ module _ (g : Setting) (calls : List CallMemory) (m : Memory) (at : Places) (byt
         b.apart i j d e ox.object oy.object (old_lives i x lx) (old_lives j y ly) ne (omega (arith, dx, sx)) (omega (arith, ey, sy));
     not_null = λ i d x l lt. let o = old_of i x l in let s = o.size in b.not_null i d o.object (old_lives i x l) (omega (arith, lt, s));
     no_function = λ i d f a x l lt. let o = old_of i x l in let s = o.size in b.no_function i d f a o.object (old_lives i x l) (omega (arith, lt, s));
-    cells = λ i k y c l e. subst (λ n. FitsCell n g.taken at (new_bytes (place_of at i + k)) c) (sym (length_set m r.object new_object)) (cell_after i k y c l e (was i y l.stands));
+    cells = λ i k y c l e. subst (λ n. FitsCell n g.taken at (new_bytes (address_of at i + k)) c) (sym (length_set m r.object new_object)) (cell_after i k y c l e (was i y l.stands));
   }
+
+  -- and the objects are the same
+  pub put_same : SameObjects m (written m r cs)
+  put_same = record { count = length_set m r.object new_object; before = λ i y l. let o = old_of i y l in (o.object, (old_lives i y l, o.size)) }

@@ -16,8 +16,8 @@ use Rattle.ir_core.specs.Arithmetic.{modulus}
 use Rattle.ir_core.specs.Memory.{Memory, Range, range_of, readable_range, cells_at, load_at, value_read, number_read, pointer_read, numbers, any_unset, kind_size, same_cells, same_value, pointer_cells, cells_of}
 use Rattle.low_core.specs.Flat.{Span, Bytes, Flat, covers, is_inside, is_writable, bytes_from, all_set, word_at}
 use Rattle.low_core.specs.Plan.{Content, Lies, global_spans}
-use Rattle.low_core.specs.Contents.{Places, word_of, cell_byte}
-use Rattle.low_core.specs.Bridge.{Setting, CallMemory, flat_in, Lives, place_of, IsKnown, FitsCell, IsOneOf, IsAllocaOf, IsInCall, IsGlobal, Bridges}
+use Rattle.low_core.specs.Contents.{Addresses, word_of, cell_byte}
+use Rattle.low_core.specs.Bridge.{Setting, CallMemory, flat_in, Lives, address_of, IsKnown, FitsCell, IsAllocaOf, IsInCall, IsGlobal, Bridges}
 use Rattle.flat_memory.specs.Accesses.{SettingFits, of_kind, Loads}
 use Rattle.flat_memory.proofs.Lists.{get_range, length_range}
 use Rattle.flat_memory.proofs.Fits.{AllFit, fit_from, set_numbers, set_cells, spelled_back}
@@ -140,9 +140,9 @@ address_found (b ∷ ats) [] n c e k = absurd (cc)
 address_found (b ∷ ats) (d ∷ cs) zero c e k = (b, refl)
 address_found (b ∷ ats) (d ∷ cs) (suc n) c e k = address_found ats cs n c (cc) k
 
-module _ (g : Setting) (calls : List CallMemory) (m : Memory) (at : Places) (bytes : Bytes) (fits : SettingFits g) (b : Bridges g calls m at bytes) where
+module _ (g : Setting) (calls : List CallMemory) (m : Memory) (at : Addresses) (bytes : Bytes) (fits : SettingFits g) (b : Bridges g calls m at bytes) where
   -- the range of a live object may be used
-  pub object_inside : (i : ℕ) (x : Object0) → Lives m i x → is_inside (place_of at i) x.size (flat_in g calls bytes).spans ≡ true
+  pub object_inside : (i : ℕ) (x : Object0) → Lives m i x → is_inside (address_of at i) x.size (flat_in g calls bytes).spans ≡ true
   object_inside i x l =
       elim (found_or_past g.contents i) [
         | inl r ↦
@@ -150,14 +150,14 @@ module _ (g : Setting) (calls : List CallMemory) (m : Memory) (at : Places) (byt
             let global = b.global i a.0 r.0 (record { address = a.1; content = r.1 }) in
             let same = same_object m i x global.object l global.lives in
             let here = global_inside g.plan.globals g.contents i a.0 r.0 a.1 r.1 in
-            inside_back (map (λ (c : CallMemory). c.own) calls) (global_spans g.plan.globals g.contents) (place_of at i) x.size
-            (subst (λ p. is_inside p x.size (global_spans g.plan.globals g.contents) ≡ true) (sym global.place)
+            inside_back (map (λ (c : CallMemory). c.own) calls) (global_spans g.plan.globals g.contents) (address_of at i) x.size
+            (subst (λ p. is_inside p x.size (global_spans g.plan.globals g.contents) ≡ true) (sym global.address_is)
             (subst (λ n. is_inside a.0 n (global_spans g.plan.globals g.contents) ≡ true) (sym (ap (λ (z : Object0). z.size) same ∙ global.size)) here))
-        | inr past ↦ inside_front (map (λ (c : CallMemory). c.own) calls) (global_spans g.plan.globals g.contents) (place_of at i) x.size (call_inside calls i (place_of at i) x.size (b.in_call i x l past).1)
+        | inr past ↦ inside_front (map (λ (c : CallMemory). c.own) calls) (global_spans g.plan.globals g.contents) (address_of at i) x.size (call_inside calls i (address_of at i) x.size (b.in_call i x l past).1)
       ]
 
   -- and may be written, unless it is constant
-  pub object_writable : (i : ℕ) (x : Object0) → Lives m i x → x.constant ≡ false → is_writable (place_of at i) x.size (flat_in g calls bytes).spans ≡ true
+  pub object_writable : (i : ℕ) (x : Object0) → Lives m i x → x.constant ≡ false → is_writable (address_of at i) x.size (flat_in g calls bytes).spans ≡ true
   object_writable i x l k =
       elim (found_or_past g.contents i) [
         | inl r ↦
@@ -166,8 +166,8 @@ module _ (g : Setting) (calls : List CallMemory) (m : Memory) (at : Places) (byt
             let same = same_object m i x global.object l global.lives in
             let not_constant : r.0.constant ≡ false = sym global.constant ∙ ap (λ (z : Object0). z.constant) (sym same) ∙ k in
             let here = global_writable g.plan.globals g.contents i a.0 r.0 a.1 r.1 not_constant in
-            writable_back (map (λ (c : CallMemory). c.own) calls) (global_spans g.plan.globals g.contents) (place_of at i) x.size
-            (subst (λ p. is_writable p x.size (global_spans g.plan.globals g.contents) ≡ true) (sym global.place)
+            writable_back (map (λ (c : CallMemory). c.own) calls) (global_spans g.plan.globals g.contents) (address_of at i) x.size
+            (subst (λ p. is_writable p x.size (global_spans g.plan.globals g.contents) ≡ true) (sym global.address_is)
             (subst (λ n. is_writable a.0 n (global_spans g.plan.globals g.contents) ≡ true) (sym (ap (λ (z : Object0). z.size) same ∙ global.size)) here))
-        | inr past ↦ writable_front (map (λ (c : CallMemory). c.own) calls) (global_spans g.plan.globals g.contents) (place_of at i) x.size (call_writable calls i (place_of at i) x.size (b.in_call i x l past).1)
+        | inr past ↦ writable_front (map (λ (c : CallMemory). c.own) calls) (global_spans g.plan.globals g.contents) (address_of at i) x.size (call_writable calls i (address_of at i) x.size (b.in_call i x l past).1)
       ]

@@ -10,8 +10,8 @@ use Rattle.ir_core.specs.Memory.{Memory}
 use Rattle.low_core.specs.declared.sel.Sel.{Sel}
 use Rattle.low_core.specs.Flat.{Bytes}
 use Rattle.low_core.specs.Plan.{Plan, Content, Lies, IsTaken, PlanFits, first_bytes}
-use Rattle.low_core.specs.Contents.{Places, cell_byte, content_of}
-use Rattle.low_core.specs.Bridge.{Setting, Lives, place_of, FitsCell, IsGlobal, Bridges}
+use Rattle.low_core.specs.Contents.{Addresses, cell_byte, content_of}
+use Rattle.low_core.specs.Bridge.{Setting, Lives, address_of, FitsCell, IsGlobal, Bridges}
 use Rattle.flat_memory.specs.Accesses.{SettingFits, AreFirst, IsSet}
 use Rattle.flat_memory.proofs.Put.{Where, Before, Behind, Inside, where_is}
 
@@ -48,7 +48,7 @@ first_at (q ∷ ats) (d ∷ cs) (suc n) a k c b x y z apart =
     zero_not e = absurd (omega (arith, e))
 
 module _ (sel : Sel) (plan : Plan) (objects : Memory) where
-  abbrev at : Places
+  abbrev at : Addresses
   at = record { objects = plan.globals; functions = plan.functions }
 
   abbrev contents : List Content
@@ -62,7 +62,7 @@ module _ (sel : Sel) (plan : Plan) (objects : Memory) where
     record Planned (i : ℕ) (x : Object0) : Type 0 where
       address : ℕ
       lies : Lies plan contents i address (content_of at x)
-      place : place_of at i ≡ address
+      address_is : address_of at i ≡ address
       size : length (content_of at x).bytes ≡ x.size
 
     planned : (i : ℕ) (x : Object0) → slice_get objects i ≡ Some x → Planned i x
@@ -72,7 +72,7 @@ module _ (sel : Sel) (plan : Plan) (objects : Memory) where
         record {
           address = a.0;
           lies = record { address = a.1; content = content };
-          place = get_or_from_slice_get plan.globals i a.0 0 a.1;
+          address_is = get_or_from_slice_get plan.globals i a.0 0 a.1;
           size = length_map (cell_byte at) x.cells ∙ first.full i x h;
         }
       where
@@ -93,16 +93,16 @@ module _ (sel : Sel) (plan : Plan) (objects : Memory) where
         content_same r = cc
     object_of (x ∷ xs) (suc n) c h = object_of xs n c h
 
-    start_cell : (i k : ℕ) (x : Object0) (c : Cell) → slice_get objects i ≡ Some x → slice_get x.cells k ≡ Some c → IsSet (length objects) sel.taken c → FitsCell (length objects) sel.taken at (first_bytes plan.globals contents (place_of at i + k)) c
+    start_cell : (i k : ℕ) (x : Object0) (c : Cell) → slice_get objects i ≡ Some x → slice_get x.cells k ≡ Some c → IsSet (length objects) sel.taken c → FitsCell (length objects) sel.taken at (first_bytes plan.globals contents (address_of at i + k)) c
     start_cell i k x c h e set =
         let p = planned i x h in
         let byte : slice_get (content_of at x).bytes k ≡ Some (cell_byte at c) = slice_get-map (cell_byte at) x.cells k ∙ ap (option_map (cell_byte at)) e in
         let lt = slice_get_within (content_of at x).bytes k (cell_byte at c) byte in
         let there = first_at plan.globals contents i p.address k (content_of at x) (cell_byte at c) p.lies.address p.lies.content byte
         (λ n a2 j d g1 g2 ne lt2. fits.globals_apart n i a2 p.address j k d (content_of at x) (record { address = g1; content = g2 }) p.lies ne lt2 lt) in
-        by_cell c set (ap (λ a. first_bytes plan.globals contents (a + k)) p.place ∙ there)
+        by_cell c set (ap (λ a. first_bytes plan.globals contents (a + k)) p.address_is ∙ there)
       where
-        by_cell : (c : Cell) → IsSet (length objects) sel.taken c → first_bytes plan.globals contents (place_of at i + k) ≡ Some (cell_byte at c) → FitsCell (length objects) sel.taken at (first_bytes plan.globals contents (place_of at i + k)) c
+        by_cell : (c : Cell) → IsSet (length objects) sel.taken c → first_bytes plan.globals contents (address_of at i + k) ≡ Some (cell_byte at c) → FitsCell (length objects) sel.taken at (first_bytes plan.globals contents (address_of at i + k)) c
         by_cell Unset s is = tt
         by_cell (Byte n) s is = is
         by_cell (Piece v j) s is = (is, s)
@@ -110,21 +110,21 @@ module _ (sel : Sel) (plan : Plan) (objects : Memory) where
     -- the law: globals are where a plan has them, and no call is active
     pub start_law : Bridges setting [] objects at (first_bytes plan.globals contents)
     start_law = record {
-      placed = fits.globals ∙ length_map (content_of at) objects;
+      numbered = fits.globals ∙ length_map (content_of at) objects;
       functions = refl;
       full = λ i x l. first.full i x l.stands;
       below = λ i x h.
           let p = planned i x h in
           let low = fits.globals_below i p.address (content_of at x) p.lies in
           let s = p.size in
-          let a = p.place in
+          let a = p.address_is in
           omega (arith, low, s, a);
       global = λ n a c lies.
           let x = object_of objects n c lies.content in
           record {
             object = x.0;
             lives = record { stands = x.1.0; live = first.live n x.0 x.1.0 };
-            place = get_or_from_slice_get plan.globals n a 0 lies.address;
+            address_is = get_or_from_slice_get plan.globals n a 0 lies.address;
             size = sym (first.full n x.0 x.1.0) ∙ sym (length_map (cell_byte at) x.0.cells) ∙ ap (λ (d : Content). length d.bytes) x.1.1;
             constant = ap (λ (d : Content). d.constant) x.1.1;
           };
@@ -137,18 +137,18 @@ module _ (sel : Sel) (plan : Plan) (objects : Memory) where
           let q = planned j y ly.stands in
           let sp = p.size in
           let sq = q.size in
-          let ap2 = p.place in
-          let aq = q.place in
+          let ap2 = p.address_is in
+          let aq = q.address_is in
           λ r. fits.globals_apart i j p.address q.address d e (content_of at x) (content_of at y) p.lies q.lies ne (omega (arith, dx, sp)) (omega (arith, ey, sq)) (omega (arith, r, ap2, aq));
       not_null = λ i d x l lt.
           let p = planned i x l.stands in
           let s = p.size in
-          let a = p.place in
+          let a = p.address_is in
           λ r. (fits.globals_off i p.address d (content_of at x) p.lies (omega (arith, lt, s))).0 (omega (arith, r, a));
       no_function = λ i d f q x l lt known is_at.
           let p = planned i x l.stands in
           let s = p.size in
-          let a = p.place in
+          let a = p.address_is in
           λ r. fits.functions_beside f i q p.address d (content_of at x) (record { taken = known; address = is_at }) p.lies (omega (arith, lt, s)) (omega (arith, r, a));
       cells = λ i k x c l h. start_cell i k x c l.stands h (first.set i k x c l.stands h);
     }

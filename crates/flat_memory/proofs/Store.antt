@@ -13,9 +13,9 @@ use Rattle.ir_core.specs.Stops.{Stop, Answer, and_then, Left}
 use Rattle.ir_core.specs.Memory.{Memory, Range, readable_range, writable_range, unless_constant, cells_at, cells_of, written, store_at, overlaps}
 use Rattle.low_core.specs.Flat.{Span, Bytes, Flat, is_writable, is_inside, bytes_from, with_bytes, with_word_at, ranges_overlap}
 use Rattle.low_core.specs.Plan.{Content, Lies}
-use Rattle.low_core.specs.Contents.{Places, word_of}
-use Rattle.low_core.specs.Bridge.{Setting, CallMemory, flat_in, Lives, place_of, IsKnown, FitsCell, IsInCall, IsGlobal, Bridges}
-use Rattle.flat_memory.specs.Accesses.{SettingFits, Changes}
+use Rattle.low_core.specs.Contents.{Addresses, word_of}
+use Rattle.low_core.specs.Bridge.{Setting, CallMemory, flat_in, Lives, address_of, IsKnown, FitsCell, IsInCall, IsGlobal, Bridges}
+use Rattle.flat_memory.specs.Accesses.{SettingFits, SameObjects, Changes}
 use Rattle.flat_memory.proofs.Lists.{get_set_same, get_set_other, length_set, Splits, Beside, Within, splits, length_spliced, length_range}
 use Rattle.flat_memory.proofs.Points.{put_outside, put_inside}
 use Rattle.flat_memory.proofs.Fits.{AllFit, fit_length, fit_at, fit_value}
@@ -25,7 +25,7 @@ use Rattle.ir_core.specs.Memory as objects
 use Rattle.low_core.specs.Flat as flat
 use Rattle.flat_memory.proofs.Fits.{fit_replicate}
 use Rattle.flat_memory.proofs.Load.{range_fits, range_inside, inside_word}
-use Rattle.flat_memory.proofs.Put.{put_law}
+use Rattle.flat_memory.proofs.Put.{put_law, put_same}
 
 -- a range that passed the tests of a store
 pub record MayWrite (m : Memory) (count : ℕ) (v : Value) (r : Range) : Type 0 where
@@ -52,22 +52,22 @@ memory_answer z = Ok z
 memory_same : {y z : Memory} → memory_answer y ≡ memory_answer z → y ≡ z
 memory_same e = cc
 
-module _ (g : Setting) (calls : List CallMemory) (m : Memory) (at : Places) (bytes : Bytes) (fits : SettingFits g) (b : Bridges g calls m at bytes) where
+module _ (g : Setting) (calls : List CallMemory) (m : Memory) (at : Addresses) (bytes : Bytes) (fits : SettingFits g) (b : Bridges g calls m at bytes) where
   abbrev now : Flat
   now = flat_in g calls bytes
 
   -- a range of an object that isn't constant may be written
-  range_writable : (o d n : ℕ) (x : Object0) → Lives m o x → x.constant ≡ false → d + n ≤ x.size → is_writable (place_of at o + d) n now.spans ≡ true
+  range_writable : (o d n : ℕ) (x : Object0) → Lives m o x → x.constant ≡ false → d + n ≤ x.size → is_writable (address_of at o + d) n now.spans ≡ true
   range_writable o d n x lives variable le =
-      writable_part now.spans (place_of at o) x.size (place_of at o + d) n (omega arith) (omega (arith, le)) (object_writable g calls m at bytes fits b o x lives variable)
+      writable_part now.spans (address_of at o) x.size (address_of at o + d) n (omega arith) (omega (arith, le)) (object_writable g calls m at bytes fits b o x lives variable)
 
   -- the address of a range
-  range_word : (n : ℕ) (v : Value) (r : Range) → InObject m n v r → word_of at v ≡ place_of at r.object + r.offset
+  range_word : (n : ℕ) (v : Value) (r : Range) → InObject m n v r → word_of at v ≡ address_of at r.object + r.offset
   range_word n v r h = let le = h.inside in ap (word_of at) h.is_place ∙ inside_word g calls m at bytes fits b r.object r.offset r.held h.lives.stands (omega (arith, le))
 
   -- the law of stores: the low bytes of the value's word are put where the value is stored
   pub store_law : (v p : Value) (m2 : Memory) → IsKnown (length m) g.taken v → store_at m v p ≡ Ok m2 →
-      Changes g calls m2 at (with_word_at now (word_of at p) (length (cells_of v)) (word_of at v))
+      Changes g calls m m2 at (with_word_at now (word_of at p) (length (cells_of v)) (word_of at v))
   store_law v p m2 known h =
       let x = first_ok (writable_range m (length (cells_of v)) p) (λ r. Ok (written m r (cells_of v))) m2 h in
       let w = may_write m (length (cells_of v)) p x.first x.is in
@@ -76,20 +76,26 @@ module _ (g : Setting) (calls : List CallMemory) (m : Memory) (at : Places) (byt
       let there = range_word (length (cells_of v)) p r w.in_it in
       let new = map Some (le_bytes (length (cells_of v)) (word_of at v)) in
       record {
-        bytes = with_bytes bytes (place_of at r.object + r.offset) new;
+        bytes = with_bytes bytes (address_of at r.object + r.offset) new;
         gives = ap (λ q. with_word_at now q (length (cells_of v)) (word_of at v)) there
-            ∙ ap (λ t. if t then Ok (with_bytes bytes (place_of at r.object + r.offset) new) else Err (Left Bounds)) (range_writable r.object r.offset (length (cells_of v)) r.held w.in_it.lives w.variable w.in_it.inside);
-        tied = subst (λ z. Bridges g calls z at (with_bytes bytes (place_of at r.object + r.offset) new)) same
+            ∙ ap (λ t. if t then Ok (with_bytes bytes (address_of at r.object + r.offset) new) else Err (Left Bounds)) (range_writable r.object r.offset (length (cells_of v)) r.held w.in_it.lives w.variable w.in_it.inside);
+        tied = subst (λ z. Bridges g calls z at (with_bytes bytes (address_of at r.object + r.offset) new)) same
             (put_law g calls m at bytes b r (cells_of v) new w.in_it.lives w.in_it.inside (fit_value (length m) g.taken at v known));
+        same = subst (SameObjects m) same (put_same g calls m at bytes b r (cells_of v) new w.in_it.lives w.in_it.inside (fit_value (length m) g.taken at v known));
       }
 
   -- nothing is done to no bytes
-  unchanged : (m2 : Memory) (answer : Answer Bytes) → m ≡ m2 → answer ≡ Ok bytes → Changes g calls m2 at answer
-  unchanged m2 answer same e = record { bytes = bytes; gives = e; tied = subst (λ z. Bridges g calls z at bytes) same b }
+  unchanged : (m2 : Memory) (answer : Answer Bytes) → m ≡ m2 → answer ≡ Ok bytes → Changes g calls m m2 at answer
+  unchanged m2 answer same e = record {
+    bytes = bytes;
+    gives = e;
+    tied = subst (λ z. Bridges g calls z at bytes) same b;
+    same = subst (SameObjects m) same (record { count = refl; before = λ i y l. (y, (l, refl)) });
+  }
 
   -- the law of fills
   fill_some : (p : Value) (byte count : ℕ) (m2 : Memory) → and_then (writable_range m count p) (λ r. memory_answer (written m r (replicate count (Byte byte)))) ≡ Ok m2 →
-      Changes g calls m2 at (flat.if_writable now (word_of at p) count (Ok (with_bytes bytes (word_of at p) (replicate count (Some byte)))))
+      Changes g calls m m2 at (flat.if_writable now (word_of at p) count (Ok (with_bytes bytes (word_of at p) (replicate count (Some byte)))))
   fill_some p byte count m2 h =
       let x = first_ok (writable_range m count p) (λ r. memory_answer (written m r (replicate count (Byte byte)))) m2 h in
       let w = may_write m count p x.first x.is in
@@ -99,37 +105,38 @@ module _ (g : Setting) (calls : List CallMemory) (m : Memory) (at : Places) (byt
       let new = replicate count (Some byte) in
       let le : r.offset + length (replicate count (Byte byte)) ≤ r.held.size = subst (λ k. r.offset + k ≤ r.held.size) (sym (many count)) w.in_it.inside in
       record {
-        bytes = with_bytes bytes (place_of at r.object + r.offset) new;
+        bytes = with_bytes bytes (address_of at r.object + r.offset) new;
         gives = ap (λ q. flat.if_writable now q count (Ok (with_bytes bytes q new))) there
-            ∙ ap (λ t. if t then Ok (with_bytes bytes (place_of at r.object + r.offset) new) else Err (Left Bounds)) (range_writable r.object r.offset count r.held w.in_it.lives w.variable w.in_it.inside);
-        tied = subst (λ z. Bridges g calls z at (with_bytes bytes (place_of at r.object + r.offset) new)) same
+            ∙ ap (λ t. if t then Ok (with_bytes bytes (address_of at r.object + r.offset) new) else Err (Left Bounds)) (range_writable r.object r.offset count r.held w.in_it.lives w.variable w.in_it.inside);
+        tied = subst (λ z. Bridges g calls z at (with_bytes bytes (address_of at r.object + r.offset) new)) same
             (put_law g calls m at bytes b r (replicate count (Byte byte)) new w.in_it.lives le (fit_replicate (length m) g.taken at count byte));
+        same = subst (SameObjects m) same (put_same g calls m at bytes b r (replicate count (Byte byte)) new w.in_it.lives le (fit_replicate (length m) g.taken at count byte));
       }
     where
       many : (k : ℕ) → length (replicate k (Byte byte)) ≡ k
       many zero = refl
       many (suc k) = ap suc (many k)
 
-  pub fill_law : (p : Value) (byte count : ℕ) (m2 : Memory) → objects.filled m p byte count ≡ Ok m2 → Changes g calls m2 at (flat.filled now (word_of at p) byte count)
+  pub fill_law : (p : Value) (byte count : ℕ) (m2 : Memory) → objects.filled m p byte count ≡ Ok m2 → Changes g calls m m2 at (flat.filled now (word_of at p) byte count)
   fill_law p byte count m2 h = go (nat_eq count 0) refl h
     where
       go : (none : Bool) → nat_eq count 0 ≡ none → (if none then memory_answer m else and_then (writable_range m count p) (λ r. memory_answer (written m r (replicate count (Byte byte))))) ≡ Ok m2 →
-          Changes g calls m2 at (flat.filled now (word_of at p) byte count)
+          Changes g calls m m2 at (flat.filled now (word_of at p) byte count)
       go true e h2 = unchanged m2 (flat.filled now (word_of at p) byte count) (memory_same h2) (ap (λ t. if t then Ok bytes else flat.if_writable now (word_of at p) count (Ok (with_bytes bytes (word_of at p) (replicate count (Some byte))))) e)
       go false e h2 =
           let c = fill_some p byte count m2 h2 in
-          record { bytes = c.bytes; gives = ap (λ t. if t then Ok bytes else flat.if_writable now (word_of at p) count (Ok (with_bytes bytes (word_of at p) (replicate count (Some byte))))) e ∙ c.gives; tied = c.tied }
+          record { bytes = c.bytes; gives = ap (λ t. if t then Ok bytes else flat.if_writable now (word_of at p) count (Ok (with_bytes bytes (word_of at p) (replicate count (Some byte))))) e ∙ c.gives; tied = c.tied; same = c.same }
 
   -- ranges of a copy that objects allow don't overlap in flat memory, or begin at one address
   no_overlap : (a c : Range) (count : ℕ) → Lives m a.object a.held → Lives m c.object c.held → a.offset + count ≤ a.held.size → c.offset + count ≤ c.held.size →
-      overlaps count a c ≡ false → ranges_overlap (place_of at c.object + c.offset) (place_of at a.object + a.offset) count ≡ false
+      overlaps count a c ≡ false → ranges_overlap (address_of at c.object + c.offset) (address_of at a.object + a.offset) count ≡ false
   no_overlap a c count la lc ina inc h = false_from_ne_true (ranges_overlap to from count) impossible
     where
       to : ℕ
-      to = place_of at c.object + c.offset
+      to = address_of at c.object + c.offset
 
       from : ℕ
-      from = place_of at a.object + a.offset
+      from = address_of at a.object + a.offset
 
       -- one address is in both ranges
       shared : to < from + count → from < to + count → a.object ≡ c.object
@@ -150,7 +157,7 @@ module _ (g : Setting) (calls : List CallMemory) (m : Memory) (at : Places) (byt
           let y : from < to + count = ltb-true from (to + count) both.1 in
           let differ : to ≢ from = not_same to from parts.0 in
           let one = shared x y in
-          let place : place_of at a.object ≡ place_of at c.object = ap (place_of at) one in
+          let place : address_of at a.object ≡ address_of at c.object = ap (address_of at) one in
           let apart_offsets : a.offset ≢ c.offset = (λ e. differ (omega (arith, e, place))) in
           let over : overlaps count a c ≡ true =
           and_from (nat_eq a.object c.object && not (nat_eq a.offset c.offset)) (nat_lt a.offset (c.offset + count) && nat_lt c.offset (a.offset + count))
@@ -170,7 +177,7 @@ module _ (g : Setting) (calls : List CallMemory) (m : Memory) (at : Places) (byt
   -- the law of copies: numbers, pieces and unset cells alike
   copy_some : (to from : Value) (count : ℕ) (m2 : Memory) →
       and_then (readable_range m count from) (λ a. and_then (writable_range m count to) (λ c. if overlaps count a c then Err (Left Overlap) else memory_answer (written m c (cells_at a count)))) ≡ Ok m2 →
-      Changes g calls m2 at (flat.if_inside now (word_of at from) count (flat.if_writable now (word_of at to) count (
+      Changes g calls m m2 at (flat.if_inside now (word_of at from) count (flat.if_writable now (word_of at to) count (
       if ranges_overlap (word_of at to) (word_of at from) count then Err (Left Overlap) else Ok (with_bytes bytes (word_of at to) (bytes_from bytes (word_of at from) count)))))
   copy_some to from count m2 h =
       let x = first_ok (readable_range m count from) (λ a. and_then (writable_range m count to) (λ c. if overlaps count a c then Err (Left Overlap) else memory_answer (written m c (cells_at a count)))) m2 h in
@@ -181,8 +188,8 @@ module _ (g : Setting) (calls : List CallMemory) (m : Memory) (at : Places) (byt
       let w = may_write m count to c y.is in
       let z = else_ok (overlaps count a c) (memory_answer (written m c (cells_at a count))) (Left Overlap) m2 y.then_is in
       let same : written m c (cells_at a count) ≡ m2 = memory_same z.1 in
-      let start_a : ℕ = place_of at a.object + a.offset in
-      let start_c : ℕ = place_of at c.object + c.offset in
+      let start_a : ℕ = address_of at a.object + a.offset in
+      let start_c : ℕ = address_of at c.object + c.offset in
       let new = bytes_from bytes start_a count in
       let full = b.full a.object a.held in_a.lives in
       let ina = in_a.inside in
@@ -197,14 +204,15 @@ module _ (g : Setting) (calls : List CallMemory) (m : Memory) (at : Places) (byt
             ∙ ap (λ t. if t then Err (Left Overlap) else Ok (with_bytes bytes start_c new)) (no_overlap a c count in_a.lives w.in_it.lives in_a.inside w.in_it.inside z.0);
         tied = subst (λ k. Bridges g calls k at (with_bytes bytes start_c new)) same
             (put_law g calls m at bytes b c (cells_at a count) new w.in_it.lives le (range_fits g calls m at bytes fits b a count in_a.lives in_a.inside));
+        same = subst (SameObjects m) same (put_same g calls m at bytes b c (cells_at a count) new w.in_it.lives le (range_fits g calls m at bytes fits b a count in_a.lives in_a.inside));
       }
 
-  pub copy_law : (to from : Value) (count : ℕ) (m2 : Memory) → objects.copied m to from count ≡ Ok m2 → Changes g calls m2 at (flat.copied now (word_of at to) (word_of at from) count)
+  pub copy_law : (to from : Value) (count : ℕ) (m2 : Memory) → objects.copied m to from count ≡ Ok m2 → Changes g calls m m2 at (flat.copied now (word_of at to) (word_of at from) count)
   copy_law to from count m2 h = go (nat_eq count 0) refl h
     where
       go : (none : Bool) → nat_eq count 0 ≡ none →
           (if none then memory_answer m else and_then (readable_range m count from) (λ a. and_then (writable_range m count to) (λ c. if overlaps count a c then Err (Left Overlap) else memory_answer (written m c (cells_at a count))))) ≡ Ok m2 →
-          Changes g calls m2 at (flat.copied now (word_of at to) (word_of at from) count)
+          Changes g calls m m2 at (flat.copied now (word_of at to) (word_of at from) count)
       go true e h2 = unchanged m2 (flat.copied now (word_of at to) (word_of at from) count) (memory_same h2) (ap (λ t. if t then Ok bytes else some_bytes) e)
         where
           some_bytes : Answer Bytes
@@ -217,4 +225,5 @@ module _ (g : Setting) (calls : List CallMemory) (m : Memory) (at : Places) (byt
             gives = ap (λ t. if t then Ok bytes else flat.if_inside now (word_of at from) count (flat.if_writable now (word_of at to) count (
                 if ranges_overlap (word_of at to) (word_of at from) count then Err (Left Overlap) else Ok (with_bytes bytes (word_of at to) (bytes_from bytes (word_of at from) count))))) e ∙ c.gives;
             tied = c.tied;
+            same = c.same;
           }

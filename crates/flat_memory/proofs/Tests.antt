@@ -16,8 +16,8 @@ use Rattle.ir_core.specs.Arithmetic.{modulus}
 use Rattle.ir_core.specs.Memory.{Memory, Range, range_of, readable_range, cells_at, load_at, value_read, number_read, pointer_read, numbers, any_unset, kind_size, same_cells, same_value, pointer_cells, cells_of}
 use Rattle.low_core.specs.Flat.{Span, Bytes, Flat, covers, is_inside, is_writable, bytes_from, all_set, word_at}
 use Rattle.low_core.specs.Plan.{Content, Lies, global_spans}
-use Rattle.low_core.specs.Contents.{Places, word_of, cell_byte}
-use Rattle.low_core.specs.Bridge.{Setting, CallMemory, flat_in, Lives, place_of, IsKnown, FitsCell, IsOneOf, IsAllocaOf, IsInCall, IsGlobal, Bridges}
+use Rattle.low_core.specs.Contents.{Addresses, word_of, cell_byte}
+use Rattle.low_core.specs.Bridge.{Setting, CallMemory, flat_in, Lives, address_of, IsKnown, FitsCell, IsAllocaOf, IsInCall, IsGlobal, Bridges}
 use Rattle.flat_memory.specs.Accesses.{SettingFits, of_kind, Loads}
 use Rattle.flat_memory.proofs.Lists.{get_range, length_range}
 use Rattle.flat_memory.proofs.Fits.{AllFit, fit_from, set_numbers, set_cells, spelled_back}

@@ -1,5 +1,5 @@
 -- What an access to objects is over flat memory, and which addresses are free for another object.
-use Rattle.std.specs.Prelude.{◌≡◌, ◌≢◌, ℕ, ◌+◌, ◌%◌, ◌<◌, ◌^◌, ◌++◌, List, [], ◌∷◌, Bool, true, slice_get, length, Some, Ok}
+use Rattle.std.specs.Prelude.{◌≡◌, ◌≢◌, ℕ, suc, ◌+◌, ◌%◌, ◌<◌, ◌^◌, ◌++◌, List, [], ◌∷◌, Bool, true, false, slice_get, length, Some, Ok}
 use Rattle.ir_core.specs.declared.memory.Value.{Value}
 use Rattle.ir_core.specs.declared.memory.Value.TheVariants.{Num, Null, At, Fun}
 use Rattle.ir_core.specs.declared.memory.Cell.{Cell}
@@ -10,9 +10,10 @@ use Rattle.ir_core.specs.declared.kind.Kind.{Kind}
 use Rattle.ir_core.specs.declared.kind.Kind.TheVariants.{NoValue, Number, Pointer}
 use Rattle.ir_core.specs.Arithmetic.{modulus}
 use Rattle.ir_core.specs.Memory.{Memory}
-use Rattle.low_core.specs.Flat.{Bytes}
-use Rattle.low_core.specs.Contents.{Places, word_of}
-use Rattle.low_core.specs.Bridge.{Setting, CallMemory, Lives, place_of, IsAddress, IsKnown, Bridges}
+use Rattle.low_core.specs.Flat.{Span, Bytes, is_inside, is_writable}
+use Rattle.low_core.specs.Plan.{Content, Lies}
+use Rattle.low_core.specs.Contents.{Addresses, word_of}
+use Rattle.low_core.specs.Bridge.{Setting, CallMemory, Lives, address_of, IsAddress, IsKnown, Bridges}
 
 -- each global has an address; those of functions to which pointers may arise are words, and they differ
 pub record SettingFits (g : Setting) : Type 0 where
@@ -29,7 +30,7 @@ of_kind Pointer n = n
 of_kind NoValue n = n
 
 -- a load gives a word that has the value, and the value is one that can arise
-pub record Loads (g : Setting) (m : Memory) (at : Places) (kind : Kind) (u : Value) (answer : Answer ℕ) : Type 0 where
+pub record Loads (g : Setting) (m : Memory) (at : Addresses) (kind : Kind) (u : Value) (answer : Answer ℕ) : Type 0 where
   pub word : ℕ
   pub gives : answer ≡ Ok word
   pub same : word_of at u ≡ of_kind kind word
@@ -43,20 +44,26 @@ IsPointer objects taken (At o d) = IsAddress objects taken (At o d)
 IsPointer objects taken (Fun f) = IsAddress objects taken (Fun f)
 
 -- a pointer has moved so far, and is one that can arise
-pub record Moves (g : Setting) (m : Memory) (at : Places) (by : ℕ) (v u : Value) : Type 0 where
+pub record Moves (g : Setting) (m : Memory) (at : Addresses) (by : ℕ) (v u : Value) : Type 0 where
   pub word : word_of at u ≡ (word_of at v + by) % 2 ^ 64
   pub pointer : IsPointer (length m) g.taken u
 
--- an access changes both memories, and they stay tied
-pub record Changes (g : Setting) (calls : List CallMemory) (m : Memory) (at : Places) (answer : Answer Bytes) : Type 0 where
+-- a memory with the objects of another one, but perhaps other cells
+pub record SameObjects (m m2 : Memory) : Type 0 where
+  pub count : length m2 ≡ length m
+  pub before : (i : ℕ) (y : Object0) → Lives m2 i y → (x : Object0) × (Lives m i x × (x.size ≡ y.size))
+
+-- an access changes both memories; they stay tied, and the objects are the same
+pub record Changes (g : Setting) (calls : List CallMemory) (m m2 : Memory) (at : Addresses) (answer : Answer Bytes) : Type 0 where
   pub bytes : Bytes
   pub gives : answer ≡ Ok bytes
-  pub tied : Bridges g calls m at bytes
+  pub tied : Bridges g calls m2 at bytes
+  pub same : SameObjects m m2
 
 -- no live object, no function and no null is at one of so many addresses
-pub record AreFree (g : Setting) (m : Memory) (at : Places) (start count : ℕ) : Type 0 where
+pub record AreFree (g : Setting) (m : Memory) (at : Addresses) (start count : ℕ) : Type 0 where
   pub below : start + count < 2 ^ 64
-  pub apart : (i d e : ℕ) (x : Object0) → Lives m i x → d < x.size → e < count → place_of at i + d ≢ start + e
+  pub apart : (i d e : ℕ) (x : Object0) → Lives m i x → d < x.size → e < count → address_of at i + d ≢ start + e
   pub not_null : (e : ℕ) → e < count → start + e ≢ 0
   pub no_function : (e f a : ℕ) → e < count → slice_get g.taken f ≡ Some true → slice_get at.functions f ≡ Some a → start + e ≢ a
 
@@ -72,5 +79,31 @@ pub record AreFirst (taken : List Bool) (m : Memory) : Type 0 where
   pub set : (i k : ℕ) (x : Object0) (c : Cell) → slice_get m i ≡ Some x → slice_get x.cells k ≡ Some c → IsSet (length m) taken c
 
 -- the addresses of objects, with one more
-abbrev pub with_place : Places → ℕ → Places
-with_place at p = record at { objects = at.objects ++ p ∷ [] }
+abbrev pub with_address : Addresses → ℕ → Addresses
+with_address at p = record at { objects = at.objects ++ p ∷ [] }
+
+-- an alloca's object stands at its address, and is known; what was known has the words that it had
+pub record Allocates (g : Setting) (m m2 : Memory) (at at2 : Addresses) (start size : ℕ) : Type 0 where
+  pub count : length m2 ≡ suc (length m)
+  pub word : word_of at2 (At (length m) 0) ≡ start
+  pub known : IsKnown (length m2) g.taken (At (length m) 0)
+  pub kept : (v : Value) → IsKnown (length m) g.taken v → (word_of at2 v ≡ word_of at v) × IsKnown (length m2) g.taken v
+  -- free addresses beside it stay free
+  pub free : (p n : ℕ) → AreFree g m at p n → ((d e : ℕ) → d < n → e < size → p + d ≢ start + e) → AreFree g m2 at2 p n
+
+-- what a tie says of names and of where objects lie
+pub record Names (g : Setting) (spans : List Span) (m : Memory) (at : Addresses) : Type 0 where
+  pub numbered : length at.objects ≡ length m
+  pub functions : at.functions ≡ g.plan.functions
+  -- a global's place has the plan's address, and is known
+  pub global : (n a : ℕ) (c : Content) → Lies g.plan g.contents n a c → (word_of at (At n 0) ≡ a) × IsKnown (length m) g.taken (At n 0)
+  -- and so has a function to which a pointer may arise
+  pub function : (f a : ℕ) → slice_get g.taken f ≡ Some true → slice_get g.plan.functions f ≡ Some a → (word_of at (Fun f) ≡ a) × IsKnown (length m) g.taken (Fun f)
+  -- a live object lies in a part of memory that may be used, and that may be written unless it is constant
+  pub inside : (i : ℕ) (x : Object0) → Lives m i x → is_inside (address_of at i) x.size spans ≡ true
+  pub writable : (i : ℕ) (x : Object0) → Lives m i x → x.constant ≡ false → is_writable (address_of at i) x.size spans ≡ true
+
+-- no address of a range is in one of these parts of memory
+abbrev pub IsOff : ℕ → ℕ → List Span → Type 0
+IsOff start count [] = Unit {0}
+IsOff start count (s ∷ ss) = ((e q : ℕ) → e < count → q < s.size → start + e ≢ s.start + q) × IsOff start count ss

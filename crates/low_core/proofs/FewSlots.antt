@@ -3,6 +3,7 @@ use Rattle.std.proofs.Common.{◌≡◌, ℕ, ◌+◌, ◌*◌, ◌<◌, ◌≤�
 use Rattle.std.specs.List.{sum_by}
 use Rattle.std.proofs.lemmas.List.Sums.{sum_by-cons}
 use Rattle.low_core.specs.declared.sel.SelAlu.TheVariants.{Add, Sub, Mul, And, Or, Xor, Shl, Shr, Sar}
+use Rattle.low_core.specs.declared.sel.Which.TheVariants as outer
 use Rattle.low_core.specs.declared.sel.SelOp.{SelOp}
 use Rattle.low_core.specs.declared.sel.SelOp.TheVariants.{Call, CallAt, Outside}
 use Rattle.low_core.specs.declared.sel.SelBlock.{SelBlock}
@@ -14,6 +15,7 @@ use Rattle.low_core.specs.SelShaped.{IsSel}
 op_weighs : (op : SelOp) → 64 * calls_at op ≤ sel_op_weight op
 op_weighs (Call f r args) = omega arith
 op_weighs (CallAt s r args) = omega arith
+op_weighs (Outside outer.Trap r args) = omega arith
 op_weighs (Outside which r args) = omega arith
 op_weighs other = omega arith
 

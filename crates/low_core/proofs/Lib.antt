@@ -2,3 +2,4 @@ pub mod Own
 pub mod SelLaws
 pub mod FewSlots
 pub mod WorkedSel
+pub mod WorkedCalls

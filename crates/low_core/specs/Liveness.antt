@@ -6,7 +6,7 @@ use Rattle.low_core.specs.declared.sel.SelOp.{SelOp}
 use Rattle.low_core.specs.declared.sel.SelEnd.{SelEnd}
 use Rattle.low_core.specs.declared.sel.SelBlock.{SelBlock}
 use Rattle.low_core.specs.declared.sel.SelFun.{SelFun}
-use Rattle.low_core.specs.SelParts.{reads_of, assigns_of, end_reads, leads_to}
+use Rattle.low_core.specs.SelParts.{reads_of, assigns_of, end_reads, leads_to, IsOneOf}
 
 -- what stands at a position
 pub data Point : Type 0 where
@@ -25,18 +25,14 @@ points_of f = Entry ∷ flat_map block_points f.blocks
 abbrev pub start_of : SelFun → ℕ → ℕ
 start_of f b = suc (sum_by (λ (c : SelBlock). suc (length c.ops)) (take b f.blocks))
 
-abbrev pub IsIn : ℕ → List ℕ → Type 0
-IsIn r [] = ⊥
-IsIn r (s ∷ ss) = (r ≡ s) ⊎ IsIn r ss
-
 -- a point reads or assigns a register
 abbrev pub Reads : Point → ℕ → Type 0
 Reads Entry r = ⊥
-Reads (Does op) r = IsIn r (reads_of op)
-Reads (Ends end) r = IsIn r (end_reads end)
+Reads (Does op) r = IsOneOf r (reads_of op)
+Reads (Ends end) r = IsOneOf r (end_reads end)
 
 abbrev pub Assigns : List ℕ → Point → ℕ → Type 0
-Assigns params Entry r = IsIn r params
+Assigns params Entry r = IsOneOf r params
 Assigns params (Does op) r = assigns_of op ≡ Some r
 Assigns params (Ends end) r = ⊥
 
@@ -44,7 +40,7 @@ Assigns params (Ends end) r = ⊥
 abbrev pub Follows : SelFun → Point → ℕ → ℕ → Type 0
 Follows f Entry p q = q ≡ suc p
 Follows f (Does op) p q = q ≡ suc p
-Follows f (Ends end) p q = (b : ℕ) × (IsIn b (leads_to end) × (q ≡ start_of f b))
+Follows f (Ends end) p q = (b : ℕ) × (IsOneOf b (leads_to end) × (q ≡ start_of f b))
 
 -- before the point at a position the register's word is still needed: it is read there, or on a way from there on which nothing
 -- assigns it before

@@ -1,5 +1,5 @@
 -- What operations and ends of programs of registers read, assign and lead to.
-use Rattle.std.specs.Prelude.{ℕ, List, [], ◌∷◌, ◌++◌, Option, Some, None}
+use Rattle.std.specs.Prelude.{◌≡◌, ℕ, ◌⊎◌, List, [], ◌∷◌, ◌++◌, Option, Some, None}
 use Rattle.std.specs.List.{flat_map}
 use Rattle.low_core.specs.declared.sel.SelOp.{SelOp}
 use Rattle.low_core.specs.declared.sel.SelOp.TheVariants.{Set, Copy, Alu, Div, Widen, Test, Pick, Load, Store, FrameAt, GlobalAt, FunctionAt, Call, CallAt, Outside}
@@ -62,3 +62,8 @@ leads_to Trap = []
 -- all operations of a function
 abbrev pub ops_of : SelFun → List SelOp
 ops_of f = flat_map (λ (b : SelBlock). b.ops) f.blocks
+
+-- a number among others
+abbrev pub IsOneOf : ℕ → List ℕ → Type 0
+IsOneOf n [] = ⊥
+IsOneOf n (m ∷ ms) = (n ≡ m) ⊎ IsOneOf n ms

@@ -3,7 +3,7 @@ use Rattle.std.specs.Prelude.{◌≡◌, ℕ, List, [], ◌∷◌, slice_get, Op
 use Rattle.behavior.specs.Ending.{Ending, Going}
 use Rattle.behavior.specs.Moment.{HasStopped, Behavior}
 use Rattle.behavior.specs.System.{iter, AddsAtMostOne}
-use Rattle.ir_core.specs.Stops.{Malformed, ending_of, IsModuleEnding}
+use Rattle.ir_core.specs.Stops.{Malformed, ending_of}
 use Rattle.x86_core.specs.Data.{stack_end}
 use Rattle.low_core.specs.declared.sel.SelFun.{SelFun}
 use Rattle.low_core.specs.declared.sel.Sel.{Sel}

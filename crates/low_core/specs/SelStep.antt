@@ -31,8 +31,8 @@ use Rattle.low_core.specs.SelParts.{assigns_of}
 use Rattle.low_core.specs.SelState.{SelFrame, SelState, SelTurn, sel_turned, flat_of, word_in, words_in, with_register, top_of, first_sel_frame}
 
 -- the low bits of a word
-abbrev pub cut : Width → ℕ → ℕ
-cut w n = n % modulus w
+abbrev pub low_bits : Width → ℕ → ℕ
+low_bits w n = n % modulus w
 
 -- operations as modules have them
 abbrev pub alu_op : SelAlu → BinOp
@@ -59,7 +59,7 @@ widening true = Sext
 
 -- two registers by an operation on their low bits
 abbrev pub of_two : List (Option ℕ) → Width → ℕ → ℕ → (ℕ → ℕ → Answer ℕ) → Answer ℕ
-of_two registers w s t f = and_then (word_in registers s) (λ a. and_then (word_in registers t) (λ b. f (cut w a) (cut w b)))
+of_two registers w s t f = and_then (word_in registers s) (λ a. and_then (word_in registers t) (λ b. f (low_bits w a) (low_bits w b)))
 
 -- the word of an operation that gives one and changes nothing else
 abbrev pub word_of_op : Plan → SelFrame → Flat → SelOp → Answer ℕ
@@ -67,7 +67,7 @@ word_of_op plan f flat (Set r n) = Ok n
 word_of_op plan f flat (Copy r s) = word_in f.registers s
 word_of_op plan f flat (Alu op w r s t) = of_two f.registers w s t (λ a b. binary (alu_op op) w a b)
 word_of_op plan f flat (Div signed rest w r s t) = of_two f.registers w s t (λ a b. binary (division signed rest) w a b)
-word_of_op plan f flat (Widen signed from to r s) = and_then (word_in f.registers s) (λ a. Ok (cast (widening signed) from to (cut from a)))
+word_of_op plan f flat (Widen signed from to r s) = and_then (word_in f.registers s) (λ a. Ok (cast (widening signed) from to (low_bits from a)))
 word_of_op plan f flat (Test pred w r s t) = of_two f.registers w s t (λ a b. Ok (if compared pred w a b then 1 else 0))
 word_of_op plan f flat (Pick r c s t) = and_then (word_in f.registers c) (λ x. and_then (word_in f.registers s) (λ a. and_then (word_in f.registers t) (λ b.
     Ok (if nat_eq (x % 2) 0 then b else a))))

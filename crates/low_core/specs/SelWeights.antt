@@ -5,6 +5,7 @@ use Rattle.std.specs.List.{sum_by}
 use Rattle.ir_core.specs.Counts.{greatest}
 use Rattle.low_core.specs.declared.sel.SelAlu.{SelAlu}
 use Rattle.low_core.specs.declared.sel.SelAlu.TheVariants.{Add, Sub, Mul, And, Or, Xor, Shl, Shr, Sar}
+use Rattle.low_core.specs.declared.sel.Which.TheVariants as outer
 use Rattle.low_core.specs.declared.sel.SelOp.{SelOp}
 use Rattle.low_core.specs.declared.sel.SelOp.TheVariants.{Set, Copy, Alu, Div, Widen, Test, Pick, Load, Store, FrameAt, GlobalAt, FunctionAt, Call, CallAt, Outside}
 use Rattle.low_core.specs.declared.sel.SelEnd.{SelEnd}
@@ -77,7 +78,7 @@ arguments_of other = 0
 abbrev pub words_passed : SelFun → ℕ
 words_passed f = greatest (map (λ (op : SelOp). arguments_of op - 6) (ops_of f))
 
--- what a function has of its own: where it goes back, five saved registers, and room so that its own memory may be aligned
+-- what a function has of its own: where it goes back and five saved registers, which are 48 bytes, and 64 to spare
 abbrev pub sel_own : ℕ
 sel_own = 112
 
@@ -85,10 +86,11 @@ sel_own = 112
 abbrev pub sel_room : SelFun → ℕ
 sel_room f = sel_own + 8 * f.registers + 8 * words_passed f + f.frame
 
--- an operation that goes by a slot
+-- an operation that goes by a slot; a trap is no call
 abbrev pub calls_at : SelOp → ℕ
 calls_at (Call f r args) = 1
 calls_at (CallAt s r args) = 1
+calls_at (Outside outer.Trap r args) = 0
 calls_at (Outside which r args) = 1
 calls_at other = 0
 
@@ -99,3 +101,18 @@ calls_of sel = sum_by (λ (f : SelFun). sum_by (λ (b : SelBlock). sum_by calls_
 -- slots that a program may come to: one for each function and each call, the entry, and five of the routines
 abbrev pub most_slots_of : Sel → ℕ
 most_slots_of sel = length sel.functions + calls_of sel + 6
+
+-- the returns of a program, and its calls by address: no pass makes more of them
+abbrev pub is_return : SelEnd → ℕ
+is_return (Ret r) = 1
+is_return other = 0
+
+abbrev pub sel_returns_of : Sel → ℕ
+sel_returns_of sel = sum_by (λ (f : SelFun). sum_by (λ (b : SelBlock). is_return b.end) f.blocks) sel.functions
+
+abbrev pub is_call_by_address : SelOp → ℕ
+is_call_by_address (CallAt s r args) = 1
+is_call_by_address other = 0
+
+abbrev pub calls_by_address_of : Sel → ℕ
+calls_by_address_of sel = sum_by (λ (f : SelFun). sum_by (λ (b : SelBlock). sum_by is_call_by_address b.ops) f.blocks) sel.functions

@@ -34,32 +34,38 @@ pub enum Which {
     Trap,
 }
 
-/// An operation. What is assigned stands in front of what is read, but for a store, which reads both:
-/// the address, and then the word.
+/// An operation on registers, which are numbers. The one that is assigned stands first, but for a store,
+/// which assigns none, and for calls, whose result stands behind what is called.
 #[derive(Drop)]
 pub enum SelOp {
+    /// A number.
     Set(u32, u64),
+    /// Another register's word.
     Copy(u32, u32),
     Alu(SelAlu, Width, u32, u32, u32),
     /// Whether numbers are signed, and whether the remainder is wanted.
     Div(bool, bool, Width, u32, u32, u32),
     /// Whether the number is signed, and the widths from and to which it goes.
     Widen(bool, Width, Width, u32, u32),
+    /// 1 where a comparison holds, and else 0.
     Test(Pred, Width, u32, u32, u32),
-    /// The condition, the register read where it holds, and the one read otherwise.
+    /// The condition, the register read where its low bit is 1, and the one read otherwise.
     Pick(u32, u32, u32, u32),
+    /// The bytes at the address in a register.
     Load(Width, u32, u32),
+    /// The register with the address, and the one with the word.
     Store(Width, u32, u32),
-    /// A place in the frame's own memory, counted from its lowest address.
+    /// A place in the frame's own memory, in bytes from its lowest address.
     FrameAt(u32, u32),
     /// A global, by its number.
     GlobalAt(u32, u32),
     /// A function as a pointer, by its number.
     FunctionAt(u32, u32),
-    /// A function by its number.
+    /// A function by its number, the register of the result, and those of the arguments.
     Call(u32, Option<u32>, List<u32>),
     /// A function by a register that has its address.
     CallAt(u32, Option<u32>, List<u32>),
+    /// A function outside of the program.
     Outside(Which, Option<u32>, List<u32>),
 }
 
@@ -99,7 +105,7 @@ pub struct Sel {
     pub taken: List<bool>,
 }
 
-/// Where a register lives: in one of five processor registers, or at a place of the frame.
+/// Where a register lives: in one of five processor registers, or in a word of the frame, by its number.
 #[derive(Clone, Copy)]
 pub enum Home {
     Color(u32),

@@ -1,5 +1,6 @@
 use Rattle.flat_memory.proofs.Frames.{made_law}
+use Rattle.flat_memory.proofs.Named.{off_law}
 use Rattle.flat_memory.proofs.law.enters.Goals as goal
 
 pub returns : goal.returns
-returns c = made_law
+returns c = record { tied = made_law; off = off_law }
