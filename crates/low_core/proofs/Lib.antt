@@ -1,1 +1,4 @@
 pub mod Own
+pub mod SelLaws
+pub mod FewSlots
+pub mod WorkedSel

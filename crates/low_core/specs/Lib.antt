@@ -1,3 +1,14 @@
 pub mod Plain
 pub mod Weights
 pub mod Shaped
+pub mod Flat
+pub mod SelParts
+pub mod Plan
+pub mod SelState
+pub mod SelStep
+pub mod SelRun
+pub mod SelWeights
+pub mod SelShaped
+pub mod Contents
+pub mod Bridge
+pub mod Liveness

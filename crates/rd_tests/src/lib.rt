@@ -3,7 +3,7 @@
 //! They stand apart from the crates that they are about, since a crate with tests is proved once more
 //! with them. `decoded` is about `x86_decode`, `object_files` and `verified` about `obj_file` and
 //! `obj_check`, `machine` and `watched` about `xom_machine` and `watch_script`, `commands` and
-//! `evaluated` about `rd_top`, `lowered` about `phi_lower`. Tests of texts stand in `ir_tests`.
+//! `evaluated` about `rd_top`. Tests of texts stand in `ir_tests`, those of passes in `low_tests`.
 #![tactic(auto)]
 
 #[cfg(test)]
@@ -12,8 +12,6 @@ mod commands;
 mod decoded;
 #[cfg(test)]
 mod evaluated;
-#[cfg(test)]
-mod lowered;
 #[cfg(test)]
 mod machine;
 #[cfg(test)]

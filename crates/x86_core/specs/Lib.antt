@@ -1,6 +1,7 @@
 pub mod Registers
 pub mod Arithmetic
 pub mod Effect
+pub mod Applying
 pub mod Encoding
 pub mod Decoding
 pub mod Memory

@@ -157,13 +157,13 @@ fn changed(regs: &Regs, r: Reg, n: u64) -> Regs
 }
 
 // A number moved by a displacement, modulo 2^64.
-fn displaced(n: u64, by: i32) -> u64
+pub(crate) fn displaced(n: u64, by: i32) -> u64
     ensures { result ≡ moved n by }
 {
     n.wrapping_add_signed(by as i64)
 }
 
-fn address(regs: &Regs, m: Mem) -> u64
+pub(crate) fn address(regs: &Regs, m: Mem) -> u64
     ensures { result ≡ address_of regs.now m }
 {
     displaced(regs.get(m.base), m.disp)
@@ -175,7 +175,7 @@ fn stacked(regs: &Regs, by: i32) -> Regs
     changed(regs, Reg::Rsp, displaced(regs.get(Reg::Rsp), by))
 }
 
-fn unknown() -> Flags
+pub(crate) fn unknown() -> Flags
     ensures { result ≡ unknown_flags }
 {
     Flags {
@@ -216,7 +216,7 @@ fn shift_register(op: ShiftOp, w: Wide, d: Reg, regs: &Regs, flags: &Flags) -> C
 }
 
 // The number that is divided: ax, dx:ax, edx:eax or rdx:rax.
-fn dividend_of(size: Size, regs: &Regs) -> u128
+pub(crate) fn dividend_of(size: Size, regs: &Regs) -> u128
     ensures value { result ≡ dividend size regs.now }
     ensures small { result < 2 ^ (2 * size_bits size) }
 {
@@ -231,7 +231,7 @@ fn dividend_of(size: Size, regs: &Regs) -> u128
 }
 
 // The low bits of a register's word in the place of others.
-fn with_low(size: Size, old: u64, n: u64) -> u64
+pub(crate) fn with_low(size: Size, old: u64, n: u64) -> u64
     requires { n < 2 ^ size_bits size }
     ensures { result ≡ kept size old n }
 {

@@ -1,0 +1,11 @@
+pub mod Lists
+pub mod Points
+pub mod Fits
+pub mod Tests
+pub mod Spans
+pub mod Load
+pub mod Put
+pub mod Store
+pub mod Compare
+pub mod Frames
+pub mod Start
