@@ -1,9 +1,9 @@
 -- What the ends of chunks make of both programs.
-use Rattle.std.proofs.Common.{◌≡◌, ℕ, zero, suc, ◌+◌, ◌*◌, ◌^◌, ◌<◌, ◌≤◌, Bool, true, false, List, [], ◌∷◌, ◌++◌, map, max, length, Option, Some, None, Ok, Err, refl, ap, sym, ◌∙◌, subst, inl, inr, ◌⊎◌, arith}
+use Rattle.std.proofs.Common.{◌≡◌, ℕ, zero, suc, ◌+◌, ◌*◌, ◌^◌, ◌<◌, ◌≤◌, Bool, true, false, List, [], ◌∷◌, map, length, Option, Some, None, Ok, Err, refl, ap, sym, ◌∙◌, subst, inl, inr, ◌⊎◌, arith}
 use Rattle.std.specs.Prelude.{◌&&◌, slice_get, option_map, nat_le, if◌then◌else◌}
-use Rattle.std.specs.List.{list_all, enumerate_from}
-use Rattle.std.proofs.lemmas.Bool.{and_parts, leb-true, leb-false}
-use Rattle.behavior.specs.Ending.{Going, is_left}
+use Rattle.std.specs.List.{list_all}
+use Rattle.std.proofs.lemmas.Bool.{and_parts, leb-true}
+use Rattle.behavior.specs.Ending.{is_left}
 use Rattle.behavior.specs.Simulation.{Comes}
 use Rattle.behavior.proofs.Stretch.{comes_none, comes_wider}
 use Rattle.rd_num.specs.declared.width.Width.{Width}
@@ -16,21 +16,19 @@ use Rattle.ir_core.specs.declared.operand.Operand.TheVariants.{Int, Bool as Trut
 use Rattle.ir_core.specs.declared.instruction.Case.{Case}
 use Rattle.ir_core.specs.declared.instruction.Term.{Term}
 use Rattle.ir_core.specs.declared.instruction.Term.TheVariants.{Ret, RetValue, Br, BrIf, Switch, Unreachable}
-use Rattle.ir_core.specs.declared.module.Block.{Block}
 use Rattle.ir_core.specs.declared.module.Function.{Function}
 use Rattle.ir_core.specs.declared.module.Module.{Module}
 use Rattle.ir_core.specs.declared.memory.Value.{Value}
 use Rattle.ir_core.specs.declared.memory.Value.TheVariants.{Num, Null, At, Fun}
 use Rattle.ir_core.specs.declared.memory.Reason.TheVariants.{Unset}
-use Rattle.ir_core.specs.Names.{same_name, number_where}
-use Rattle.ir_core.specs.Stops.{Left, Malformed, Trap, ending_of, Answer, and_then, found_or}
+use Rattle.ir_core.specs.Names.{same_name}
+use Rattle.ir_core.specs.Stops.{Left, Malformed, Trap, Answer, and_then, found_or}
 use Rattle.ir_core.specs.Kinds.{kind_of, same_kind}
 use Rattle.ir_core.specs.Counts.{greatest}
 use Rattle.ir_core.specs.State.{Local, Frame, State, Turn, Nothing, turned}
 use Rattle.ir_core.specs.Operands.{value_of}
-use Rattle.ir_core.specs.Calls.{return_turn}
 use Rattle.ir_core.specs.Step.{in_block, goes_to, if_true, to_if_equal, switched, terminator_turn, choices_of, source_step}
-use Rattle.ir_core.specs.Typing.{Env, is_value, is_number, operand_fits, case_fits, term_fits}
+use Rattle.ir_core.specs.Typing.{Env, is_number, operand_fits, case_fits, term_fits}
 use Rattle.low_core.specs.declared.moves.Chunk.{Chunk}
 use Rattle.low_core.specs.declared.moves.Body.{Body}
 use Rattle.low_core.specs.declared.moves.Move.{Move}
@@ -38,17 +36,17 @@ use Rattle.low_core.specs.Plain.{inst_of, block_of, with_blocks, plain}
 use Rattle.low_core.specs.Shaped.{keeps_moves}
 use Rattle.switch_lower.specs.Ways.{ways}
 use Rattle.switch_lower.specs.Fresh.{zeros_of, chunk_name}
-use Rattle.switch_lower.specs.Tree.{Choice, tree, tree_of, ways_within}
-use Rattle.switch_lower.specs.Bodies.{with_end, chunks_by, chunks_for, chunks_from, padding_in, body_of, bodies_without_switches}
+use Rattle.switch_lower.specs.Tree.{Choice, tree, ways_within}
+use Rattle.switch_lower.specs.Bodies.{chunks_by, chunks_for, padding_in, body_of, bodies_without_switches}
 use Rattle.switch_lower.specs.Bound.{cases_at, most_cases, depth_within, depth_for}
 use Rattle.switch_lower.proofs.Same.{NamesAgree, Same, IsUnder, value_any, value_same, not_true}
 use Rattle.switch_lower.proofs.Names.{name_is}
 use Rattle.switch_lower.proofs.TreeLaws.{tree_deep, ways_many}
-use Rattle.switch_lower.proofs.Turns.{with_body, lowered, lowered_all, IsFound, IsBeside, AreBeside, with_frames, TurnsBeside, then_beside, return_beside}
-use Rattle.switch_lower.proofs.Labels.{AreOld, AreNumbered, all_numbered, place_of, old_found, IsMoved, part_of}
+use Rattle.switch_lower.proofs.Turns.{with_body, lowered, lowered_all, IsBeside, AreBeside, with_frames, TurnsBeside, then_beside, return_beside}
+use Rattle.switch_lower.proofs.Labels.{AreOld, AreNumbered, all_numbered, place_of, old_found, part_of}
 use Rattle.switch_lower.proofs.WayLaws.{way_at, ways_rise, ways_below, ways_length, ways_some, case_is, switched_is}
 use Rattle.switch_lower.proofs.Facts.{old_item, list_item, moves_none}
-use Rattle.switch_lower.proofs.Runs.{IsPlace, IsFirst, goes_there, standing_at, read_run, new_place, tree_first, tree_none, tree_run}
+use Rattle.switch_lower.proofs.Runs.{IsPlace, goes_there, standing_at, read_run, new_place, tree_first, tree_none, tree_run}
 
 -- the chunk to which a label leads has it
 place_item : (label : List ℕ) (cs : List Chunk) (k : ℕ) → place_of label cs ≡ Some k → (c : Chunk) × (slice_get cs k ≡ Some c) × (same_name c.label label ≡ true)

@@ -1,6 +1,6 @@
 -- What a well shaped program says of each of its functions.
-use Rattle.std.proofs.Common.{◌≡◌, ℕ, zero, suc, ◌+◌, ◌*◌, ◌^◌, ◌<◌, ◌≤◌, Bool, true, false, List, [], ◌∷◌, ◌++◌, map, max, take, drop, length, Option, Some, None, refl, ap, sym, ◌∙◌, subst, inl, inr, arith, All, get_or, length-append}
-use Rattle.std.specs.Prelude.{◌&&◌, slice_get, option_map, nat_le, if◌then◌else◌}
+use Rattle.std.proofs.Common.{◌≡◌, ℕ, zero, suc, ◌+◌, ◌*◌, ◌^◌, ◌<◌, ◌≤◌, Bool, true, false, List, [], ◌∷◌, ◌++◌, map, take, drop, length, Option, Some, None, refl, ap, sym, ◌∙◌, subst, arith, All, length-append}
+use Rattle.std.specs.Prelude.{slice_get, option_map, nat_le, if◌then◌else◌}
 use Rattle.std.specs.List.{list_all, flat_map, sum_by, enumerate_from}
 use Rattle.std.proofs.lemmas.Bool.{and_parts, leb-true, leb-false}
 use Rattle.std.proofs.lemmas.List.{length-take-le, length-drop}
@@ -9,7 +9,7 @@ use Rattle.std.proofs.lemmas.Option.{slice_get_within, get_or_from_slice_get}
 use Rattle.ir_core.specs.declared.instruction.Case.{Case}
 use Rattle.ir_core.specs.declared.instruction.Inst.{Inst}
 use Rattle.ir_core.specs.declared.instruction.Op.{Op}
-use Rattle.ir_core.specs.declared.instruction.Op.TheVariants.{Bin, Compare, Cast, Select, Freeze, Alloca, Load, Store, Gep, Phi, Call}
+use Rattle.ir_core.specs.declared.instruction.Op.TheVariants.{Phi}
 use Rattle.ir_core.specs.declared.instruction.Term.{Term}
 use Rattle.ir_core.specs.declared.instruction.Term.TheVariants.{Ret, RetValue, Br, BrIf, Switch, Unreachable}
 use Rattle.ir_core.specs.declared.module.Block.{Block}
@@ -27,13 +27,12 @@ use Rattle.low_core.specs.declared.moves.MoveOp.{MoveOp}
 use Rattle.low_core.specs.declared.moves.MoveOp.TheVariants.{Keep, Copy}
 use Rattle.low_core.specs.declared.moves.Move.{Move}
 use Rattle.low_core.specs.declared.moves.Chunk.{Chunk}
-use Rattle.low_core.specs.declared.moves.Body.{Body}
-use Rattle.low_core.specs.Plain.{op_of, inst_of, block_of, with_blocks, with_bodies}
+use Rattle.low_core.specs.Plain.{op_of, inst_of, block_of, with_blocks}
 use Rattle.low_core.specs.Shaped.{is_kept, keeps_moves}
-use Rattle.low_core.specs.Weights.{operand_weight, op_weight, cases_weight, end_weight, block_weight, function_weight, weight}
+use Rattle.low_core.specs.Weights.{cases_weight, end_weight, block_weight, function_weight, weight}
 use Rattle.switch_lower.specs.Ways.{Way, ways}
 use Rattle.switch_lower.specs.Fresh.{zeros_of}
-use Rattle.switch_lower.specs.Tree.{Choice, tests, row, tree, tree_of, ways_within, size_within}
+use Rattle.switch_lower.specs.Tree.{Choice, row, tree, ways_within, size_within}
 use Rattle.switch_lower.specs.Bodies.{chunks_by, chunks_for, chunks_from}
 use Rattle.switch_lower.proofs.Same.{IsUnder, not_true}
 use Rattle.switch_lower.proofs.Names.{name_is}

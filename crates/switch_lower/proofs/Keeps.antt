@@ -1,7 +1,7 @@
 -- A program without switches means what the program means.
-use Rattle.std.proofs.Common.{◌≡◌, ℕ, zero, suc, ◌+◌, ◌*◌, ◌^◌, ◌<◌, ◌≤◌, true, List, [], ◌∷◌, map, length, Option, Some, None, refl, ap, sym, ◌∙◌, subst, inl, inr, ◌⊎◌, arith, All}
+use Rattle.std.proofs.Common.{◌≡◌, ℕ, suc, ◌+◌, ◌*◌, ◌^◌, ◌<◌, ◌≤◌, true, List, [], ◌∷◌, map, length, Option, Some, None, refl, ap, sym, ◌∙◌, subst, inl, inr, ◌⊎◌, arith, All}
 use Rattle.std.specs.Prelude.{◌&&◌, slice_get, option_map, codes, if◌then◌else◌}
-use Rattle.std.specs.List.{list_all, enumerate_from}
+use Rattle.std.specs.List.{list_all}
 use Rattle.std.proofs.lemmas.Bool.{and_parts}
 use Rattle.std.proofs.Math.Path.{fun_ext}
 use Rattle.behavior.specs.Ending.{Going, is_left}
@@ -10,24 +10,19 @@ use Rattle.behavior.specs.Preserves.{Preserves, ReachesWithin}
 use Rattle.behavior.specs.Simulation.{Comes, Follows, Starts, Spots}
 use Rattle.behavior.proofs.Laws.{agrees_refl, going_is}
 use Rattle.behavior.proofs.Stretch.{comes_none, comes_step, comes_wider, met_by, starts_by, spots_follow}
-use Rattle.rd_num.specs.declared.width.Width.TheVariants.{W1}
 use Rattle.ir_core.specs.declared.ty.Ty.{Ty}
 use Rattle.ir_core.specs.declared.init.Init.{fold-Init}
 use Rattle.ir_core.specs.declared.init.Init.TheOpen.{Init-F}
 use Rattle.ir_core.specs.declared.operand.Operand.{Operand}
 use Rattle.ir_core.specs.declared.operand.Operand.TheVariants.{Local as LocalName, Global}
-use Rattle.ir_core.specs.declared.instruction.Case.{Case}
 use Rattle.ir_core.specs.declared.instruction.Inst.{Inst}
 use Rattle.ir_core.specs.declared.instruction.Term.{Term}
 use Rattle.ir_core.specs.declared.instruction.Term.TheVariants.{Ret, RetValue, Br, BrIf, Switch, Unreachable}
-use Rattle.ir_core.specs.declared.module.Block.{Block}
 use Rattle.ir_core.specs.declared.module.Function.{Function}
 use Rattle.ir_core.specs.declared.module.GlobalVar.{GlobalVar}
 use Rattle.ir_core.specs.declared.module.Module.{Module}
 use Rattle.ir_core.specs.declared.memory.Cell.{Cell}
-use Rattle.ir_core.specs.declared.memory.Value.{Value}
 use Rattle.ir_core.specs.declared.kind.Kind.{Kind}
-use Rattle.ir_core.specs.declared.kind.Kind.TheVariants.{Number}
 use Rattle.ir_core.specs.Names.{same_name, number_where}
 use Rattle.ir_core.specs.Kinds.{kind_of, same_kind}
 use Rattle.ir_core.specs.Shapes.{shape_of}
@@ -51,7 +46,7 @@ use Rattle.switch_lower.specs.Bodies.{with_end, chunks_by, chunks_for, chunks_fr
 use Rattle.switch_lower.specs.Fresh.{chunk_name}
 use Rattle.switch_lower.specs.Bound.{depth_for, most_cases, most_steps}
 use Rattle.switch_lower.proofs.Same.{NamesAgree, IsUnder}
-use Rattle.switch_lower.proofs.Turns.{with_body, lowered, lowered_all, IsFound, find, IsBeside, AreBeside, with_frames, as_many, EntersBeside, instruction_beside}
+use Rattle.switch_lower.proofs.Turns.{with_body, lowered, lowered_all, find, IsBeside, AreBeside, with_frames, as_many, EntersBeside, instruction_beside}
 use Rattle.switch_lower.proofs.Labels.{AreOld, in_front, part_of}
 use Rattle.switch_lower.proofs.Runs.{block_at}
 use Rattle.switch_lower.proofs.Facts.{all_item, list_item, numbered_item, env_under, chunks_old, body_short}

@@ -1,5 +1,5 @@
 -- Where labels lead: old ones to the chunk that had them, and new ones to the number that they say.
-use Rattle.std.proofs.Common.{◌≡◌, ◌≢◌, ℕ, zero, suc, ◌+◌, ◌-◌, ◌*◌, ◌^◌, ◌<◌, ◌≤◌, Bool, true, false, List, [], ◌∷◌, ◌++◌, map, take, drop, length, Option, Some, None, refl, ap, sym, ◌∙◌, subst, inl, inr, ◌⊎◌, arith, length-append}
+use Rattle.std.proofs.Common.{◌≡◌, ℕ, zero, suc, ◌+◌, ◌^◌, ◌<◌, Bool, true, false, List, [], ◌∷◌, ◌++◌, map, take, drop, length, Option, Some, None, refl, ap, sym, ◌∙◌, subst, inl, inr, ◌⊎◌, arith}
 use Rattle.std.specs.Prelude.{slice_get, option_map, nat_le, if◌then◌else◌}
 use Rattle.std.proofs.lemmas.Bool.{leb-true, leb-false}
 use Rattle.std.proofs.lemmas.List.{length-take-le}
@@ -11,10 +11,10 @@ use Rattle.low_core.specs.declared.moves.Chunk.{Chunk}
 use Rattle.low_core.specs.Plain.{block_of}
 use Rattle.switch_lower.specs.Ways.{Way, ways}
 use Rattle.switch_lower.specs.Fresh.{zeros_of, chunk_name}
-use Rattle.switch_lower.specs.Tree.{Choice, compare_chunk, read_chunk, tests, row, tree, tree_of, ways_within, size_within}
+use Rattle.switch_lower.specs.Tree.{Choice, tests, row, tree, tree_of, ways_within, size_within}
 use Rattle.switch_lower.specs.Bodies.{with_end, chunks_by, chunks_for, chunks_from}
 use Rattle.switch_lower.proofs.Names.{name_itself, name_is, apart, chunk_zeros, chunk_names_differ}
-use Rattle.switch_lower.proofs.TreeLaws.{tree_few, tree_many, halved, tree_full}
+use Rattle.switch_lower.proofs.TreeLaws.{tree_few, tree_many, tree_full}
 
 -- new chunks, whose labels say their numbers
 abbrev pub AreNew : ℕ → ℕ → List Chunk → Type 0
@@ -57,9 +57,11 @@ tree_new s (suc d) at ws = by_test (nat_le (length ws) (ways_within d)) refl (tr
         let many = leb-false (length ws) (ways_within d) e in
         let full = tree_full s d (at + 1) (take (ways_within d) ws) (length-take-le (ways_within d) ws (omega arith)) in
         let n : at + size_within d ≡ at + 1 + length (tree s d (at + 1) (take (ways_within d) ws)) = omega arith in
-        subst (AreNew s.padding at) (sym (tree_many s d at ws many))
-        (refl, new_append s.padding (at + 1) (tree s d (at + 1) (take (ways_within d) ws)) (tree s d (at + size_within d) (drop (ways_within d) ws)) left
-        (subst (λ k. AreNew s.padding k (tree s d (at + size_within d) (drop (ways_within d) ws))) n right))
+        subst (AreNew s.padding at) (sym (tree_many s d at ws many)) (
+          refl,
+          new_append s.padding (at + 1) (tree s d (at + 1) (take (ways_within d) ws)) (tree s d (at + size_within d) (drop (ways_within d) ws)) left
+              (subst (λ k. AreNew s.padding k (tree s d (at + size_within d) (drop (ways_within d) ws))) n right),
+        )
 
 -- labels of old chunks
 abbrev pub AreOld : ℕ → List Chunk → Type 0

@@ -1,5 +1,5 @@
 -- Runs of compare trees: from the first chunk of a tree to the chunk to which the switch leads.
-use Rattle.std.proofs.Common.{◌≡◌, ℕ, zero, suc, ◌+◌, ◌-◌, ◌*◌, ◌%◌, ◌^◌, ◌<◌, ◌≤◌, Bool, true, false, List, [], ◌∷◌, ◌++◌, map, take, drop, length, Option, Some, None, Ok, Err, refl, ap, sym, ◌∙◌, subst, inl, inr, arith}
+use Rattle.std.proofs.Common.{◌≡◌, ℕ, zero, suc, ◌+◌, ◌*◌, ◌^◌, ◌<◌, ◌≤◌, Bool, true, false, List, [], ◌∷◌, ◌++◌, map, take, drop, length, Some, None, Ok, refl, ap, sym, ◌∙◌, subst, arith}
 use Rattle.std.specs.Prelude.{pos, slice_get, option_map, nat_eq, nat_lt, nat_le, if◌then◌else◌}
 use Rattle.std.proofs.lemmas.Bool.{leb-true, leb-false, ltb-true, ltb-false}
 use Rattle.std.proofs.lemmas.List.{length-take-le, length-drop}
@@ -9,38 +9,33 @@ use Rattle.behavior.specs.Ending.{Going}
 use Rattle.behavior.specs.Simulation.{Comes}
 use Rattle.behavior.proofs.Stretch.{comes_none, comes_step, comes_join, comes_wider}
 use Rattle.rd_num.specs.declared.width.Width.{Width}
-use Rattle.rd_num.specs.declared.width.Width.TheVariants.{W1}
 use Rattle.rd_num.specs.Number.{bits}
-use Rattle.ir_core.specs.declared.operand.Operand.TheVariants.{Int, Local as LocalName}
-use Rattle.ir_core.specs.declared.instruction.Inst.{Inst}
+use Rattle.ir_core.specs.declared.operand.Operand.TheVariants.{Int}
 use Rattle.ir_core.specs.declared.instruction.Op.TheVariants.{Compare, Freeze}
 use Rattle.ir_core.specs.declared.instruction.Pred.{Pred}
 use Rattle.ir_core.specs.declared.instruction.Pred.TheVariants.{Eq, Ult}
-use Rattle.ir_core.specs.declared.instruction.Term.TheVariants.{Br, BrIf}
-use Rattle.ir_core.specs.declared.module.Block.{Block}
 use Rattle.ir_core.specs.declared.module.Function.{Function}
 use Rattle.ir_core.specs.declared.module.Module.{Module}
 use Rattle.ir_core.specs.declared.memory.Value.{Value}
 use Rattle.ir_core.specs.declared.memory.Value.TheVariants.{Num}
 use Rattle.ir_core.specs.declared.memory.Reason.TheVariants.{Unset}
 use Rattle.ir_core.specs.declared.kind.Kind.TheVariants.{Number}
-use Rattle.ir_core.specs.Names.{same_name, number_where, first_where}
-use Rattle.ir_core.specs.Stops.{Left, Malformed, Answer, and_then, found_or}
+use Rattle.ir_core.specs.Names.{same_name, first_where}
+use Rattle.ir_core.specs.Stops.{Left, Malformed, and_then, found_or}
 use Rattle.ir_core.specs.Kinds.{kind_of, truth}
 use Rattle.ir_core.specs.Arithmetic.{compared}
-use Rattle.ir_core.specs.Memory.{Memory}
-use Rattle.ir_core.specs.State.{Local, Frame, State, Turn, Nothing, turned, with_local}
+use Rattle.ir_core.specs.State.{Local, Frame, State, Nothing, turned}
 use Rattle.ir_core.specs.Operands.{int_value, value_of, local_value}
 use Rattle.ir_core.specs.Step.{compared_value, result_of, gives, choices_of, Choice as Phis, given_at_once, in_block, goes_to, if_true, source_step}
 use Rattle.ir_core.proofs.Steps.{step_here}
 use Rattle.low_core.specs.declared.moves.Chunk.{Chunk}
 use Rattle.low_core.specs.Plain.{inst_of, block_of, with_blocks}
 use Rattle.switch_lower.specs.Ways.{Way}
-use Rattle.switch_lower.specs.Fresh.{zeros_of, test_name, chunk_name}
+use Rattle.switch_lower.specs.Fresh.{test_name, chunk_name}
 use Rattle.switch_lower.specs.Tree.{Choice, compare_chunk, read_chunk, onward, tests, row, least, ways_within, size_within, tree}
-use Rattle.switch_lower.proofs.Same.{Same, not_true}
+use Rattle.switch_lower.proofs.Same.{Same}
 use Rattle.switch_lower.proofs.Names.{name_itself, apart, test_zeros}
-use Rattle.switch_lower.proofs.TreeLaws.{tree_few, tree_many, halved, tree_full, ways_some, twice}
+use Rattle.switch_lower.proofs.TreeLaws.{tree_few, tree_many, tree_full, ways_some, twice}
 use Rattle.switch_lower.proofs.Labels.{AreNumbered, place_of, new_found, in_front, behind}
 use Rattle.switch_lower.proofs.WayLaws.{way_at, AreBelow, Rises, take_rises, drop_rises, take_below, drop_below, least_below, way_left, way_right}
 
@@ -137,16 +132,16 @@ module _ (w : Module) (input : List ℕ) (s : State) (g : Frame) (gs : List Fram
         let h = with_blocks fn (map block_of cs) in
         let t = test_name c.padding in
         let result : result_of w s.objects locals (Compare pred c.ty c.value (Int (pos n))) ≡ Ok (truth b) =
-            ap (λ r. and_then r (λ y. and_then (int_value (kind_of c.ty) (pos n)) (λ z. compared_value s.objects pred (kind_of c.ty) y z))) value
-            ∙ ap (λ k. and_then (int_value k (pos n)) (λ z. compared_value s.objects pred k (Num u a) z)) kind
-            ∙ ap (λ k. Ok (truth (compared pred width a k))) (mod-eq_of_lt low)
-            ∙ ap (λ d. Ok (truth d)) holds in
+        ap (λ r. and_then r (λ y. and_then (int_value (kind_of c.ty) (pos n)) (λ z. compared_value s.objects pred (kind_of c.ty) y z))) value
+        ∙ ap (λ k. and_then (int_value k (pos n)) (λ z. compared_value s.objects pred k (Num u a) z)) kind
+        ∙ ap (λ k. Ok (truth (compared pred width a k))) (mod-eq_of_lt low)
+        ∙ ap (λ d. Ok (truth d)) holds in
         let one = step_here w input (standing_at q 0 locals) (frame_at q 0 locals) gs h (block_of x) (Some (record { result = Some t; op = Compare pred c.ty c.value (Int (pos n)) })) refl refl (record { in_module = in_module; in_function = at; in_block = refl })
-            ∙ ap (λ r. turned (standing_at q 0 locals) (and_then r (λ y. gives (standing_at q 0 locals) (frame_at q 0 locals) gs (Some t) y))) result in
+        ∙ ap (λ r. turned (standing_at q 0 locals) (and_then r (λ y. gives (standing_at q 0 locals) (frame_at q 0 locals) gs (Some t) y))) result in
         let two = step_here w input (standing_at q 1 (answered b locals)) (frame_at q 1 (answered b locals)) gs h (block_of x) None refl refl (record { in_module = in_module; in_function = at; in_block = refl })
-            ∙ ap (λ r. turned (standing_at q 1 (answered b locals)) (and_then r (λ y. and_then (if_true y taken other) (λ to. goes_to w (standing_at q 1 (answered b locals)) (frame_at q 1 (answered b locals)) gs h x.label to)))) (answer_is t (truth b) locals)
-            ∙ ap (λ r. turned (standing_at q 1 (answered b locals)) (and_then r (λ to. goes_to w (standing_at q 1 (answered b locals)) (frame_at q 1 (answered b locals)) gs h x.label to))) (true_is b taken other)
-            ∙ leads q 1 (answered b locals) x.label (if b then taken else other) p in
+        ∙ ap (λ r. turned (standing_at q 1 (answered b locals)) (and_then r (λ y. and_then (if_true y taken other) (λ to. goes_to w (standing_at q 1 (answered b locals)) (frame_at q 1 (answered b locals)) gs h x.label to)))) (answer_is t (truth b) locals)
+        ∙ ap (λ r. turned (standing_at q 1 (answered b locals)) (and_then r (λ to. goes_to w (standing_at q 1 (answered b locals)) (frame_at q 1 (answered b locals)) gs h x.label to))) (true_is b taken other)
+        ∙ leads q 1 (answered b locals) x.label (if b then taken else other) p in
         comes_step (source_step w input) 1 1 (standing_at q 0 locals) (standing_at q 1 (answered b locals)) (standing_at p.number 0 (answered b locals)) one
         (comes_step (source_step w input) 0 0 (standing_at q 1 (answered b locals)) (standing_at p.number 0 (answered b locals)) (standing_at p.number 0 (answered b locals)) two (comes_none (source_step w input) _ _ refl))
 
@@ -178,12 +173,13 @@ module _ (w : Module) (input : List ℕ) (s : State) (g : Frame) (gs : List Fram
       after : (most q q2 n : ℕ) (pred : Pred) (taken other label : List ℕ) (locals : List Local) (b : Bool) (p : IsPlace cs (if b then taken else other)) → p.number ≡ q2 → slice_get cs q ≡ Some (compare_chunk c q pred n taken other) → value_of w locals (kind_of c.ty) c.value ≡ Ok (Num u a) → n < 2 ^ bits width → compared pred width a n ≡ b → Reaches most q2 (answered b locals) label → Reaches (2 + most) q locals label
       after most q q2 n pred taken other label locals b p is there value low holds later target =
           let r = later target in
-          let first = compare_run q pred n taken other locals b p there value low holds in
-          (r.0,
-          comes_wider (source_step w input) (2 + 2) (2 + most) 2 (2 + most) _ _ (omega arith) (omega arith)
-          (comes_join (source_step w input) 2 2 2 most (standing_at q 0 locals) (standing_at q2 0 (answered b locals)) (standing_at target.number 0 r.0)
-          (subst (λ k. Comes (source_step w input) 2 2 (standing_at q 0 locals) (standing_at k 0 (answered b locals))) is first) r.1),
-          λ name few. answered_same b locals name few ∙ r.2 name few)
+          let first = compare_run q pred n taken other locals b p there value low holds in (
+            r.0,
+            comes_wider (source_step w input) (2 + 2) (2 + most) 2 (2 + most) _ _ (omega arith) (omega arith)
+                (comes_join (source_step w input) 2 2 2 most (standing_at q 0 locals) (standing_at q2 0 (answered b locals)) (standing_at target.number 0 r.0)
+                (subst (λ k. Comes (source_step w input) 2 2 (standing_at q 0 locals) (standing_at k 0 (answered b locals))) is first) r.1),
+            λ name few. answered_same b locals name few ∙ r.2 name few,
+          )
 
       -- a row of tests
       tests_run : (q : ℕ) (ws : List Way) (locals : List Local) → 0 < length ws → AreBelow (2 ^ bits width) ws → ((j : ℕ) (x : Chunk) → slice_get (tests c q ws) j ≡ Some x → slice_get cs (q + j) ≡ Some x) → value_of w locals (kind_of c.ty) c.value ≡ Ok (Num u a) → Reaches (2 * length ws) q locals (way_at a c.default ws)

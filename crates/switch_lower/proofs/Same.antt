@@ -25,7 +25,7 @@ use Rattle.ir_core.specs.Operands.{local_value, function_number, global_number, 
 use Rattle.ir_core.specs.Calls.{target_named, target_of}
 use Rattle.ir_core.specs.Step.{result_of}
 use Rattle.ir_core.specs.Typing.{Env, has_kind, is_value, is_index, operand_fits, arg_fits, bin_fits, cast_fits, known_arg, leads_from, op_fits}
-use Rattle.ir_core.specs.Valid.{op_rules, callee_rules}
+use Rattle.ir_core.specs.Valid.{callee_rules}
 use Rattle.rd_num.specs.declared.width.Width.TheVariants.{W1}
 use Rattle.switch_lower.specs.Fresh.{zeros_of}
 

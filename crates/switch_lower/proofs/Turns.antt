@@ -1,11 +1,10 @@
 -- Calls of a program beside calls of the program without switches, and what instructions make of both.
-use Rattle.std.proofs.Common.{◌≡◌, ℕ, zero, suc, ◌+◌, ◌<◌, Bool, true, false, List, [], ◌∷◌, map, length, Option, Some, None, Ok, Err, refl, ap, sym, subst, arith, inl, inr, ◌⊎◌}
-use Rattle.std.specs.Prelude.{◌&&◌, slice_get, nat_le, option_map, if◌then◌else◌}
+use Rattle.std.proofs.Common.{◌≡◌, ℕ, zero, suc, ◌+◌, Bool, true, false, List, [], ◌∷◌, map, length, Option, Some, None, Ok, Err, refl, ap, sym, subst, inl, inr, ◌⊎◌}
+use Rattle.std.specs.Prelude.{◌&&◌, slice_get, nat_le, if◌then◌else◌}
 use Rattle.std.specs.List.{list_all}
 use Rattle.std.proofs.lemmas.Bool.{and_parts}
 use Rattle.behavior.specs.Ending.{is_left}
 use Rattle.ir_core.specs.declared.TheConstants.{MAX_CALLS}
-use Rattle.ir_core.specs.declared.ty.Ty.{Ty}
 use Rattle.ir_core.specs.declared.instruction.Arg.{Arg}
 use Rattle.ir_core.specs.declared.instruction.Op.{Op}
 use Rattle.ir_core.specs.declared.instruction.Op.TheVariants.{Alloca, Store, Call}

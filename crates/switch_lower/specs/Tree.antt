@@ -79,7 +79,7 @@ tree s zero at ws = row s at ws
 tree s (suc d) at ws =
     if nat_le (length ws) (ways_within d) then tree s d at ws
     else (compare_chunk s at Ult (least (drop (ways_within d) ws)) (chunk_name s.padding (at + 1)) (chunk_name s.padding (at + size_within d))
-        ∷ tree s d (at + 1) (take (ways_within d) ws) ++ tree s d (at + size_within d) (drop (ways_within d) ws))
+    ∷ tree s d (at + 1) (take (ways_within d) ws) ++ tree s d (at + size_within d) (drop (ways_within d) ws))
 
 -- as deep as it needs to be
 abbrev pub tree_of : Choice → ℕ → List Way → List Chunk

@@ -67,11 +67,7 @@ fn add_chunk(
 }
 
 /// What stands in the place of chunks.
-fn lower_chunks(
-    alloc: Global,
-    padding: usize,
-    chunks: &[Chunk],
-) -> Result<List<Chunk>, NoMemory>
+fn lower_chunks(alloc: Global, padding: usize, chunks: &[Chunk]) -> Result<List<Chunk>, NoMemory>
     ensures { IfOk result (λ cs. cs ≡ chunks_from padding 0 chunks.now) }
 {
     let mut all = List::new(alloc);

@@ -72,7 +72,10 @@ fn zeros_of_chunk(c: &Chunk) -> usize
     ensures value { result ≡ greatest (map zeros_before (block_names (block_of c.now))) }
     ensures within { result < 2 ^ 63 }
 {
-    greater(zeros_of(c.label.as_slice()), zeros_of_moves(c.moves.as_slice()))
+    greater(
+        zeros_of(c.label.as_slice()),
+        zeros_of_moves(c.moves.as_slice()),
+    )
 }
 
 /// The most zero bytes with which a name of chunks begins. Takes no memory.

@@ -2,9 +2,11 @@
 //!
 //!     switch i8 %v, label %d [ i8 -1, label %a   i8 1, label %b ]
 //!
-//! becomes a test of `%v` against 1 that goes to `%b` or on to a test against 255, which goes to `%a` or
-//! to `%d`. Where there are more than four cases, unsigned comparisons lead to rows of at most four tests
-//! each. Time and size go by n log n in the cases. `specs/Bodies` has what stands where.
+//! becomes a test of `%v` against 1 that goes to `%b` or on to a test against 255, which goes to
+//! `%a` or to `%d`. Where there are more than four cases, unsigned comparisons lead to rows of at
+//! most four tests each. Time goes by n log n in the cases and is linear in all else, each by the
+//! length of its names; size is linear. `specs/Bodies` has what stands where, `specs/Bound` how long
+//! a run becomes. What both programs mean stands in `low_core`.
 #![tactic(auto)]
 
 ghost use Rattle.std.specs.Prelude.{◌≡◌, ◌≤◌, IfOk};

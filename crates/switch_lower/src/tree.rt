@@ -36,7 +36,11 @@ impl<'a> Model for Switch<'a> {
     ghost coded = { Prim.hlevel (codes, types.the_row.coded) };
 
     ghost view = { λ s. record {
-        ty = s.ty.now; value = s.value.now; default = s.default.now; padding = s.padding } };
+      ty = s.ty.now;
+      value = s.value.now;
+      default = s.default.now;
+      padding = s.padding;
+    } };
 }
 
 /// How many chunks a full tree of a depth has, with the comparison in front of it. Takes no memory.

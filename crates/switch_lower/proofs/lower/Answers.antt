@@ -16,7 +16,7 @@ pub returns-clause-weighs : goal.returns-clause-weighs
 returns-clause-weighs c = lean_weighs _ _ _ c.requires c.in_ok-bodies.ensures
 
 pub returns-clause-returns : goal.returns-clause-returns
-returns-clause-returns c = lean_returns _ _ _ c.in_ok-bodies.ensures
+returns-clause-returns c = lean_returns c.args.low.now.base.now c.args.low.now.bodies _ c.in_ok-bodies.ensures
 
 pub returns-clause-calls : goal.returns-clause-calls
-returns-clause-calls c = lean_calls _ _ _ c.in_ok-bodies.ensures
+returns-clause-calls c = lean_calls c.args.low.now.base.now c.args.low.now.bodies _ c.in_ok-bodies.ensures

@@ -1,6 +1,5 @@
 -- the ways of the cases behind
 use Rattle.std.proofs.Common.{◌≡◌, drop}
-use Rattle.ir_core.specs.Kinds.{kind_of}
 use Rattle.switch_lower.specs.Ways.{ways}
 use Rattle.switch_lower.proofs.ways.by_number.Given as goal
 
