@@ -1,6 +1,5 @@
 -- The laws of comparisons and of pointers that move.
-use Rattle.std.proofs.Common.{◌≡◌, ◌≢◌, ℕ, zero, suc, ◌+◌, ◌<◌, ◌≤◌, ◌%◌, ◌^◌, ◌⊎◌, inl, inr, List, [], ◌∷◌, length, Option, Some, None, Ok, Err, slice_get, Bool, true, false, nat_le, nat_lt, nat_eq, ◌&&◌, not, if◌then◌else◌, refl, ap, sym, ◌∙◌, subst, arith}
-use Rattle.std.specs.Prelude.{get_or}
+use Rattle.std.proofs.Common.{◌≡◌, ◌≢◌, ℕ, zero, suc, ◌+◌, ◌<◌, ◌%◌, ◌^◌, inl, inr, List, [], ◌∷◌, length, Option, Some, None, Ok, slice_get, Bool, true, false, nat_le, nat_lt, nat_eq, ◌&&◌, not, if◌then◌else◌, refl, ap, sym, ◌∙◌, subst, arith}
 use Rattle.std.proofs.lemmas.Bool.{leb-true, eqb-true, eqb-false, ne_eqb, eq-eqb, and_parts, cases_eq, cases_lt, ltb-true, lt-ltb, le-ltb, le-leb, lt-leb}
 use Rattle.std.proofs.lemmas.Option.{get_or_from_slice_get}
 use Rattle.rd_num.specs.declared.width.Width.TheVariants.{W64}
@@ -10,15 +9,15 @@ use Rattle.ir_core.specs.declared.memory.Value.{Value}
 use Rattle.ir_core.specs.declared.memory.Value.TheVariants.{Num, Null, At, Fun}
 use Rattle.ir_core.specs.declared.memory.Object0.{Object0}
 use Rattle.ir_core.specs.declared.memory.Reason.TheVariants.{Order, Equal, Gep}
-use Rattle.ir_core.specs.Stops.{Stop, Answer, and_then, Left}
+use Rattle.ir_core.specs.Stops.{Answer, Left}
 use Rattle.ir_core.specs.Arithmetic.{compared}
 use Rattle.ir_core.specs.Memory.{Memory}
 use Rattle.ir_core.specs.Pointers.{holds_place, is_inside, apart_if, pointers_equal, reaches, pointers_ordered, pointers_compared, unmoved_pointer, moved_pointer}
 use Rattle.low_core.specs.Flat.{Bytes}
 use Rattle.low_core.specs.Contents.{Addresses, word_of}
-use Rattle.low_core.specs.Bridge.{Setting, CallMemory, Lives, address_of, IsAddress, IsKnown, Bridges}
+use Rattle.low_core.specs.Bridge.{Setting, CallMemory, Lives, address_of, Bridges}
 use Rattle.flat_memory.specs.Accesses.{SettingFits, IsPointer, Moves}
-use Rattle.flat_memory.proofs.Tests.{then_ok, FirstOk, first_ok}
+use Rattle.flat_memory.proofs.Tests.{then_ok, first_ok}
 use Rattle.flat_memory.proofs.Load.{inside_word}
 
 -- two tests of sameness that agree

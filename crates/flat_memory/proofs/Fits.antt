@@ -1,8 +1,7 @@
 -- Bytes and cells, one for the other.
-use Rattle.std.proofs.Common.{◌≡◌, ◌≢◌, ℕ, zero, suc, ◌+◌, ◌<◌, ◌≤◌, ◌%◌, ◌/◌, ◌^◌, ◌*◌, List, [], ◌∷◌, length, map, replicate, take, drop, Option, Some, None, slice_get, refl, ap, sym, ◌∙◌, subst, arith, Bool, true, false}
+use Rattle.std.proofs.Common.{◌≡◌, ℕ, zero, suc, ◌+◌, ◌<◌, ◌/◌, ◌^◌, List, [], ◌∷◌, length, map, replicate, Option, Some, None, slice_get, refl, ap, sym, ◌∙◌, subst, arith, Bool, false}
 use Rattle.std.specs.Prelude.{option_map}
 use Rattle.rd_num.specs.Number.{le_bytes, le_number}
-use Rattle.rd_num.specs.declared.width.Width.{Width}
 use Rattle.ir_core.specs.declared.memory.Value.{Value}
 use Rattle.ir_core.specs.declared.memory.Value.TheVariants.{Num, Null, At, Fun}
 use Rattle.ir_core.specs.declared.memory.Cell.{Cell}
@@ -10,10 +9,8 @@ use Rattle.ir_core.specs.declared.memory.Cell.TheVariants.{Unset, Byte, Piece}
 use Rattle.ir_core.specs.Shapes.{bytes_of}
 use Rattle.ir_core.specs.Memory.{pointer_cells, cells_of, numbers, any_unset}
 use Rattle.low_core.specs.Flat.{Bytes, bytes_from, all_set}
-use Rattle.low_core.specs.Contents.{Addresses, word_of, byte_of, cell_byte}
+use Rattle.low_core.specs.Contents.{Addresses, word_of, cell_byte}
 use Rattle.low_core.specs.Bridge.{IsAddress, IsKnown, FitsCell}
-use Rattle.flat_memory.proofs.Lists.{get_range, length_range}
-use Rattle.flat_memory.proofs.Points.{get_from, length_from}
 
 module _ (objects : ℕ) (taken : List Bool) (at : Addresses) where
   -- a byte for each cell

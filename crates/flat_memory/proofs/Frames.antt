@@ -1,7 +1,7 @@
 -- Memory of calls that come and go: allocas, the own memory of a new frame, and the objects of a call that returns.
-use Rattle.std.proofs.Common.{◌≡◌, ◌≢◌, ℕ, zero, suc, ◌+◌, ◌<◌, ◌≤◌, ◌%◌, ◌^◌, ◌⊎◌, inl, inr, List, [], ◌∷◌, ◌++◌, length, replicate, Option, Some, None, slice_get, slice_set, Bool, true, false, nat_le, nat_lt, ◌&&◌, if◌then◌else◌, refl, ap, sym, ◌∙◌, subst, arith}
+use Rattle.std.proofs.Common.{◌≡◌, ◌≢◌, ℕ, zero, suc, ◌+◌, ◌<◌, ◌≤◌, ◌%◌, ◌^◌, inl, inr, List, [], ◌∷◌, ◌++◌, length, replicate, Option, Some, None, slice_get, slice_set, Bool, true, false, nat_le, nat_lt, if◌then◌else◌, refl, ap, sym, ◌∙◌, subst, arith}
 use Rattle.std.specs.Prelude.{All, get_or}
-use Rattle.std.proofs.lemmas.Bool.{leb-true, and_left, and_right, lt-leb, le-ltb, cases_lt, cases_eq}
+use Rattle.std.proofs.lemmas.Bool.{and_left, and_right, lt-leb, le-ltb, cases_eq}
 use Rattle.std.proofs.lemmas.List.{get_or_append_left}
 use Rattle.std.proofs.Math.Seq.{get_or-append_seam}
 use Rattle.std.proofs.lemmas.Option.{slice_get_within}
@@ -15,11 +15,10 @@ use Rattle.low_core.specs.Flat.{Span, Bytes, covers, forgotten}
 use Rattle.low_core.specs.SelParts.{IsOneOf}
 use Rattle.low_core.specs.Plan.{Content, Lies}
 use Rattle.low_core.specs.Contents.{Addresses, word_of, byte_of}
-use Rattle.low_core.specs.Bridge.{Setting, CallMemory, Lives, address_of, IsAddress, FitsCell, IsAllocaOf, IsInCall, IsGlobal, Bridges}
-use Rattle.flat_memory.specs.Accesses.{SettingFits, AreFree, with_address}
+use Rattle.low_core.specs.Bridge.{Setting, CallMemory, Lives, address_of, IsAddress, FitsCell, IsInCall, IsGlobal, Bridges}
+use Rattle.flat_memory.specs.Accesses.{AreFree, with_address}
 use Rattle.flat_memory.proofs.Lists.{get_set_same, get_set_other, length_set, get_pushed, get_front, length_pushed}
-use Rattle.flat_memory.proofs.Put.{Where, Before, Behind, Inside, where_is}
-use Rattle.flat_memory.proofs.Spans.{found_or_past}
+use Rattle.flat_memory.proofs.Put.{Before, Behind, Inside, where_is}
 
 -- words of before mean the same with one more object
 pub address_kept : (n : ℕ) (taken : List Bool) (at : Addresses) (p : ℕ) (v : Value) → length at.objects ≡ n → IsAddress n taken v → (word_of (with_address at p) v ≡ word_of at v) × IsAddress (suc n) taken v

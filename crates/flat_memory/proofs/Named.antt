@@ -1,5 +1,5 @@
 -- What a tie says of names and of where objects lie, and what an alloca leaves.
-use Rattle.std.proofs.Common.{◌≡◌, ◌≢◌, ℕ, zero, suc, ◌+◌, ◌-◌, ◌<◌, ◌≤◌, ◌%◌, ◌^◌, ◌⊎◌, inl, inr, List, [], ◌∷◌, ◌++◌, length, Option, Some, slice_get, Bool, true, false, nat_le, ◌&&◌, ◌||◌, refl, ap, sym, ◌∙◌, subst, arith}
+use Rattle.std.proofs.Common.{◌≡◌, ◌≢◌, ℕ, suc, ◌+◌, ◌-◌, ◌<◌, ◌≤◌, inl, inr, List, [], ◌∷◌, ◌++◌, length, slice_get, Bool, true, nat_le, refl, ap, sym, ◌∙◌, subst, arith}
 use Rattle.std.specs.Prelude.{get_or}
 use Rattle.std.proofs.lemmas.Bool.{leb-true, and_parts, or_cases}
 use Rattle.std.proofs.lemmas.Option.{slice_get_within, get_or_from_slice_get}
@@ -9,11 +9,10 @@ use Rattle.ir_core.specs.declared.memory.Value.TheVariants.{Num, Null, At, Fun}
 use Rattle.ir_core.specs.declared.memory.Object0.{Object0}
 use Rattle.ir_core.specs.Memory.{Memory, with_alloca}
 use Rattle.low_core.specs.Flat.{Span, Bytes, covers, is_inside}
-use Rattle.low_core.specs.Plan.{Content, Lies}
 use Rattle.low_core.specs.Contents.{Addresses, word_of}
 use Rattle.low_core.specs.Bridge.{Setting, CallMemory, flat_in, Lives, address_of, IsKnown, Bridges}
 use Rattle.flat_memory.specs.Accesses.{SettingFits, AreFree, with_address, Allocates, Names, IsOff}
-use Rattle.flat_memory.proofs.Lists.{length_pushed, get_pushed}
+use Rattle.flat_memory.proofs.Lists.{length_pushed}
 use Rattle.flat_memory.proofs.Spans.{object_inside, object_writable}
 use Rattle.flat_memory.proofs.Frames.{address_kept, Stands, New, Old, stands}
 

@@ -1,7 +1,7 @@
 -- Single bytes of flat memory, after others were put or taken away.
-use Rattle.std.proofs.Common.{◌≡◌, ◌≢◌, ℕ, zero, suc, ◌+◌, ◌<◌, ◌≤◌, ◌⊎◌, inl, inr, List, [], ◌∷◌, length, Option, Some, None, slice_get, nat_eq, nat_le, nat_lt, Bool, true, false, refl, ap, sym, ◌∙◌, subst, arith, ◌&&◌, if◌then◌else◌}
+use Rattle.std.proofs.Common.{◌≡◌, ◌≢◌, ℕ, zero, suc, ◌+◌, ◌<◌, ◌≤◌, ◌⊎◌, inl, inr, List, [], ◌∷◌, length, Option, Some, slice_get, nat_eq, refl, ap, sym, ◌∙◌, subst, arith, if◌then◌else◌}
 use Rattle.std.proofs.lemmas.Bool.{ne_eqb, eq-eqb}
-use Rattle.low_core.specs.Flat.{Bytes, with_byte, with_bytes, bytes_from, forgotten}
+use Rattle.low_core.specs.Flat.{Bytes, with_byte, with_bytes, bytes_from}
 
 if_same : {A : Type 0} (a b : ℕ) (x y : A) → a ≡ b → (if nat_eq a b then x else y) ≡ x
 if_same a b x y e = ap (λ t. if t then x else y) (eq-eqb a b e)

@@ -1,26 +1,19 @@
 -- Other cells in a range of a live object, and other bytes in its place.
-use Rattle.std.proofs.Common.{◌≡◌, ◌≢◌, ℕ, zero, suc, ◌+◌, ◌-◌, ◌<◌, ◌≤◌, ◌%◌, ◌^◌, ◌⊎◌, inl, inr, List, [], ◌∷◌, ◌++◌, length, map, replicate, take, drop, Option, Some, None, Ok, Err, slice_get, slice_set, Bool, true, false, nat_le, nat_lt, nat_eq, ◌&&◌, ◌||◌, not, if◌then◌else◌, refl, ap, sym, ◌∙◌, subst, arith}
-use Rattle.std.proofs.lemmas.Bool.{leb-true, le-leb, eqb-true, eqb-false, and_parts, and_from, and_left, and_right, and_cases, cases_eq, cases_lt, cases_Bool, not_from_true, false_from_ne_true, ltb-true}
+use Rattle.std.proofs.Common.{◌≡◌, ◌≢◌, ℕ, ◌+◌, ◌-◌, ◌<◌, ◌≤◌, ◌⊎◌, inl, inr, List, ◌++◌, length, take, drop, Option, Some, slice_get, slice_set, refl, ap, sym, ◌∙◌, subst, arith}
+use Rattle.std.proofs.lemmas.Bool.{cases_eq, cases_lt}
 use Rattle.std.proofs.lemmas.Option.{slice_get_within}
-use Rattle.rd_num.specs.Number.{le_bytes}
-use Rattle.ir_core.specs.declared.memory.Value.{Value}
-use Rattle.ir_core.specs.declared.memory.Value.TheVariants.{Num, Null, At, Fun}
 use Rattle.ir_core.specs.declared.memory.Cell.{Cell}
-use Rattle.ir_core.specs.declared.memory.Cell.TheVariants.{Unset, Byte, Piece}
 use Rattle.ir_core.specs.declared.memory.Object0.{Object0}
-use Rattle.ir_core.specs.declared.memory.Reason.TheVariants.{Bounds, Constant, Overlap}
-use Rattle.ir_core.specs.Stops.{Stop, Answer, and_then, Left}
-use Rattle.ir_core.specs.Memory.{Memory, Range, readable_range, writable_range, unless_constant, cells_at, cells_of, written, store_at}
-use Rattle.low_core.specs.Flat.{Span, Bytes, Flat, is_writable, is_inside, bytes_from, with_bytes, with_word_at}
+use Rattle.ir_core.specs.Memory.{Memory, Range, written}
+use Rattle.low_core.specs.Flat.{Bytes, with_bytes}
 use Rattle.low_core.specs.Plan.{Content, Lies}
-use Rattle.low_core.specs.Contents.{Addresses, word_of}
-use Rattle.low_core.specs.Bridge.{Setting, CallMemory, flat_in, Lives, address_of, IsKnown, FitsCell, IsInCall, IsGlobal, Bridges}
+use Rattle.low_core.specs.Contents.{Addresses}
+use Rattle.low_core.specs.Bridge.{Setting, CallMemory, Lives, address_of, FitsCell, IsInCall, IsGlobal, Bridges}
 use Rattle.flat_memory.specs.Accesses.{SameObjects}
-use Rattle.flat_memory.proofs.Lists.{get_set_same, get_set_other, length_set, Splits, Beside, Within, splits, length_spliced, length_range}
+use Rattle.flat_memory.proofs.Lists.{get_set_same, get_set_other, length_set, Beside, Within, splits, length_spliced}
 use Rattle.flat_memory.proofs.Points.{put_outside, put_inside}
-use Rattle.flat_memory.proofs.Fits.{AllFit, fit_length, fit_at, fit_value}
-use Rattle.flat_memory.proofs.Tests.{then_ok, else_ok, FirstOk, first_ok, InObject, in_object}
-use Rattle.flat_memory.proofs.Spans.{writable_part, object_writable, same_object}
+use Rattle.flat_memory.proofs.Fits.{AllFit, fit_length, fit_at}
+use Rattle.flat_memory.proofs.Spans.{same_object}
 
 -- before a range, behind it, or at a number of bytes in it
 pub data Where (start count p : ℕ) : Type 0 where

@@ -1,6 +1,6 @@
 -- The law of the start of a run.
-use Rattle.std.proofs.Common.{◌≡◌, ◌≢◌, ℕ, zero, suc, ◌+◌, ◌-◌, ◌<◌, ◌≤◌, ◌^◌, ◌⊎◌, inl, inr, List, [], ◌∷◌, length, map, Option, Some, None, slice_get, Bool, true, false, nat_le, nat_lt, ◌&&◌, if◌then◌else◌, refl, ap, sym, ◌∙◌, subst, arith}
-use Rattle.std.specs.Prelude.{get_or, option_map}
+use Rattle.std.proofs.Common.{◌≡◌, ◌≢◌, ℕ, zero, suc, ◌+◌, ◌-◌, ◌<◌, List, [], ◌∷◌, length, map, Some, slice_get, true, nat_le, nat_lt, ◌&&◌, if◌then◌else◌, refl, ap, sym, ◌∙◌, subst, arith}
+use Rattle.std.specs.Prelude.{option_map}
 use Rattle.std.proofs.lemmas.Bool.{and_left, and_right, and_from, lt-leb, le-ltb, le-leb, lt-ltb}
 use Rattle.std.proofs.lemmas.Option.{slice_get_within, slice_get-map, get_or_from_slice_get}
 use Rattle.ir_core.specs.declared.memory.Cell.{Cell}
@@ -8,12 +8,11 @@ use Rattle.ir_core.specs.declared.memory.Cell.TheVariants.{Unset, Byte, Piece}
 use Rattle.ir_core.specs.declared.memory.Object0.{Object0}
 use Rattle.ir_core.specs.Memory.{Memory}
 use Rattle.low_core.specs.declared.sel.Sel.{Sel}
-use Rattle.low_core.specs.Flat.{Bytes}
-use Rattle.low_core.specs.Plan.{Plan, Content, Lies, IsTaken, PlanFits, first_bytes}
+use Rattle.low_core.specs.Plan.{Plan, Content, Lies, PlanFits, first_bytes}
 use Rattle.low_core.specs.Contents.{Addresses, cell_byte, content_of}
-use Rattle.low_core.specs.Bridge.{Setting, Lives, address_of, FitsCell, IsGlobal, Bridges}
+use Rattle.low_core.specs.Bridge.{Setting, address_of, FitsCell, Bridges}
 use Rattle.flat_memory.specs.Accesses.{SettingFits, AreFirst, IsSet}
-use Rattle.flat_memory.proofs.Put.{Where, Before, Behind, Inside, where_is}
+use Rattle.flat_memory.proofs.Put.{Before, Behind, Inside, where_is}
 
 length_map : {A B : Type 0} (f : A → B) (xs : List A) → length (map f xs) ≡ length xs
 length_map f [] = refl

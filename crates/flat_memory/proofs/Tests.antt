@@ -1,26 +1,12 @@
 -- Answers that passed tests, and the range that a load or a store goes to.
-use Rattle.std.proofs.Common.{◌≡◌, ◌≢◌, ℕ, zero, suc, ◌+◌, ◌<◌, ◌≤◌, ◌%◌, ◌^◌, ◌⊎◌, inl, inr, List, [], ◌∷◌, ◌++◌, length, map, take, drop, Option, Some, None, Ok, Err, slice_get, Bool, true, false, nat_le, nat_eq, ◌&&◌, ◌||◌, not, if◌then◌else◌, refl, ap, sym, ◌∙◌, subst, arith}
-use Rattle.std.proofs.lemmas.Bool.{leb-true, le-leb, eqb-true, and_parts, and_from, or_cases, or_left, or_right}
-use Rattle.rd_num.specs.declared.width.Width.{Width}
-use Rattle.rd_num.specs.Number.{bits, le_bytes, le_number}
-use Rattle.ir_core.specs.declared.kind.Kind.{Kind}
-use Rattle.ir_core.specs.declared.kind.Kind.TheVariants.{NoValue, Number, Pointer}
+use Rattle.std.proofs.Common.{◌≡◌, ℕ, ◌+◌, ◌≤◌, Option, Some, None, Ok, Err, slice_get, Bool, true, false, nat_le, if◌then◌else◌, refl, subst}
+use Rattle.std.proofs.lemmas.Bool.{leb-true}
 use Rattle.ir_core.specs.declared.memory.Value.{Value}
 use Rattle.ir_core.specs.declared.memory.Value.TheVariants.{Num, Null, At, Fun}
-use Rattle.ir_core.specs.declared.memory.Cell.{Cell}
-use Rattle.ir_core.specs.declared.memory.Cell.TheVariants.{Unset, Byte, Piece}
 use Rattle.ir_core.specs.declared.memory.Object0.{Object0}
-use Rattle.ir_core.specs.declared.memory.Reason.TheVariants.{Unset as WasUnset, Bounds, Dead, Mixed}
-use Rattle.ir_core.specs.Stops.{Stop, Answer, and_then, found_or, Left}
-use Rattle.ir_core.specs.Arithmetic.{modulus}
-use Rattle.ir_core.specs.Memory.{Memory, Range, range_of, readable_range, cells_at, load_at, value_read, number_read, pointer_read, numbers, any_unset, kind_size, same_cells, same_value, pointer_cells, cells_of}
-use Rattle.low_core.specs.Flat.{Span, Bytes, Flat, covers, is_inside, is_writable, bytes_from, all_set, word_at}
-use Rattle.low_core.specs.Plan.{Content, Lies, global_spans}
-use Rattle.low_core.specs.Contents.{Addresses, word_of, cell_byte}
-use Rattle.low_core.specs.Bridge.{Setting, CallMemory, flat_in, Lives, address_of, IsKnown, FitsCell, IsAllocaOf, IsInCall, IsGlobal, Bridges}
-use Rattle.flat_memory.specs.Accesses.{SettingFits, of_kind, Loads}
-use Rattle.flat_memory.proofs.Lists.{get_range, length_range}
-use Rattle.flat_memory.proofs.Fits.{AllFit, fit_from, set_numbers, set_cells, spelled_back}
+use Rattle.ir_core.specs.Stops.{Stop, Answer, and_then}
+use Rattle.ir_core.specs.Memory.{Memory, Range, range_of, readable_range}
+use Rattle.low_core.specs.Bridge.{Lives}
 
 -- a test that was passed, and what came behind it
 pub then_ok : {A : Type 0} (b : Bool) (r : Answer A) (e : Stop) (u : A) → (if b then r else Err e) ≡ Ok u → (b ≡ true) × (r ≡ Ok u)

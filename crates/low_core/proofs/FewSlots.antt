@@ -1,15 +1,14 @@
 -- A program that weighs no more than code may has fewer than 2^20 slots, since a function and each call weigh 64 at least.
-use Rattle.std.proofs.Common.{◌≡◌, ℕ, ◌+◌, ◌*◌, ◌<◌, ◌≤◌, List, [], ◌∷◌, length, arith}
+use Rattle.std.proofs.Common.{ℕ, ◌+◌, ◌*◌, ◌<◌, ◌≤◌, List, [], ◌∷◌, length, arith}
 use Rattle.std.specs.List.{sum_by}
 use Rattle.std.proofs.lemmas.List.Sums.{sum_by-cons}
-use Rattle.low_core.specs.declared.sel.SelAlu.TheVariants.{Add, Sub, Mul, And, Or, Xor, Shl, Shr, Sar}
 use Rattle.low_core.specs.declared.sel.Which.TheVariants as outer
 use Rattle.low_core.specs.declared.sel.SelOp.{SelOp}
 use Rattle.low_core.specs.declared.sel.SelOp.TheVariants.{Call, CallAt, Outside}
 use Rattle.low_core.specs.declared.sel.SelBlock.{SelBlock}
 use Rattle.low_core.specs.declared.sel.SelFun.{SelFun}
 use Rattle.low_core.specs.declared.sel.Sel.{Sel}
-use Rattle.low_core.specs.SelWeights.{sel_op_weight, sel_end_weight, sel_block_weight, sel_function_weight, calls_at, calls_of, most_slots_of}
+use Rattle.low_core.specs.SelWeights.{sel_op_weight, sel_block_weight, sel_function_weight, calls_at, most_slots_of}
 use Rattle.low_core.specs.SelShaped.{IsSel}
 
 op_weighs : (op : SelOp) → 64 * calls_at op ≤ sel_op_weight op

@@ -7,7 +7,6 @@ use Rattle.ir_core.specs.declared.instruction.Op.TheVariants.{Bin, Compare, Cast
 use Rattle.ir_core.specs.declared.module.Block.{Block}
 use Rattle.ir_core.specs.declared.module.Function.{Function}
 use Rattle.ir_core.specs.declared.module.Module.{Module}
-use Rattle.low_core.specs.declared.moves.Body.{Body}
 use Rattle.low_core.specs.Plain.{op_of, move_op_of, inst_of, move_of, block_of, chunk_of, with_bodies, plain, bodies_of}
 
 own_op : (op : Op) → op_of (move_op_of op) ≡ op

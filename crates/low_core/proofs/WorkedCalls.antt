@@ -1,16 +1,15 @@
 -- Runs of small programs of registers with several blocks and calls, computed, and where a loop needs a register.
-use Rattle.std.proofs.Common.{◌≡◌, ℕ, suc, ◌<◌, ◌≤◌, List, [], ◌∷◌, ◌⊎◌, inl, inr, Bool, true, false, refl, sym, subst, Option, Some, None, Err, arith}
-use Rattle.rd_num.specs.declared.width.Width.TheVariants.{W1, W8, W16, W32, W64}
-use Rattle.behavior.specs.Ending.{Ending, Going, Ended, Divide, Trap, Left}
+use Rattle.std.proofs.Common.{◌≡◌, ℕ, List, [], ◌∷◌, inl, inr, true, false, refl, sym, subst, Some, None, Err, arith}
+use Rattle.rd_num.specs.declared.width.Width.TheVariants.{W8, W16, W32, W64}
+use Rattle.behavior.specs.Ending.{Ending, Going, Ended, Trap, Left}
 use Rattle.behavior.specs.Moment.{Moment}
-use Rattle.ir_core.specs.declared.instruction.Pred.TheVariants.{Slt, Ult}
-use Rattle.ir_core.specs.declared.memory.Reason.TheVariants.{Bounds, Unset, Overlap}
+use Rattle.ir_core.specs.declared.memory.Reason.TheVariants.{Bounds, Unset}
 use Rattle.ir_core.specs.Stops.{reason_number}
 use Rattle.low_core.specs.declared.sel.SelAlu.TheVariants.{Add, Sar, Shl, Sub}
 use Rattle.low_core.specs.declared.sel.Which.TheVariants.{Putchar, Getchar, Exit, Memcpy, Memset}
 use Rattle.low_core.specs.declared.sel.Which.TheVariants as outer
 use Rattle.low_core.specs.declared.sel.SelOp.{SelOp}
-use Rattle.low_core.specs.declared.sel.SelOp.TheVariants.{Set, Copy, Alu, Div, Widen, Test, Pick, Load, Store, FrameAt, GlobalAt, FunctionAt, Call, CallAt, Outside}
+use Rattle.low_core.specs.declared.sel.SelOp.TheVariants.{Set, Copy, Alu, Div, Load, Store, FrameAt, GlobalAt, Call, CallAt, Outside}
 use Rattle.low_core.specs.declared.sel.SelEnd.{SelEnd}
 use Rattle.low_core.specs.declared.sel.SelEnd.TheVariants.{Go, If, Ret}
 use Rattle.low_core.specs.declared.sel.SelEnd.TheVariants as end
@@ -25,7 +24,7 @@ use Rattle.low_core.specs.SelState.{SelState, SelFrame, first_sel_frame}
 use Rattle.low_core.specs.SelStep.{sel_step, begins}
 use Rattle.low_core.specs.SelRun.{sel_start, sel_run}
 use Rattle.low_core.specs.SelWeights.{calls_of}
-use Rattle.low_core.specs.Liveness.{Needed, Here, Later, Reads, Follows, Point, Entry, Does, Ends, Touches, InRange}
+use Rattle.low_core.specs.Liveness.{Needed, Here, Later, Reads, Follows, Does, Ends}
 
 -- a block, a function of eight registers with sixteen bytes of its own, and a program that begins in the first of its functions
 abbrev block : List SelOp → SelEnd → SelBlock

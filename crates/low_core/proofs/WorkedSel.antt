@@ -1,23 +1,21 @@
 -- Runs of small programs of registers, computed.
-use Rattle.std.proofs.Common.{◌≡◌, ℕ, List, [], ◌∷◌, Bool, true, false, refl, Option, Some, None}
+use Rattle.std.proofs.Common.{◌≡◌, ℕ, List, [], ◌∷◌, true, false, refl, Some, None}
 use Rattle.rd_num.specs.declared.width.Width.TheVariants.{W1, W8, W16, W32, W64}
-use Rattle.behavior.specs.Ending.{Ending, Going, Ended, Divide, Trap, Left}
+use Rattle.behavior.specs.Ending.{Ending, Ended, Divide, Left}
 use Rattle.behavior.specs.Moment.{Moment}
 use Rattle.ir_core.specs.declared.instruction.Pred.TheVariants.{Slt, Ult}
 use Rattle.ir_core.specs.declared.memory.Reason.TheVariants.{Bounds, Unset, Overlap}
 use Rattle.ir_core.specs.Stops.{reason_number}
 use Rattle.low_core.specs.declared.sel.SelAlu.TheVariants.{Add, Sar}
-use Rattle.low_core.specs.declared.sel.Which.TheVariants.{Putchar, Getchar, Exit, Memcpy, Memset}
+use Rattle.low_core.specs.declared.sel.Which.TheVariants.{Putchar, Getchar, Memcpy, Memset}
 use Rattle.low_core.specs.declared.sel.SelOp.{SelOp}
 use Rattle.low_core.specs.declared.sel.SelOp.TheVariants.{Set, Copy, Alu, Div, Widen, Test, Pick, Load, Store, FrameAt, GlobalAt, FunctionAt, Call, CallAt, Outside}
 use Rattle.low_core.specs.declared.sel.SelEnd.{SelEnd}
-use Rattle.low_core.specs.declared.sel.SelEnd.TheVariants.{Go, If, Ret}
-use Rattle.low_core.specs.declared.sel.SelEnd.TheVariants as end
+use Rattle.low_core.specs.declared.sel.SelEnd.TheVariants.{Ret}
 use Rattle.low_core.specs.declared.sel.SelBlock.{SelBlock}
 use Rattle.low_core.specs.declared.sel.SelFun.{SelFun}
 use Rattle.low_core.specs.declared.sel.Sel.{Sel}
-use Rattle.low_core.specs.Plan.{Plan, Content, FramePlan}
-use Rattle.low_core.specs.SelState.{SelState}
+use Rattle.low_core.specs.Plan.{Plan, Content}
 use Rattle.low_core.specs.SelStep.{sel_step}
 use Rattle.low_core.specs.SelRun.{sel_start, sel_run}
 

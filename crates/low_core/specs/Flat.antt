@@ -1,5 +1,5 @@
 -- Flat memory: the parts of it that may be used, and a byte at each address, or none where no byte was put yet.
-use Rattle.std.specs.Prelude.{ℕ, zero, suc, ◌+◌, List, [], ◌∷◌, Bool, true, false, not, ◌&&◌, ◌||◌, nat_eq, nat_le, nat_lt, map, replicate, option_map, Option, Some, None, Ok, Err, if◌then◌else◌}
+use Rattle.std.specs.Prelude.{ℕ, zero, suc, ◌+◌, List, [], ◌∷◌, Bool, false, not, ◌&&◌, ◌||◌, nat_eq, nat_le, nat_lt, map, replicate, option_map, Option, Some, None, Ok, Err, if◌then◌else◌}
 use Rattle.rd_num.specs.Number.{le_bytes, le_number}
 use Rattle.ir_core.specs.declared.memory.Reason.TheVariants.{Bounds, Unset, Overlap}
 use Rattle.ir_core.specs.Stops.{Left, Answer, and_then, found_or}

@@ -1,6 +1,6 @@
 -- Where in a function a register's word is still needed. Positions are numbered in the order in which the function is
 -- written: 0 is its entry, where the parameters are assigned; then each operation and each end has one.
-use Rattle.std.specs.Prelude.{◌≡◌, ◌≢◌, ℕ, suc, ◌+◌, ◌≤◌, ◌⊎◌, List, [], ◌∷◌, ◌++◌, length, map, slice_get, take, Option, Some, None}
+use Rattle.std.specs.Prelude.{◌≡◌, ℕ, suc, ◌≤◌, ◌⊎◌, List, [], ◌∷◌, ◌++◌, length, map, slice_get, take, Some}
 use Rattle.std.specs.List.{flat_map, sum_by}
 use Rattle.low_core.specs.declared.sel.SelOp.{SelOp}
 use Rattle.low_core.specs.declared.sel.SelEnd.{SelEnd}

@@ -1,5 +1,5 @@
 -- Where a program of registers has its globals, its functions and its frames, and what its globals hold at first.
-use Rattle.std.specs.Prelude.{◌≡◌, ◌≢◌, ℕ, ◌+◌, ◌*◌, ◌-◌, ◌^◌, ◌<◌, ◌≤◌, ◌⊎◌, List, [], ◌∷◌, Bool, true, not, ◌&&◌, nat_le, nat_lt, length, slice_get, Option, Some, None, if◌then◌else◌, All}
+use Rattle.std.specs.Prelude.{◌≡◌, ◌≢◌, ℕ, ◌+◌, ◌*◌, ◌-◌, ◌^◌, ◌<◌, ◌≤◌, ◌⊎◌, List, [], ◌∷◌, Bool, true, not, ◌&&◌, nat_le, nat_lt, length, slice_get, Some, None, if◌then◌else◌, All}
 use Rattle.ir_core.specs.declared.TheConstants.{MAX_CALLS}
 use Rattle.x86_core.specs.Data.{stack_start, stack_end}
 use Rattle.low_core.specs.declared.sel.SelOp.{SelOp}

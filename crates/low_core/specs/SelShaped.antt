@@ -1,5 +1,5 @@
 -- What each pass may ask of a program of registers: numbers have what they name, widths and counts fit, limits are kept.
-use Rattle.std.specs.Prelude.{◌≡◌, ℕ, ◌+◌, ◌<◌, ◌≤◌, ◌⊎◌, List, [], ◌∷◌, length, All, Bool, true, false, slice_get, Option, Some, None}
+use Rattle.std.specs.Prelude.{◌≡◌, ℕ, ◌+◌, ◌<◌, ◌≤◌, ◌⊎◌, List, [], ◌∷◌, length, All, true, slice_get, Option, Some, None}
 use Rattle.rd_num.specs.declared.width.Width.{Width}
 use Rattle.rd_num.specs.declared.width.Width.TheVariants.{W1, W8, W16, W32, W64}
 use Rattle.rd_num.specs.Number.{bits}
@@ -10,13 +10,13 @@ use Rattle.low_core.specs.declared.sel.Which.{Which}
 use Rattle.low_core.specs.declared.sel.Which.TheVariants.{Putchar, Getchar, Exit, Memcpy, Memset}
 use Rattle.low_core.specs.declared.sel.Which.TheVariants as outer
 use Rattle.low_core.specs.declared.sel.SelOp.{SelOp}
-use Rattle.low_core.specs.declared.sel.SelOp.TheVariants.{Set, Copy, Alu, Div, Widen, Test, Pick, Load, Store, FrameAt, GlobalAt, FunctionAt, Call, CallAt, Outside}
+use Rattle.low_core.specs.declared.sel.SelOp.TheVariants.{Alu, Div, Widen, Load, Store, FrameAt, FunctionAt, Call, Outside}
 use Rattle.low_core.specs.declared.sel.SelEnd.{SelEnd}
 use Rattle.low_core.specs.declared.sel.SelEnd.TheVariants.{Ret}
 use Rattle.low_core.specs.declared.sel.SelBlock.{SelBlock}
 use Rattle.low_core.specs.declared.sel.SelFun.{SelFun}
 use Rattle.low_core.specs.declared.sel.Sel.{Sel}
-use Rattle.low_core.specs.SelParts.{reads_of, assigns_of, end_reads, leads_to, ops_of}
+use Rattle.low_core.specs.SelParts.{reads_of, assigns_of, end_reads, leads_to}
 use Rattle.low_core.specs.SelWeights.{sel_weight, sel_room, arguments_of}
 
 -- numbers of one bit have no arithmetic

@@ -23,12 +23,11 @@ use Rattle.low_core.specs.declared.sel.SelOp.TheVariants.{Set, Copy, Alu, Div, W
 use Rattle.low_core.specs.declared.sel.SelEnd.{SelEnd}
 use Rattle.low_core.specs.declared.sel.SelEnd.TheVariants.{Go, If, Ret, Trap}
 use Rattle.low_core.specs.declared.sel.SelBlock.{SelBlock}
-use Rattle.low_core.specs.declared.sel.SelFun.{SelFun}
 use Rattle.low_core.specs.declared.sel.Sel.{Sel}
 use Rattle.low_core.specs.Flat.{Flat, Bytes, word_at, with_word_at, copied, filled, forgotten}
-use Rattle.low_core.specs.Plan.{FramePlan, Plan, Content}
+use Rattle.low_core.specs.Plan.{Plan, Content}
 use Rattle.low_core.specs.SelParts.{assigns_of}
-use Rattle.low_core.specs.SelState.{SelFrame, SelState, SelTurn, sel_turned, flat_of, word_in, words_in, with_register, top_of, first_sel_frame}
+use Rattle.low_core.specs.SelState.{SelFrame, SelState, SelTurn, sel_turned, flat_of, word_in, words_in, with_register, first_sel_frame}
 
 -- the low bits of a word
 abbrev pub low_bits : Width → ℕ → ℕ

@@ -1,6 +1,6 @@
 -- What code and frames programs of registers may ask for, as `Weights` has it of programs without phis. A constant is at
 -- least the bytes of the code of its part, every register in the frame, where loading or storing one takes eight.
-use Rattle.std.specs.Prelude.{ℕ, ◌+◌, ◌*◌, ◌-◌, List, length, max, map}
+use Rattle.std.specs.Prelude.{ℕ, ◌+◌, ◌*◌, ◌-◌, length, map}
 use Rattle.std.specs.List.{sum_by}
 use Rattle.ir_core.specs.Counts.{greatest}
 use Rattle.low_core.specs.declared.sel.SelAlu.{SelAlu}
