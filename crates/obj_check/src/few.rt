@@ -8,7 +8,9 @@ ghost use Rattle.std.specs.Prelude.{◌≡◌, ◌+◌, ◌≤◌, ◌<◌, ◌^
 ghost use Rattle.obj_core.specs.declared.object.Func.{Func as Function};
 ghost use Rattle.obj_core.specs.WellFormed.{AreFew, most_code, most_data};
 
-use obj_core::object::{Func, MOST_CODE, MOST_DATA, MOST_FUNCTIONS, MOST_PIECES, MOST_SLOTS, Object};
+use obj_core::object::{
+    Func, MOST_CODE, MOST_DATA, MOST_FUNCTIONS, MOST_PIECES, MOST_SLOTS, Object,
+};
 
 /// Whether an object has functions and slots, and none of its sizes is past its bound.
 pub fn is_few(o: &Object) -> bool

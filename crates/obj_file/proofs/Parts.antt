@@ -12,7 +12,7 @@ use Rattle.obj_file.specs.Texts.{IsNumber, number_of, full, IsLinkText, CodeText
 use Rattle.obj_file.specs.Spellings.{function_in, code_bytes, object_in, IsFuncIn, IsObjectIn, body_bytes, counted_bytes, seeded_bytes, AreRows, Holds}
 use Rattle.obj_file.proofs.Rows.{row_times, links_row, cuts_row, spans_join}
 
--- the same piece, its end written otherwise
+-- the same part, its end written otherwise
 pub spans_to : (bytes : List ℕ) (at to end : ℕ) (s : List ℕ) → to ≡ end → Spans bytes at to s → Spans bytes at end s
 spans_to bytes at to end s e p = subst (λ k. Spans bytes at k s) e p
 
@@ -232,6 +232,7 @@ rows_are format f size count h p q = by_format format refl
       links_fit = let e = h.links_counted in omega (arith, e, q);
       cuts_fit = h.cuts_fit;
     }
+
     by_format : (other : Format) → format ≡ other → IsFuncIn other f
     by_format Format.One e = (ranges, h.uncut e)
     by_format Format.Two e = ranges

@@ -9,8 +9,8 @@
 
 pub mod fault;
 mod format;
+mod function;
 pub mod laws;
 mod part;
 pub mod read;
-mod rows;
 pub mod write;

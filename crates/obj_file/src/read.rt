@@ -13,8 +13,10 @@ ghost use Rattle.obj_file.specs.Faults.{NamesFault};
 
 use crate::fault::FormFault;
 use crate::format::Format;
-use crate::part::{Part, expect, read_below, read_bytes, read_field, read_format, read_used, read_word};
-use crate::rows::read_code;
+use crate::function::read_code;
+use crate::part::{
+    Part, expect, read_below, read_bytes, read_field, read_format, read_used, read_word,
+};
 use obj_core::object::{CodeAt, Func, FuncKind, Object, Slot};
 use rd_num::list::List;
 use std::alloc::Global;
@@ -93,12 +95,7 @@ fn read_seeded(
     })
 }
 
-fn read_counted(
-    alloc: Global,
-    bytes: &[u8],
-    at: usize,
-    format: Format,
-) -> Result<Body, FormFault>
+fn read_counted(alloc: Global, bytes: &[u8], at: usize, format: Format) -> Result<Body, FormFault>
     requires { at ≤ length bytes.now }
     ensures parts { IfOk result (λ b. AreCounted format b.functions b.slots b.ro b.rw) }
     ensures read { IfOk result (λ b. Spans bytes.now at b.end
