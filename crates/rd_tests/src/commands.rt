@@ -555,11 +555,7 @@ fn a_function_in_pieces_runs_in_each_layout(rt: HostRuntime) -> Result<(), Fail>
 fn wrong_cuts_have_these_lines(rt: HostRuntime) -> Result<(), Fail> {
     let alloc = rt.alloc();
     let rows: [(u8, &[u8], &[u8]); 3] = [
-        (
-            2,
-            b"\x06\0\0\0\x05\0\0\0",
-            b"shape 9 function 0 5\n",
-        ),
+        (2, b"\x06\0\0\0\x05\0\0\0", b"shape 9 function 0 5\n"),
         (1, b"\x01\0\0\0", b"shape 9 function 0 1\n"),
         (1, b"\x08\0\0\0", b"shape 9 function 0 8\n"),
     ];

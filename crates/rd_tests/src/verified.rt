@@ -14,12 +14,7 @@ use rd_num::width::NoMemory;
 use std::alloc::Global;
 
 /// A file of one function without links, or of none where there is no code, and entry slots.
-fn file(
-    alloc: Global,
-    code: &[u8],
-    cuts: &[u32],
-    targets: &[u32],
-) -> Result<List<u8>, NoMemory>
+fn file(alloc: Global, code: &[u8], cuts: &[u32], targets: &[u32]) -> Result<List<u8>, NoMemory>
     requires code_is_short { length code.now < 100 }
     requires few_cuts { length cuts.now < 100 }
     requires few_slots { length targets.now < 100 }
