@@ -208,7 +208,7 @@ function_text format f k =
           };
     })
 
--- code, links and cuts out of their pieces
+-- code, links and cuts out of their parts
 pub uncut_spans : (bytes : List ℕ) (at end size : ℕ) (code : List ℕ) (links : List Link) → Spans bytes at (at + size) code → Spans bytes (at + size) end (links_bytes links) → Spans bytes at end (code_bytes Format.One code links [])
 uncut_spans bytes at end size code links p q = spans_join bytes at (at + size) end code (links_bytes links) p q
 
@@ -237,7 +237,7 @@ rows_are format f size count h p q = by_format format refl
     by_format Format.One e = (ranges, h.uncut e)
     by_format Format.Two e = ranges
 
--- a function out of its pieces
+-- a function out of its parts
 pub function_spans : (format : Format) (bytes : List ℕ) (at end kind size count : ℕ) (f : Func) → Spans bytes at (at + 4) (field kind) → Spans bytes (at + 4) (at + 4 + 4) (field size) → Spans bytes (at + 8) (at + 8 + 4) (field count) → Spans bytes (at + 12) end (code_bytes format f.bytes f.links f.cuts) → kind_number f.kind ≡ kind → length f.bytes ≡ size → length f.links ≡ count → Spans bytes at end (function_in format f)
 function_spans format bytes at end kind size count f p q r s is_kind is_size is_count =
     let code = code_bytes format f.bytes f.links f.cuts in
@@ -249,7 +249,7 @@ function_spans format bytes at end kind size count f p q r s is_kind is_size is_
     subst (λ t. Spans bytes at end t) (sym (function_in_is format f))
     (spans_join bytes at (at + 4) end (field (kind_number f.kind)) (field (length f.bytes) ++ (field (length f.links) ++ code)) p2 sized)
 
--- what follows the counts out of its four pieces
+-- what follows the counts out of its four parts
 pub body_spans : (format : Format) (bytes : List ℕ) (at two three ro_count rw_count : ℕ) (functions : List Func) (slots : List Slot) (ro rw : List ℕ) → Spans bytes at two (functions_bytes (function_in format) functions) → Spans bytes two three (slots_bytes slots) → Spans bytes three (three + ro_count) ro → Spans bytes (three + ro_count) (three + ro_count + rw_count) rw → Spans bytes at (three + ro_count + rw_count) (body_bytes format functions slots ro rw)
 body_spans format bytes at two three ro_count rw_count functions slots ro rw p q r s =
     let end = three + ro_count + rw_count in

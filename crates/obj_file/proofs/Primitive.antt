@@ -36,9 +36,9 @@ pub bytes_of_each : (xs : List ℕ) → Each IsByte xs → IsBytes xs
 bytes_of_each [] h = tt
 bytes_of_each (x ∷ xs) h = (h.0, bytes_of_each xs h.1)
 
--- a piece of a file as a row of bytes
-pub piece_spans : (bytes : List ℕ) (at n : ℕ) → at + n ≤ length bytes → Spans bytes at (at + n) (take n (drop at bytes))
-piece_spans bytes at n h =
+-- a part of a file as a row of bytes
+pub part_spans : (bytes : List ℕ) (at n : ℕ) → at + n ≤ length bytes → Spans bytes at (at + n) (take n (drop at bytes))
+part_spans bytes at n h =
     let long : length (take n (drop at bytes)) ≡ n = length-take-le n (drop at bytes) (let e = length-drop at bytes in omega arith) in
     record {
       text = sym (take-append-drop n (drop at bytes)) ∙ ap (λ z. take n (drop at bytes) ++ z) (drop-drop n at bytes);
@@ -46,21 +46,21 @@ piece_spans bytes at n h =
       within = h;
     }
 
--- a piece of a file is bytes
-pub piece_raw : (bytes : List ℕ) (at n : ℕ) → All (λ b. b < 256) bytes → at + n ≤ length bytes → IsRaw n (take n (drop at bytes))
-piece_raw bytes at n all h = record {
+-- a part of a file is bytes
+pub part_raw : (bytes : List ℕ) (at n : ℕ) → All (λ b. b < 256) bytes → at + n ≤ length bytes → IsRaw n (take n (drop at bytes))
+part_raw bytes at n all h = record {
   bytes = each_from_all IsByte (take n (drop at bytes)) (All-take (λ b. b < 256) n (drop at bytes) (All-drop (λ b. b < 256) at bytes all));
   size = length-take-le n (drop at bytes) (let e = length-drop at bytes in omega arith);
 }
 
--- a number that a piece spells
+-- a number that a part spells
 pub number_spans : (bytes : List ℕ) (at k n : ℕ) → All (λ b. b < 256) bytes → at + k ≤ length bytes → n ≡ le_number (take k (drop at bytes)) → Spans bytes at (at + k) (le_bytes k n)
 number_spans bytes at k n all h e =
-    let raw = piece_raw bytes at k all h in
-    let piece = take k (drop at bytes) in
-    let back : le_bytes k n ≡ piece =
-    ap (λ m. le_bytes k m) e ∙ ap (λ j. le_bytes j (le_number piece)) (sym raw.size) ∙ bytes_back piece (bytes_of_each piece raw.bytes) in
-    subst (λ s. Spans bytes at (at + k) s) (sym back) (piece_spans bytes at k h)
+    let raw = part_raw bytes at k all h in
+    let part = take k (drop at bytes) in
+    let back : le_bytes k n ≡ part =
+    ap (λ m. le_bytes k m) e ∙ ap (λ j. le_bytes j (le_number part)) (sym raw.size) ∙ bytes_back part (bytes_of_each part raw.bytes) in
+    subst (λ s. Spans bytes at (at + k) s) (sym back) (part_spans bytes at k h)
 
 -- zeros that fill a row
 filled_to : (rest : List ℕ) (k : ℕ) → length rest < k → length (rest ++ 0 ∷ replicate (k - length rest - 1) 0) ≡ k
@@ -136,7 +136,7 @@ raw_fault bytes at size e h = short_fault (IsRaw size) bytes at size e (same_raw
 pub field_fault : (bytes : List ℕ) (at : ℕ) (e : FormFault) → IsShort bytes at 4 e → Fault (IsNumber full) bytes at e
 field_fault bytes at e h = short_fault (IsNumber full) bytes at 4 e raw_number h
 
--- what an open piece of a file is
+-- what an open part of a file is
 pub rest_number : (bytes : List ℕ) (at k n : ℕ) → n ≡ le_number (take k (take (length bytes - at) (drop at bytes))) → n ≡ le_number (take k (drop at bytes))
 rest_number bytes at k n e = e ∙ ap (λ z. le_number (take k z)) (take_rest bytes at)
 
@@ -152,7 +152,7 @@ one_more bytes wanted at i h inside within same =
 pub all_stand : (bytes wanted : List ℕ) (at i : ℕ) → i ≡ length wanted → take i wanted ≡ take i (drop at bytes) → at + i ≤ length bytes → Spans bytes at (at + length wanted) wanted
 all_stand bytes wanted at i e h within =
     let whole : take i wanted ≡ wanted = take_all i wanted (omega arith) in
-    subst (λ n. Spans bytes at (at + n) wanted) e (subst (λ s. Spans bytes at (at + i) s) (sym h ∙ whole) (piece_spans bytes at i within))
+    subst (λ n. Spans bytes at (at + n) wanted) e (subst (λ s. Spans bytes at (at + i) s) (sym h ∙ whole) (part_spans bytes at i within))
 
 -- a list around one of its items
 split_text : (wanted : List ℕ) (i : ℕ) → i < length wanted → wanted ≡ take i wanted ++ get_or wanted i 0 ∷ drop (i + 1) wanted

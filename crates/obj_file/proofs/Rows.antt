@@ -9,7 +9,7 @@ use Rattle.obj_file.proofs.Good.{Good, good_times}
 use Rattle.obj_file.proofs.Leaving.{fault_first, fault_second}
 use Rattle.obj_core.proofs.Spelling.{each_append}
 
--- two pieces of a file, the second where the first ends
+-- two parts of a file, the second where the first ends
 pub spans_join : (bytes : List ℕ) (at mid to : ℕ) (s t : List ℕ) → Spans bytes at mid s → Spans bytes mid to t → Spans bytes at to (s ++ t)
 spans_join bytes at mid to s t p q = record {
   text = p.text ∙ ap (λ z. s ++ z) q.text ∙ sym (append_assoc s t (drop to bytes));
@@ -17,16 +17,16 @@ spans_join bytes at mid to s t p q = record {
   within = q.within;
 }
 
--- an empty piece
+-- an empty part
 pub spans_none : (bytes : List ℕ) (at : ℕ) → at ≤ length bytes → Spans bytes at at []
 spans_none bytes at h = record { text = refl; size = omega arith; within = h }
 
--- a piece that is made of two
+-- a part that is made of two
 pub record Split (bytes : List ℕ) (at to : ℕ) (s t : List ℕ) : Type 0 where
   pub first : Spans bytes at (at + length s) s
   pub second : Spans bytes (at + length s) to t
 
--- the two parts of a piece
+-- the two parts of a part
 pub spans_split : (bytes : List ℕ) (at to : ℕ) (s t : List ℕ) → Spans bytes at to (s ++ t) → Split bytes at to s t
 spans_split bytes at to s t p =
     let long : length (s ++ t) ≡ length s + length t = length-append s t in

@@ -503,13 +503,13 @@ fn objects_have_these_lines(rt: HostRuntime) -> Result<(), Fail> {
         (b"\x90", 0, 5, b"shape 5 function 0 0\n"),
         (b"\x06", 0, 5, b"shape 2 function 0 0\n"),
     ];
-    for (code, cut, want, line) in rows {
+    for (code, less, want, line) in rows {
         let mut file = Vec::new(alloc);
         file.extend_from_slice(&OBJECT)?;
         file.extend_from_slice(&[(code.len() % 256) as u8, 0, 0, 0, 0, 0, 0, 0])?;
         file.extend_from_slice(code)?;
         file.resize(file.len() + 16, 0)?;
-        let length = file.len() - cut;
+        let length = file.len() - less;
         let left = run_surely(alloc, &["lay", "m", "--layout-seed", "7"], &file[..length])?;
         assert_eq!(rt; left.status, want);
         assert!(rt; left.said.as_slice() == line);
