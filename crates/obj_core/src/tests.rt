@@ -40,6 +40,7 @@ fn jump(alloc: Global) -> Result<Func, NoMemory>
         kind: FuncKind::Plain,
         bytes,
         links,
+        cuts: List::new(alloc),
     })
 }
 
@@ -53,6 +54,7 @@ fn ud2(alloc: Global) -> Result<Func, NoMemory>
         kind: FuncKind::Plain,
         bytes,
         links: List::new(alloc),
+        cuts: List::new(alloc),
     })
 }
 
