@@ -8,7 +8,7 @@ use Rattle.obj_core.specs.declared.object.Func.{Func}
 use Rattle.obj_core.specs.declared.object.Slot.{Slot}
 use Rattle.obj_core.specs.declared.object.Link.{Link}
 use Rattle.obj_core.specs.Disassembly.{Found, found}
-use Rattle.obj_core.specs.WellFormed.{forbidden_in, fills_zero, is_good_link, bad_links, bad_branches, open_end, is_good_slot, zero_unless, is_saved_well, agrees_with, is_good_cut, bad_cut, OfSlot, Violation, or_else, at_least_offset, in_functions, in_slots, violation}
+use Rattle.obj_core.specs.WellFormed.{forbidden_in, fills_zero, is_good_link, bad_links, bad_branches, open_end, is_good_slot, zero_unless, is_saved_well, agrees_with, bad_cut, OfSlot, Violation, or_else, at_least_offset, in_functions, in_slots, violation}
 
 -- where neither of two fails, each holds
 neither : (v w : Option Violation) → or_else v w ≡ None → (v ≡ None) × (w ≡ None)
