@@ -54,6 +54,7 @@ pub fn breakpoints(alloc: Global, count: u32) -> Result<List<u8>, NoMemory>
 }
 
 /// Puts so many breakpoints at the end.
+#[tactic(auto, using(crate::proofs::Padded::pad_more, crate::proofs::Padded::pad_last))]
 pub fn pad(all: &mut List<u8>, count: u64) -> Result<(), NoMemory>
     ensures { OnOk result (all.new ≡ all.old ++ filler count) }
 {

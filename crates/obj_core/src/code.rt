@@ -26,7 +26,7 @@ use crate::order::inverted;
 use crate::piece::{Piece, pieces_of};
 use crate::placed::placed_bytes;
 use crate::row::{piece_order, row_of};
-use crate::run::Run;
+use crate::run::{Run, address_by};
 use crate::runs::Runs;
 use bitflags::Flags;
 use rd_num::list::List;
@@ -306,13 +306,4 @@ impl CodeBuilder {
         let run = self.runs.find(at);
         address_by(&run, at)
     }
-}
-
-/// The address of a place by the run that holds it. Takes no memory.
-fn address_by(run: &Run, at: u64) -> u64
-    requires { at < run.now.end }
-    ensures value { result ≡ run.now.start + (at - run.now.front) }
-    ensures low { result < 2 ^ 33 }
-{
-    u64::from(run.start) + at.saturating_sub(u64::from(run.front))
 }

@@ -4,7 +4,7 @@
 //! they start; out come the bytes from the first address of code on, breakpoints between pieces and up
 //! to a multiple of 16. Bytes are copied piece by piece, and none is looked at.
 
-ghost use Rattle.std.specs.Prelude.{◌≡◌, ◌+◌, ◌-◌, take, drop, IfOk, OnOk};
+ghost use Rattle.std.specs.Prelude.{◌≡◌, ◌≤◌, ◌-◌, take, drop, IfOk};
 ghost use Rattle.obj_core.specs.Pieces.{piece_len};
 ghost use Rattle.obj_core.specs.Placement.{piece_in, pieces_in, up16};
 ghost use Rattle.obj_core.specs.Layout.{bytes_in, piece_bytes, code_from};
@@ -43,6 +43,7 @@ pub fn placed_bytes(
 }
 
 /// The bytes of the piece of a number, as far as there are any. Takes no memory.
+#[tactic(auto, using(crate::proofs::Parts::part_there, crate::proofs::Parts::part_of_none, crate::proofs::Parts::no_part))]
 fn bytes_of<'a>(functions: &'a [Func], pieces: &[Piece], number: u32) -> &'a [u8]
     ensures { result.now ≡ piece_bytes (bytes_in functions.now) (piece_in pieces.now number) }
 {

@@ -9,7 +9,7 @@ ghost use Rattle.std.specs.List.Sorted.{IsNonDecreasingBy};
 ghost use Rattle.obj_core.specs.declared.run.Run.{Run};
 ghost use Rattle.obj_core.specs.Runs.{end_of_runs, address_at};
 
-use crate::run::Run;
+use crate::run::{Run, address_by};
 use rd_num::copied::copy_list;
 use rd_num::list::List;
 use rd_num::width::NoMemory;
@@ -74,7 +74,7 @@ impl Runs {
             .as_slice()
             .partition_point(|run| u64::from(run.end) <= at);
         match self.kept.get(number) {
-            Some(run) => u64::from(run.start) + at.saturating_sub(u64::from(run.front)),
+            Some(run) => address_by(run, at),
             None => 0,
         }
     }
