@@ -135,7 +135,7 @@ by_fronts o seed front next off = if nat_lt (front + off) next then address_at (
 
 module _ (o : Object) (seed : ℕ) (rising : AllRising o.functions) where
   -- the address that a plan gives a byte that a function has
-  planned_there : (n off : ℕ) (f : Func) → slice_get o.functions n ≡ Some f → off < length f.bytes → address_at (piece_runs o seed) (front_of o.functions n + off) ≡ address o seed (record { function = n; offset = off })
+  pub planned_there : (n off : ℕ) (f : Func) → slice_get o.functions n ≡ Some f → off < length f.bytes → address_at (piece_runs o seed) (front_of o.functions n + off) ≡ address o seed (record { function = n; offset = off })
   unfolding address piece_runs
   planned_there n off f e lt =
       let x = holder 0 o.functions n f off rising e lt in

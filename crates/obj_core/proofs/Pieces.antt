@@ -6,6 +6,7 @@ use Rattle.std.proofs.lemmas.Bool.Decides.{nat_tests}
 use Rattle.obj_core.specs.declared.object.Func.{Func}
 use Rattle.obj_core.specs.declared.object.CodeAt.{CodeAt}
 use Rattle.obj_core.specs.declared.piece.Piece.{Piece}
+use Rattle.obj_core.specs.Object.{Each}
 use Rattle.obj_core.specs.Pieces.{pieces_between, pieces_of, pieces_from, piece_len}
 use Rattle.obj_core.specs.Placement.{has_byte, address_from}
 use Rattle.obj_core.specs.Runs.{end_of_runs, address_at, runs_from}
@@ -36,6 +37,29 @@ abbrev pub IsEdge : List ℕ → ℕ → ℕ → Type 0
 IsEdge [] end to = to ≡ end
 IsEdge (c ∷ cs) end to = (to ≡ c) ⊎ IsEdge cs end to
 
+-- a piece doesn't hold a byte
+abbrev pub Apart : ℕ → ℕ → Piece → Type 0
+Apart n off p = (p.function ≡ n → ⊥) ⊎ ((off < p.from) ⊎ (p.to ≤ off))
+
+-- all pieces but that of a number don't
+abbrev pub OthersApart : ℕ → ℕ → ℕ → List Piece → Type 0
+OthersApart n off number [] = Unit {0}
+OthersApart n off zero (p ∷ ps) = Each (Apart n off) ps
+OthersApart n off (suc k) (p ∷ ps) = Apart n off p × OthersApart n off k ps
+
+-- so one of another number doesn't
+pub apart_each : (n off : ℕ) (ps : List Piece) → Each (Apart n off) ps → (j : ℕ) (p : Piece) → slice_get ps j ≡ Some p → Apart n off p
+apart_each n off [] h j p e = absurd (cc)
+apart_each n off (q ∷ ps) h zero p e = let same : q ≡ p = cc in subst (Apart n off) same h.0
+apart_each n off (q ∷ ps) h (suc j) p e = apart_each n off ps h.1 j p e
+
+pub apart_other : (n off number : ℕ) (ps : List Piece) → OthersApart n off number ps → (j : ℕ) (p : Piece) → slice_get ps j ≡ Some p → (j ≡ number → ⊥) → Apart n off p
+apart_other n off number [] h j p e other = absurd (cc)
+apart_other n off zero (q ∷ ps) h zero p e other = absurd (other refl)
+apart_other n off zero (q ∷ ps) h (suc j) p e other = apart_each n off ps h j p e
+apart_other n off (suc k) (q ∷ ps) h zero p e other = let same : q ≡ p = cc in subst (Apart n off) same h.0
+apart_other n off (suc k) (q ∷ ps) h (suc j) p e other = apart_other n off k ps h.1 j p e (λ g. other (ap suc g))
+
 -- the piece that holds a byte, which is at a place among the bytes of all, with the byte's address
 pub record Holder (ps : List Piece) (edges : List ℕ) (end : ℕ) (n off at : ℕ) : Type 0 where
   pub number : ℕ
@@ -46,6 +70,7 @@ pub record Holder (ps : List Piece) (edges : List ℕ) (end : ℕ) (n off at : �
   pub to : off < piece.to
   pub edge : IsEdge edges end piece.to
   pub last : piece.to ≤ end
+  pub others : OthersApart n off number ps
   pub address : (places starts : List ℕ) (k : ℕ) → address_from places starts k ps (record { function = n; offset = off }) ≡ slice_index starts (slice_index places (k + number)) + (off - piece.from)
   pub run : (start : ℕ → ℕ) (k front : ℕ) → address_at (runs_from start k front ps) (front + at) ≡ start (k + number) + (off - piece.from)
   pub in_room : (start : ℕ → ℕ) (k front : ℕ) → front + at < end_of_runs (runs_from start k front ps)
@@ -100,8 +125,8 @@ module _ (n off : ℕ) where
       rw none refl
 
   -- the first piece holds it
-  held_first : (from to : ℕ) (edges : List ℕ) (end : ℕ) (rest : List Piece) → from ≤ off → off < to → IsEdge edges end to → to ≤ end → Holder (record { function = n; from = from; to = to } ∷ rest) edges end n off (off - from)
-  held_first from to edges end rest a b edge last =
+  held_first : (from to : ℕ) (edges : List ℕ) (end : ℕ) (rest : List Piece) → Each (Apart n off) rest → from ≤ off → off < to → IsEdge edges end to → to ≤ end → Holder (record { function = n; from = from; to = to } ∷ rest) edges end n off (off - from)
+  held_first from to edges end rest apart a b edge last =
       let p : Piece = record { function = n; from = from; to = to } in
       let inside : off - from < piece_len p = omega arith in
       record {
@@ -113,6 +138,7 @@ module _ (n off : ℕ) where
         to = b;
         edge = edge;
         last = last;
+        others = apart;
         address = λ places starts k. first_has places starts k p rest refl a b;
         run = λ start k front. first_run start k front p rest (off - from) inside;
         in_room = λ start k front. omega (arith, inside);
@@ -129,21 +155,27 @@ module _ (n off : ℕ) where
     to = x.to;
     edge = inr x.edge;
     last = x.last;
+    others = (inr (inr le), x.others);
     address = λ places starts k. not_first places starts k p rest le ∙ x.address places starts (k + 1) ∙ ap (λ j. slice_index starts (slice_index places j) + (off - x.piece.from)) (number_next k x.number);
     run = λ start k front. later_run start k front p rest at ∙ x.run start (k + 1) (front + piece_len p) ∙ ap (λ j. start j + (off - x.piece.from)) (number_next k x.number);
     in_room = λ start k front. let y = x.in_room start (k + 1) (front + piece_len p) in omega (arith, y);
   }
 
   -- the holder among the pieces of the function
-  held_between : (from : ℕ) (cs : List ℕ) (end : ℕ) (rest : List Piece) → Rising from cs end → from ≤ off → off < end → Holder (pieces_between n from cs end ++ rest) cs end n off (off - from)
-  held_between from [] end rest h a b = held_first from end [] end rest a b refl (omega arith)
-  held_between from (c ∷ cs) end rest h a b = by_side (λ le. held_between c cs end rest h.1 le b) (nat_lt off c) refl
+  -- pieces behind the byte don't hold it
+  behind_apart : (from : ℕ) (cs : List ℕ) (end : ℕ) (rest : List Piece) → Rising from cs end → off < from → Each (Apart n off) rest → Each (Apart n off) (pieces_between n from cs end ++ rest)
+  behind_apart from [] end rest h lt apart = (inr (inl lt), apart)
+  behind_apart from (c ∷ cs) end rest h lt apart = (inr (inl lt), behind_apart c cs end rest h.1 (omega (arith, lt, h.0)) apart)
+
+  held_between : (from : ℕ) (cs : List ℕ) (end : ℕ) (rest : List Piece) → Rising from cs end → Each (Apart n off) rest → from ≤ off → off < end → Holder (pieces_between n from cs end ++ rest) cs end n off (off - from)
+  held_between from [] end rest h apart a b = held_first from end [] end rest apart a b refl (omega arith)
+  held_between from (c ∷ cs) end rest h apart a b = by_side (λ le. held_between c cs end rest h.1 apart le b) (nat_lt off c) refl
     where
       by_side : (c ≤ off → Holder (pieces_between n c cs end ++ rest) cs end n off (off - c)) → (t : Bool) → nat_lt off c ≡ t → Holder (pieces_between n from (c ∷ cs) end ++ rest) (c ∷ cs) end n off (off - from)
       by_side later true e =
           let lt : off < c = grind (arith, nat_tests) in
           let past = rising_past c cs end h.1 in
-          held_first from c (c ∷ cs) end (pieces_between n c cs end ++ rest) a lt (inl refl) (omega (arith, past))
+          held_first from c (c ∷ cs) end (pieces_between n c cs end ++ rest) (behind_apart c cs end rest h.1 lt apart) a lt (inl refl) (omega (arith, past))
       by_side later false e =
           let le : c ≤ off = grind (arith, nat_tests) in
           let split : c - from + (off - c) ≡ off - from = omega (arith, le, h.0) in
@@ -210,6 +242,51 @@ room_of_function m f rest h start k front =
     subst (λ l. end_of_runs (runs_from start (k + count f.cuts) (front + l) rest) ≤ end_of_runs (runs_from start k front (pieces_of m f ++ rest))) none
     (behind_room m 0 f.cuts (length f.bytes) rest h start k front)
 
+-- pieces of another function don't hold a byte
+other_apart : (n off m from : ℕ) (cs : List ℕ) (end : ℕ) (rest : List Piece) → n < m → Each (Apart n off) rest → Each (Apart n off) (pieces_between m from cs end ++ rest)
+other_apart n off m from [] end rest lt h = (inl (λ e. omega (arith, e, lt)), h)
+other_apart n off m from (c ∷ cs) end rest lt h = (inl (λ e. omega (arith, e, lt)), other_apart n off m c cs end rest lt h)
+
+later_apart : (n off m : ℕ) (fs : List Func) → n < m → Each (Apart n off) (pieces_from m fs)
+later_apart n off m [] lt = tt
+later_apart n off m (f ∷ fs) lt = other_apart n off m 0 f.cuts (length f.bytes) (pieces_from (m + 1) fs) lt (later_apart n off (m + 1) fs (omega (arith, lt)))
+
+skip_apart : (n off m from : ℕ) (cs : List ℕ) (end : ℕ) (rest : List Piece) (k : ℕ) → m < n → OthersApart n off k rest → OthersApart n off (count cs + k) (pieces_between m from cs end ++ rest)
+skip_apart n off m from [] end rest k lt h =
+    let one : suc k ≡ count [] + k = omega arith in
+    subst (λ j. OthersApart n off j (pieces_between m from [] end ++ rest)) one (inl (λ e. omega (arith, e, lt)), h)
+skip_apart n off m from (c ∷ cs) end rest k lt h =
+    let one : suc (count cs + k) ≡ count (c ∷ cs) + k = omega arith in
+    subst (λ j. OthersApart n off j (pieces_between m from (c ∷ cs) end ++ rest)) one (inl (λ e. omega (arith, e, lt)), skip_apart n off m c cs end rest k lt h)
+
+-- a piece lies inside its function
+pub record Inside (fs : List Func) (m : ℕ) (p : Piece) : Type 0 where
+  pub number : ℕ
+  pub func : Func
+  pub function : p.function ≡ m + number
+  pub found : slice_get fs number ≡ Some func
+  pub order : p.from ≤ p.to
+  pub to : p.to ≤ length func.bytes
+
+-- the next function's
+inside_more : (g : Func) (fs : List Func) (m : ℕ) (p : Piece) → Inside fs (m + 1) p → Inside (g ∷ fs) m p
+inside_more g fs m p x = record { number = suc x.number; func = x.func; function = let e : p.function ≡ m + 1 + x.number = x.function in omega (arith, e); found = x.found; order = x.order; to = x.to }
+
+inside_between : (f : Func) (fs : List Func) (m from : ℕ) (cs : List ℕ) (rest : List Piece) → Rising from cs (length f.bytes) → ((j : ℕ) (p : Piece) → slice_get rest j ≡ Some p → Inside (f ∷ fs) m p) → (j : ℕ) (p : Piece) → slice_get (pieces_between m from cs (length f.bytes) ++ rest) j ≡ Some p → Inside (f ∷ fs) m p
+inside_between f fs m from [] rest h more zero p e =
+    let same : record { function = m; from = from; to = length f.bytes } ≡ p = cc in
+    subst (Inside (f ∷ fs) m) same (record { number = 0; func = f; function = omega arith; found = refl; order = omega (arith, h); to = omega arith })
+inside_between f fs m from [] rest h more (suc j) p e = more j p e
+inside_between f fs m from (c ∷ cs) rest h more zero p e =
+    let past = rising_past c cs (length f.bytes) h.1 in
+    let same : record { function = m; from = from; to = c } ≡ p = cc in
+    subst (Inside (f ∷ fs) m) same (record { number = 0; func = f; function = omega arith; found = refl; order = omega (arith, h.0); to = omega (arith, past) })
+inside_between f fs m from (c ∷ cs) rest h more (suc j) p e = inside_between f fs m c cs rest h.1 more j p e
+
+pub inside : (m : ℕ) (fs : List Func) → AllRising fs → (j : ℕ) (p : Piece) → slice_get (pieces_from m fs) j ≡ Some p → Inside fs m p
+inside m [] h j p e = absurd (cc)
+inside m (f ∷ fs) h j p e = inside_between f fs m 0 f.cuts (pieces_from (m + 1) fs) h.0 (λ i q k. inside_more f fs m q (inside (m + 1) fs h.1 i q k)) j p e
+
 -- the holder among the pieces of all functions
 pub holder : (m : ℕ) (fs : List Func) (n : ℕ) (f : Func) (off : ℕ) → AllRising fs → slice_get fs n ≡ Some f → off < length f.bytes → Holder (pieces_from m fs) f.cuts (length f.bytes) (m + n) off (front_of fs n + off)
 holder m [] n f off h e lt = absurd (cc)
@@ -221,7 +298,7 @@ holder m (g ∷ fs) zero f off h e lt =
     subst (λ x. Holder (pieces_of m g ++ pieces_from (m + 1) fs) f.cuts (length f.bytes) (m + 0) off x) at
     (subst (λ j. Holder (pieces_of m g ++ pieces_from (m + 1) fs) f.cuts (length f.bytes) j off off) number
     (subst (λ (x : Func). off < length x.bytes → Holder (pieces_of m g ++ pieces_from (m + 1) fs) x.cuts (length x.bytes) m off off) same
-    (λ within. subst (Holder (pieces_of m g ++ pieces_from (m + 1) fs) g.cuts (length g.bytes) m off) none (held_between m off 0 g.cuts (length g.bytes) (pieces_from (m + 1) fs) h.0 (omega arith) within)) lt))
+    (λ within. subst (Holder (pieces_of m g ++ pieces_from (m + 1) fs) g.cuts (length g.bytes) m off) none (held_between m off 0 g.cuts (length g.bytes) (pieces_from (m + 1) fs) h.0 (later_apart m off (m + 1) fs (omega arith)) (omega arith) within)) lt))
 holder m (g ∷ fs) (suc n) f off h e lt =
     let x = holder (m + 1) fs n f off h.1 e lt in
     let number : m + 1 + n ≡ m + suc n = omega arith in
@@ -237,6 +314,7 @@ holder m (g ∷ fs) (suc n) f off h e lt =
       to = x.to;
       edge = x.edge;
       last = x.last;
+      others = skip_apart (m + 1 + n) off m 0 g.cuts (length g.bytes) (pieces_from (m + 1) fs) x.number (omega arith) x.others;
       address = λ places starts k.
           skipped m (record { function = m + 1 + n; offset = off }) other places starts k 0 g.cuts (length g.bytes) (pieces_from (m + 1) fs) ∙
           x.address places starts (k + count g.cuts) ∙
