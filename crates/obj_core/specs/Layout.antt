@@ -56,20 +56,21 @@ behind code n at = code (record { function = n; offset = at + 3 }) + 1
 abbrev pub filled : (CodeAt → ℕ) → List ℕ → ℕ → Func → List ℕ
 filled code at n f = led (behind code n) (branch_ways code n f f.cuts ++ link_ways at f.links) f.bytes
 
+abbrev pub filled_by : (CodeAt → ℕ) → List ℕ → ℕ → Option Func → List ℕ
+filled_by code at n None = []
+filled_by code at n (Some f) = filled code at n f
+
+-- each function so
 abbrev pub filled_in : (CodeAt → ℕ) → List ℕ → List Func → ℕ → List ℕ
-filled_in code at fs n = or_none (slice_get fs n)
-  where
-    or_none : Option Func → List ℕ
-    or_none None = []
-    or_none (Some f) = filled code at n f
+filled_in code at fs n = filled_by code at n (slice_get fs n)
 
 -- the bytes of each function as they are
+abbrev pub bytes_by : Option Func → List ℕ
+bytes_by None = []
+bytes_by (Some f) = f.bytes
+
 abbrev pub bytes_in : List Func → ℕ → List ℕ
-bytes_in fs n = or_none (slice_get fs n)
-  where
-    or_none : Option Func → List ℕ
-    or_none None = []
-    or_none (Some f) = f.bytes
+bytes_in fs n = bytes_by (slice_get fs n)
 
 -- the bytes of a piece, by the bytes of each function
 abbrev pub piece_bytes : (ℕ → List ℕ) → Piece → List ℕ

@@ -1,9 +1,10 @@
 -- How displacements are put into a segment of code whose places count through the bytes of all functions.
-use Rattle.std.specs.Prelude.{◌≡◌, ℕ, ◌+◌, ◌-◌, ◌<◌, ◌≤◌, List, [], ◌∷◌, length, drop, Option, Some, None}
+use Rattle.std.specs.Prelude.{◌≡◌, ℕ, ◌+◌, ◌<◌, ◌≤◌, List, [], ◌∷◌, length, drop, Option, Some, None}
 use Rattle.x86_core.specs.declared.instr.Instr.{Instr}
 use Rattle.x86_core.specs.declared.instr.Decoded.TheVariants.{One}
 use Rattle.x86_core.specs.Decoding.{decode}
 use Rattle.obj_core.specs.declared.run.Run.{Run}
+use Rattle.obj_core.specs.Disassembly.{size_of}
 use Rattle.obj_core.specs.Placement.{displacement_bytes}
 use Rattle.obj_core.specs.Runs.{address_at, put_at}
 use Rattle.obj_core.specs.Layout.{Way}
@@ -19,7 +20,8 @@ pub record IsDecoded (bytes : List ℕ) (at : ℕ) (x : InstrAt) : Type 0 where
   pub here : x.at ≡ at
   pub some : x.at < x.end
   pub inside : x.end ≤ length bytes
-  pub decoded : decode (drop at bytes) ≡ One x.instr (x.end - x.at)
+  pub whole : x.end ≡ x.at + size_of x.instr
+  pub decoded : decode (drop at bytes) ≡ One x.instr (size_of x.instr)
 
 -- the instruction at an offset, if there is one
 abbrev pub IsNext : List ℕ → ℕ → Option InstrAt → Type 0

@@ -84,10 +84,30 @@ fn fill_function(
           link_ways positions.now function.now.links) builder.old.bytes;
     } }
 {
-    if !function.cuts.is_empty() {
-        fill_branches(builder, plan, number, front, function);
-    }
+    fill_cut(builder, plan, number, front, function);
     fill_links(builder, front, function, positions);
+}
+
+/// Fills in the displacements of the branches of a function, if it is cut. Takes no memory.
+fn fill_cut(
+    builder: &mut CodeBuilder,
+    plan: &CodePlan,
+    number: u32,
+    front: u32,
+    function: &Func,
+)
+    requires small { front + length function.now.bytes ≤ most_code }
+    requires room { front + length function.now.bytes ≤ end_of_runs builder.old.runs }
+    ensures { builder.new ≡ record builder.old {
+      bytes = put_ways builder.old.runs builder.old.start front
+          (branch_ways (planned plan.now) number function.now function.now.cuts)
+          builder.old.bytes;
+    } }
+{
+    if function.cuts.is_empty() {
+        return;
+    }
+    fill_branches(builder, plan, number, front, function);
 }
 
 /// Fills in the displacements of the links. Takes no memory.
