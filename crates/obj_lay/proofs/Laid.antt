@@ -137,18 +137,18 @@ module _ (code : CodeAt → ℕ) (n : ℕ) (f : Func) where
 
 module _ (o : Object) (w : IsWellFormed o) (seed n : ℕ) (f : Func) (there : slice_get o.functions n ≡ Some f) where
   -- the words that are drawn for gaps
-  abbrev words : ℕ → ℕ
+  abbrev pub words : ℕ → ℕ
   words = keystream_word seed gap_purpose 0
 
   -- a piece of its number stands once in the row
-  row_has : (j : ℕ) (p : Piece) → slice_get (pieces o) j ≡ Some p → IsListed (order o seed) j → slice_get (row o seed) (index_in (order o seed) j) ≡ Some p
+  pub row_has : (j : ℕ) (p : Piece) → slice_get (pieces o) j ≡ Some p → IsListed (order o seed) j → slice_get (row o seed) (index_in (order o seed) j) ≡ Some p
   unfolding piece_in
   row_has j p e x =
       slice_get-map (piece_in (pieces o)) (order o seed) (index_in (order o seed) j) ∙
       ap (option_map (piece_in (pieces o))) (slice_get-get_or (order o seed) (index_in (order o seed) j) 0 x.within ∙ ap Some x.there) ∙
       ap (λ y. Some (or_no_piece y)) e
 
-  listed : (j : ℕ) → j < length (pieces o) → IsListed (order o seed) j
+  pub listed : (j : ℕ) → j < length (pieces o) → IsListed (order o seed) j
   unfolding order
   listed j lt = shuffled_stands (keystream_word seed order_purpose 0) (length (pieces o)) j lt
 
@@ -159,7 +159,7 @@ module _ (o : Object) (w : IsWellFormed o) (seed n : ℕ) (f : Func) (there : sl
     pub at : slice_index (order o seed) q ≡ number
     pub within : q < length (order o seed)
 
-  placed : (q : ℕ) (r : Piece) → slice_get (row o seed) q ≡ Some r → Placed q r
+  pub placed : (q : ℕ) (r : Piece) → slice_get (row o seed) q ≡ Some r → Placed q r
   unfolding piece_in order
   placed q r e =
       let inside_row : q < length (row o seed) = slice_get_within (row o seed) q r e in
@@ -177,12 +177,12 @@ module _ (o : Object) (w : IsWellFormed o) (seed n : ℕ) (f : Func) (there : sl
       get_there (y ∷ ys) zero h = refl
       get_there (y ∷ ys) (suc k) h = get_there ys k (omega (arith, h))
 
-  one_place : (p q : ℕ) → p < length (order o seed) → q < length (order o seed) → slice_index (order o seed) p ≡ slice_index (order o seed) q → p ≡ q
+  pub one_place : (p q : ℕ) → p < length (order o seed) → q < length (order o seed) → slice_index (order o seed) p ≡ slice_index (order o seed) q → p ≡ q
   unfolding order
   one_place p q = shuffled_apart (keystream_word seed order_purpose 0) (length (pieces o)) p q
 
   -- a byte of the function in its piece
-  abbrev has : (k : ℕ) → k < length f.bytes → Holder (pieces o) f.cuts (length f.bytes) (0 + n) k (front_of o.functions n + k)
+  abbrev pub has : (k : ℕ) → k < length f.bytes → Holder (pieces o) f.cuts (length f.bytes) (0 + n) k (front_of o.functions n + k)
   has k lt = holder 0 o.functions n f k (all_rising o w) there lt
 
   -- the code with other bytes of the function
