@@ -11,7 +11,8 @@ use Rattle.x86_core.proofs.Parts.{IsBytes, bytes_back}
 use Rattle.obj_core.specs.Object.{Each, IsByte, field}
 use Rattle.obj_core.proofs.Spelling.{each_append}
 use Rattle.obj_file.specs.declared.fault.FormFault.{FormFault}
-use Rattle.obj_file.specs.Texts.{IsText, IsRaw, IsNumber, full, Spans, NoneBegins, LeavesAt, Fault}
+use Rattle.obj_file.specs.declared.format.Format.{Format}
+use Rattle.obj_file.specs.Texts.{IsText, IsRaw, IsNumber, IsFormat, number_of, full, Spans, NoneBegins, LeavesAt, Fault}
 use Rattle.obj_file.proofs.Good.{each_replicate}
 use Rattle.obj_file.proofs.Leaving.{fault_past}
 
@@ -278,6 +279,68 @@ zeros_fault bytes at limit e fits room small f =
     let tails : t ≡ 0 ∷ 0 ∷ 0 ∷ [] = cc in
     record { same = tails })
     f
+
+-- the number of a format is one byte and three zeros
+format_field : (f : Format) → field (number_of f) ≡ number_of f ∷ (0 ∷ 0 ∷ 0 ∷ [])
+format_field Format.One = refl
+format_field Format.Two = refl
+
+-- no number of a format has another first byte
+no_format : (others : List ℕ) → ((b : ℕ) (bs : List ℕ) → others ≡ b ∷ bs → (f : Format) → number_of f ≢ b) → NoneBegins IsFormat [] others
+no_format [] w = tt
+no_format (b ∷ bs) w =
+    λ rest t.
+    let same : b ∷ rest ≡ number_of t.format ∷ (0 ∷ 0 ∷ 0 ∷ []) = t.text ∙ format_field t.format in
+    let is : number_of t.format ≡ b = cc in
+    w b bs refl t.format is
+
+-- a first byte that is wanting or no number of a format
+format_leaves : (bytes : List ℕ) (at : ℕ) → at ≤ length bytes → (at < length bytes → (f : Format) → number_of f ≢ get_or bytes at 0) → LeavesAt IsFormat bytes at at
+format_leaves bytes at within wrong = record {
+  inside = 0;
+  is = omega arith;
+  leaves = record {
+    front = [];
+    others = drop at bytes;
+    split = refl;
+    size = refl;
+    next = 1;
+    more = 0 ∷ 0 ∷ 0 ∷ [];
+    goes_on = record { format = Format.One; text = refl };
+    wrong = no_format (drop at bytes) (λ b bs e. other b bs e);
+  };
+}
+  where
+    other : (b : ℕ) (bs : List ℕ) → drop at bytes ≡ b ∷ bs → (f : Format) → number_of f ≢ b
+    other b bs e f =
+        let long : length (drop at bytes) ≡ suc (length bs) = ap length e in
+        let long2 : length (drop at bytes) ≡ length bytes - at = length-drop at bytes in
+        let room : at < length bytes = omega arith in
+        let here : drop at bytes ≡ get_or bytes at 0 ∷ drop (at + 1) bytes = drop_more bytes at 0 room in
+        let is : b ≡ get_or bytes at 0 = cc in
+        λ same. wrong room f (same ∙ is)
+
+-- the fault of such a byte
+pub format_fault : (bytes : List ℕ) (at : ℕ) → at ≤ length bytes → (at < length bytes → (f : Format) → number_of f ≢ get_or bytes at 0) → Fault IsFormat bytes at (FormFault.At at)
+format_fault bytes at within wrong = fault_at IsFormat bytes at at (format_leaves bytes at within wrong)
+
+-- the number and the three zeros behind it
+pub format_spans : (bytes : List ℕ) (at : ℕ) (f : Format) → at < length bytes → number_of f ≡ get_or bytes at 0 → Spans bytes (at + 1) (at + 1 + 3) (0 ∷ 0 ∷ 0 ∷ []) → Spans bytes at (at + 4) (field (number_of f))
+format_spans bytes at Format.One room e zeros = below_spans bytes at 1 (omega arith) room e zeros
+format_spans bytes at Format.Two room e zeros = below_spans bytes at 2 (omega arith) room e zeros
+
+-- zeros that are wanting behind the number
+pub format_zeros : (bytes : List ℕ) (at : ℕ) (f : Format) (e : FormFault) → at < length bytes → number_of f ≡ get_or bytes at 0 → Fault (IsText (0 ∷ 0 ∷ 0 ∷ [])) bytes (at + 1) e → Fault IsFormat bytes at e
+format_zeros bytes at f e room is fault =
+    let b = get_or bytes at 0 in
+    fault_past (IsText (0 ∷ 0 ∷ 0 ∷ [])) IsFormat bytes at (at + 1) (b ∷ []) e
+    (record { text = drop_more bytes at 0 room; size = refl; within = omega arith })
+    (λ t h. record { format = f; text = ap (λ z. b ∷ z) h.same ∙ ap (λ n. n ∷ (0 ∷ 0 ∷ 0 ∷ [])) (sym is) ∙ sym (format_field f) })
+    (λ t h.
+    let same : b ∷ t ≡ number_of h.format ∷ (0 ∷ 0 ∷ 0 ∷ []) = h.text ∙ format_field h.format in
+    let tails : t ≡ 0 ∷ 0 ∷ 0 ∷ [] = cc in
+    record { same = tails })
+    fault
 
 -- what a `?` hands on
 pub at_exit : {T : Type 0} (r : Result T FormFault) (e : FormFault) (F : FormFault → Type 0) → IsErrAnd r (λ y. y ≡ e) → F e → IfErr r F

@@ -1,7 +1,8 @@
 -- Many parts of one kind, one after another.
 use Rattle.std.proofs.Common.{◌≡◌, ℕ, zero, suc, ◌+◌, ◌<◌, ◌≤◌, List, [], ◌∷◌, ◌++◌, length, drop, refl, sym, ◌∙◌, ap, subst, arith, append_assoc, length-append}
 use Rattle.std.proofs.lemmas.List.{append-nil, drop-drop, drop_at}
-use Rattle.obj_core.specs.Object.{Each, function_bytes, functions_bytes, link_bytes, links_bytes, slot_bytes, slots_bytes}
+use Rattle.obj_core.specs.Object.{Each, field, functions_bytes, link_bytes, links_bytes, cuts_bytes, slot_bytes, slots_bytes}
+use Rattle.obj_core.specs.declared.object.Func.{Func}
 use Rattle.obj_file.specs.declared.fault.FormFault.{FormFault}
 use Rattle.obj_file.specs.Texts.{Times, Spans, Fault}
 use Rattle.obj_file.proofs.Good.{Good, good_times}
@@ -62,9 +63,13 @@ links_row = record { none = refl; more = λ x xs. refl }
 pub slots_row : IsRow slot_bytes slots_bytes
 slots_row = record { none = refl; more = λ x xs. refl }
 
+-- cuts
+pub cuts_row : IsRow field cuts_bytes
+cuts_row = record { none = refl; more = λ x xs. refl }
+
 -- functions
-pub functions_row : IsRow function_bytes functions_bytes
-functions_row = record { none = refl; more = λ x xs. refl }
+pub functions_row : (one : Func → List ℕ) → IsRow one (functions_bytes one)
+functions_row one = record { none = refl; more = λ x xs. refl }
 
 -- the bytes of one more item come last
 pub row_end : {T : Type 0} (one : T → List ℕ) (all : List T → List ℕ) (r : IsRow one all) (xs : List T) (x : T) → all (xs ++ x ∷ []) ≡ all xs ++ one x

@@ -5,7 +5,7 @@ use Rattle.obj_file.proofs.Good.{good_number}
 use Rattle.obj_file.proofs.Leaving.{fault_number, fault_after}
 use Rattle.obj_file.proofs.Primitive.{at_exit}
 use Rattle.obj_file.proofs.Limits.{full_limit}
-use Rattle.obj_file.proofs.read.read_link.Goals as goal
+use Rattle.obj_file.proofs.function.read_link.Goals as goal
 
 pub returns-in_err-place-clause-fault : goal.returns-in_err-place-clause-fault
 returns-in_err-place-clause-fault c =

@@ -1,6 +1,6 @@
 use Rattle.obj_core.specs.Object.{IsLink, links_bytes}
 use Rattle.obj_file.proofs.Rows.{RowRead}
-use Rattle.obj_file.proofs.read.read_links.Given as goal
+use Rattle.obj_file.proofs.function.read_links.Given as goal
 
 -- the links so far
 abbrev pub invariant-loop : goal.invariant-loop

@@ -5,7 +5,7 @@ use Rattle.obj_file.proofs.Primitive.{at_exit}
 use Rattle.obj_file.proofs.Rows.{row_fault, row_more, links_row}
 use Rattle.obj_file.proofs.Limits.{good_link}
 use Rattle.obj_file.proofs.Parts.{link_text}
-use Rattle.obj_file.proofs.read.read_links.Goals as goal
+use Rattle.obj_file.proofs.function.read_links.Goals as goal
 
 pub returns-in_err-link-clause-fault : goal.returns-in_err-link-clause-fault
 returns-in_err-link-clause-fault c =
