@@ -1,8 +1,8 @@
 -- Code while its displacements are filled in: a byte that is put at its address is a byte of its function.
-use Rattle.std.proofs.Common.{◌≡◌, ℕ, zero, suc, ◌+◌, ◌-◌, ◌<◌, ◌≤◌, ◌⊎◌, inl, inr, Bool, true, false, List, [], ◌∷◌, ◌++◌, length, take, drop, Some, if◌then◌else◌, refl, sym, ◌∙◌, ap, subst, arith, length-append}
+use Rattle.std.proofs.Common.{◌≡◌, ℕ, zero, suc, ◌+◌, ◌-◌, ◌<◌, ◌≤◌, ◌⊎◌, inl, inr, Bool, true, false, List, [], ◌∷◌, ◌++◌, length, take, drop, Some, if◌then◌else◌, refl, sym, ◌∙◌, ap, arith}
 use Rattle.std.specs.Prelude.{nat_eq, nat_lt, slice_get, slice_index, slice_set}
 use Rattle.std.proofs.lemmas.Bool.Decides.{nat_tests}
-use Rattle.std.proofs.lemmas.List.{length-replicate, length-take, length-drop, length-set, drop-set-lt, drop-set-add, set-append_left, set_past}
+use Rattle.std.proofs.lemmas.List.{length-replicate, length-take, length-set, drop-set-lt, drop-set-add, set-append_left, set_past}
 use Rattle.obj_core.specs.declared.piece.Piece.{Piece}
 use Rattle.obj_core.specs.declared.run.Run.{Run}
 use Rattle.obj_core.specs.Pieces.{piece_len}
@@ -67,7 +67,7 @@ module _ (c : ℕ → List ℕ) (n : ℕ) where
             of_function (slice_set bytes k x) p e ∙ ap (take (piece_len p)) (drop-set-lt p.from bytes k x below) ∙ sym (of_function bytes p e)
         by_low false not e side =
             let le : p.from ≤ k = grind (arith, nat_tests) in
-            let past : p.to ≤ k = elim side [ | inl lt ↦ absurd (omega (arith, lt, le)) | inr h ↦ h ] in
+            let past : p.to ≤ k = elim side [ inl lt ↦ absurd (omega (arith, lt, le)) | inr h ↦ h ] in
             this_piece bytes p e le ∙
             ap (λ bs. slice_set bs (k - p.from) x) (of_function bytes p e) ∙
             set_past (take (piece_len p) (drop p.from bytes)) (k - p.from) x (short le past) ∙

@@ -1,5 +1,5 @@
 -- The instructions that bytes are, found by decoding, are those of a disassembly.
-use Rattle.std.proofs.Common.{◌≡◌, ℕ, zero, suc, ◌+◌, ◌-◌, ◌<◌, ◌≤◌, List, [], ◌∷◌, ◌++◌, length, drop, refl, sym, ◌∙◌, ap, subst, arith, length-append}
+use Rattle.std.proofs.Common.{◌≡◌, ℕ, zero, suc, ◌+◌, ◌-◌, ◌≤◌, List, [], ◌∷◌, ◌++◌, length, drop, refl, sym, ◌∙◌, ap, arith, length-append}
 use Rattle.std.proofs.lemmas.List.{drop_at}
 use Rattle.x86_core.specs.declared.instr.Instr.{Instr}
 use Rattle.x86_core.specs.declared.instr.Decoded.TheVariants.{One}
@@ -8,7 +8,7 @@ use Rattle.x86_core.specs.Decoding.{decode}
 use Rattle.x86_core.proofs.Back.{decode_back}
 use Rattle.x86_core.proofs.Laws.{some_bytes}
 use Rattle.obj_core.specs.Object.{Each}
-use Rattle.obj_core.specs.Disassembly.{Found, found_from, found, size_of, spelled, and_others, instrs_from, instrs_in, IsDisassembly}
+use Rattle.obj_core.specs.Disassembly.{found_from, found, size_of, spelled, and_others, instrs_from, instrs_in, IsDisassembly}
 
 -- bytes of the instruction before are passed over
 pub passed : (left at : ℕ) (bytes : List ℕ) → left ≤ length bytes → instrs_from left at bytes ≡ instrs_from 0 (at + left) (drop left bytes)

@@ -1,5 +1,5 @@
 -- Code whose first functions have their displacements.
-use Rattle.std.proofs.Common.{◌≡◌, ℕ, zero, suc, ◌+◌, ◌-◌, ◌<◌, ◌≤◌, Bool, true, false, List, [], ◌∷◌, ◌++◌, length, take, drop, get_or, Option, Some, None, All, if◌then◌else◌, refl, sym, ◌∙◌, ap, subst, arith, length-append}
+use Rattle.std.proofs.Common.{◌≡◌, ℕ, zero, suc, ◌+◌, ◌-◌, ◌<◌, ◌≤◌, Bool, true, false, List, [], ◌∷◌, ◌++◌, length, drop, get_or, Option, Some, None, if◌then◌else◌, refl, sym, ◌∙◌, ap, subst, arith, length-append}
 use Rattle.std.specs.Prelude.{nat_eq, nat_lt, slice_get, slice_index, slice_set, option_map, ℤ}
 use Rattle.std.proofs.Math.Logic.{∥∥₁_elim}
 use Rattle.std.proofs.Math.Bridge.{le_prop}
@@ -8,7 +8,7 @@ use Rattle.std.proofs.lemmas.Bool.Decides.{nat_tests}
 use Rattle.std.proofs.lemmas.List.{length-take, length-drop, length-map}
 use Rattle.std.proofs.lemmas.Option.{slice_get_within, slice_get_read, slice_get-get_or, slice_get-map}
 use Rattle.rd_draw.specs.Draw.{keystream_word}
-use Rattle.rd_draw.proofs.Permuted.{shuffled_below, shuffled_apart, shuffled_long}
+use Rattle.rd_draw.proofs.Permuted.{shuffled_below, shuffled_apart}
 use Rattle.x86_core.specs.declared.instr.Instr.{Instr}
 use Rattle.x86_core.specs.declared.instr.Instr.TheVariants.{Jcc, Jmp}
 use Rattle.x86_core.specs.Arithmetic.{moved}
@@ -24,15 +24,14 @@ use Rattle.obj_core.specs.Slots.{positions}
 use Rattle.obj_core.specs.Pieces.{pieces, piece_len}
 use Rattle.obj_core.specs.Disassembly.{Found, found, found_from, instrs_in, size_of, spelled}
 use Rattle.obj_core.specs.WellFormed.{IsWellFormed, displacement, end_of}
-use Rattle.obj_core.specs.Placement.{order, order_purpose, gap_purpose, inverse, index_in, code_base, piece_in, or_no_piece, pieces_in, row, starts, address}
+use Rattle.obj_core.specs.Placement.{order, order_purpose, gap_purpose, index_in, code_base, piece_in, or_no_piece, pieces_in, row, starts, address}
 use Rattle.obj_core.specs.Runs.{address_at, end_of_runs}
 use Rattle.obj_core.specs.Plans.{piece_start, piece_runs, planned, IsPlan}
 use Rattle.obj_core.specs.Layout.{Way, way_of, ways_of, branch_ways, link_ways, led, behind, filled_by, filled_in, bytes_by, bytes_in, piece_bytes, code_from, code_bytes}
-use Rattle.obj_core.proofs.Kept.{function_keeps}
 use Rattle.obj_core.proofs.Inside.{disassembly_at, all_inside}
 use Rattle.obj_core.proofs.Orders.{IsListed, shuffled_stands, inverse_index}
 use Rattle.obj_core.proofs.Fronts.{code_len, front_of, front_next, front_small}
-use Rattle.obj_core.proofs.Pieces.{Apart, apart_other, Holder, holder, Inside, inside}
+use Rattle.obj_core.proofs.Pieces.{Apart, apart_other, Holder, holder, inside}
 use Rattle.obj_core.proofs.Cuts.{all_rising}
 use Rattle.obj_core.proofs.Looked.{planned_is, planned_there}
 use Rattle.obj_core.proofs.Totals.{order_as_many}

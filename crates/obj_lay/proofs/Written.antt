@@ -1,11 +1,8 @@
 -- What is put into a segment of slots, as bytes that are put over others.
-use Rattle.std.proofs.Common.{◌≡◌, ℕ, ◌+◌, ◌-◌, ◌*◌, ◌<◌, ◌≤◌, List, [], ◌∷◌, ◌++◌, length, drop, get_or, refl, sym, subst, add-one, ◌∙◌, ap, if◌then◌else◌, arith, append_assoc, length-append}
-use Rattle.std.specs.Prelude.{slice_index}
-use Rattle.std.proofs.Math.Seq.{drop-cons}
+use Rattle.std.proofs.Common.{◌≡◌, ℕ, ◌+◌, ◌-◌, ◌<◌, ◌≤◌, List, [], ◌∷◌, ◌++◌, length, sym, ◌∙◌, ap, if◌then◌else◌, arith, append_assoc, length-append}
 use Rattle.std.proofs.lemmas.Bool.{lt-ltb}
 use Rattle.std.proofs.lemmas.List.{length-replicate, replicate-append-replicate}
 use Rattle.obj_core.specs.declared.code.CodeBuilder.{CodeBuilder}
-use Rattle.obj_core.specs.declared.run.Run.{Run}
 use Rattle.obj_core.specs.Slots.{slot_base}
 use Rattle.obj_core.specs.Placement.{filler, overlaid, displacement_bytes}
 use Rattle.obj_core.specs.Runs.{address_at, put_at, slot_run}

@@ -89,13 +89,7 @@ fn fill_function(
 }
 
 /// Fills in the displacements of the branches of a function, if it is cut. Takes no memory.
-fn fill_cut(
-    builder: &mut CodeBuilder,
-    plan: &CodePlan,
-    number: u32,
-    front: u32,
-    function: &Func,
-)
+fn fill_cut(builder: &mut CodeBuilder, plan: &CodePlan, number: u32, front: u32, function: &Func)
     requires small { front + length function.now.bytes ≤ most_code }
     requires room { front + length function.now.bytes ≤ end_of_runs builder.old.runs }
     ensures { builder.new ≡ record builder.old {

@@ -25,7 +25,7 @@ use Rattle.obj_lay.specs.Places.{is_code_place, CodeBytes}
 use Rattle.obj_core.proofs.Kept.{KeepsRules, function_keeps}
 use Rattle.obj_lay.proofs.lockstep.Rules.{function_of_disassembly}
 use Rattle.obj_core.specs.Object.{Each}
-use Rattle.obj_core.specs.Placement.{slot_in, code_base, address, displacement_bytes}
+use Rattle.obj_core.specs.Placement.{code_base, address, displacement_bytes}
 use Rattle.obj_core.specs.Layout.{Way, ways_of, branch_ways, link_ways, led, behind, filled, code_bytes, trampoline_bytes}
 use Rattle.obj_core.proofs.Pieces.{IsEdge}
 use Rattle.obj_core.proofs.Cuts.{edge_is}
@@ -35,7 +35,7 @@ use Rattle.obj_lay.proofs.hidden.Numbers.{between, between_leads, between_fits, 
 use Rattle.obj_lay.proofs.hidden.Linked.{link_good, IsFilled, jump_filled, test_filled, IsWay, NoneEnds, link_ways_end, branch_ways_end, no_link_ends, no_branch_ends, links_lead, branches_lead, branch_ends, same_end, led_stays, led_some, led_leads, led_both}
 use Rattle.obj_lay.proofs.Lengths.{length-trampoline_bytes, led_long}
 use Rattle.obj_lay.proofs.hidden.Executable.{executable, in_code, take_past}
-use Rattle.obj_lay.proofs.hidden.Places.{InPiece, in_piece, place, slot_low}
+use Rattle.obj_lay.proofs.hidden.Places.{in_piece, place, slot_low}
 
 -- what starts at a place of a function
 pub record Begun (disassemblies : List (List Instr)) (n off : ℕ) : Type 0 where
@@ -302,8 +302,8 @@ module _ (o : Object) (w : IsWellFormed o) (seed : ℕ) where
           let first = led_some instrs off make is_filled by h sized (behind (address o seed) n) (branch_ways (address o seed) n f f.cuts) f.bytes by (branches_good f.cuts) (plain off (make by) h) in
           subst (IsAtTo exec (at_place (Place.Code n off)) make) same
           (to_address (slot_start o k) (omega (arith, below)) (omega arith) (λ by2 way.
-            filled_first off (make by2)
-            (led_leads instrs off make is_filled by h sized (behind (address o seed) n) (slot_start o k) by2 way (link_ways (positions o) f.links) (led (behind (address o seed) n) (branch_ways (address o seed) n f f.cuts) f.bytes) first.0 links_good lead.0 lead.1 first.1)))
+          filled_first off (make by2)
+          (led_leads instrs off make is_filled by h sized (behind (address o seed) n) (slot_start o k) by2 way (link_ways (positions o) f.links) (led (behind (address o seed) n) (branch_ways (address o seed) n f f.cuts) f.bytes) first.0 links_good lead.0 lead.1 first.1)))
 
       -- one without a link in a function that is not cut
       in_one_piece : f.cuts ≡ [] → link_before f.links end ≡ None → IsAtTo exec (at_place (Place.Code n off)) make (at_byte (moved end by))
@@ -337,10 +337,10 @@ module _ (o : Object) (w : IsWellFormed o) (seed : ℕ) where
           let test : nat_lt (moved end by) (length f.bytes) ≡ true = lt-ltb (moved end by) (length f.bytes) g.inside in
           let ways : branch_ways (address o seed) n f f.cuts ≡ ways_of (address o seed) n f (found instrs) = ap (branch_ways (address o seed) n f) cut ∙ ap (ways_of (address o seed) n f) known in
           to_address (at_byte (moved end by)) g.high (omega (arith, low)) (λ by2 way.
-            filled_first off (make by2)
-            (led_stays instrs off (make by) h (make by2) (sized by2) (behind (address o seed) n) (link_ways (positions o) f.links) (led (behind (address o seed) n) (branch_ways (address o seed) n f f.cuts) f.bytes) links_good (no_link_ends (positions o) end f.links e)
-            (subst (λ ws. Front (drop off (led (behind (address o seed) n) ws f.bytes)) (make by2)) (sym ways)
-            (led_leads instrs off make is_filled by h sized (behind (address o seed) n) (at_byte (moved end by)) by2 way (ways_of (address o seed) n f (found instrs)) f.bytes by (branch_ways_end (address o seed) n f instrs) (branches_lead (address o seed) n f instrs off (make by) by h disp) (branch_ends (address o seed) n f 0 instrs off (make by) by h disp test) (plain off (make by) h)))))
+          filled_first off (make by2)
+          (led_stays instrs off (make by) h (make by2) (sized by2) (behind (address o seed) n) (link_ways (positions o) f.links) (led (behind (address o seed) n) (branch_ways (address o seed) n f f.cuts) f.bytes) links_good (no_link_ends (positions o) end f.links e)
+          (subst (λ ws. Front (drop off (led (behind (address o seed) n) ws f.bytes)) (make by2)) (sym ways)
+          (led_leads instrs off make is_filled by h sized (behind (address o seed) n) (at_byte (moved end by)) by2 way (ways_of (address o seed) n f (found instrs)) f.bytes by (branch_ways_end (address o seed) n f instrs) (branches_lead (address o seed) n f instrs off (make by) by h disp) (branch_ends (address o seed) n f 0 instrs off (make by) by h disp test) (plain off (make by) h)))))
 
       by_cuts : (cuts : List ℕ) → f.cuts ≡ cuts → link_before f.links end ≡ None → IsAtTo exec (at_place (Place.Code n off)) make (at_byte (moved end by))
       by_cuts [] none e = in_one_piece none e

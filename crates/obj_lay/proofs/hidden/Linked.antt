@@ -339,11 +339,11 @@ pub branches_lead : (code : CodeAt → ℕ) (n : ℕ) (f : Func) (is : List Inst
 branches_lead code n f is off i by there e =
     ways_each code n f (λ w. w.at + 4 ≡ off + size_of i → w.to ≡ code (record { function = n; offset = moved (off + size_of i) by })) 0 is
     (λ off2 j y h g ends.
-      let size = branch_size j y g in
-      let same = same_end is off i there off2 j h (omega (arith, ends, size)) in
-      let end : off2 + size_of j ≡ off + size_of i = omega (arith, ends, size) in
-      let one : y ≡ by = some_same j y same.1 g in
-      ap (λ k. code (record { function = n; offset = moved k y })) end ∙ ap (λ z. code (record { function = n; offset = moved (off + size_of i) z })) one)
+    let size = branch_size j y g in
+    let same = same_end is off i there off2 j h (omega (arith, ends, size)) in
+    let end : off2 + size_of j ≡ off + size_of i = omega (arith, ends, size) in
+    let one : y ≡ by = some_same j y same.1 g in
+    ap (λ k. code (record { function = n; offset = moved k y })) end ∙ ap (λ z. code (record { function = n; offset = moved (off + size_of i) z })) one)
   where
     some_same : (j : Instr) (y : ℤ) → i ≡ j → displacement j ≡ Some y → y ≡ by
     some_same j y same g = let both : Some y ≡ Some by = sym g ∙ ap displacement (sym same) ∙ e in cc
@@ -353,7 +353,7 @@ pub no_branch_ends : (code : CodeAt → ℕ) (n : ℕ) (f : Func) (is : List Ins
 no_branch_ends code n f is off i there e =
     ways_each code n f (λ w. w.at + 4 ≡ off + size_of i → ⊥) 0 is
     (λ off2 j y h g ends.
-      let size = branch_size j y g in
-      let same = same_end is off i there off2 j h (omega (arith, ends, size)) in
-      let both : Some y ≡ None = sym g ∙ ap displacement (sym same.1) ∙ e in
-      absurd (cc))
+    let size = branch_size j y g in
+    let same = same_end is off i there off2 j h (omega (arith, ends, size)) in
+    let both : Some y ≡ None = sym g ∙ ap displacement (sym same.1) ∙ e in
+    absurd (cc))

@@ -1,7 +1,6 @@
 -- The addresses of an object's places in a layout, and what stands there.
-use Rattle.std.proofs.Common.{◌≡◌, ℕ, ◌+◌, ◌-◌, ◌<◌, ◌≤◌, inl, inr, List, ◌++◌, length, take, drop, Option, Some, refl, sym, ◌∙◌, ap, subst, arith}
+use Rattle.std.proofs.Common.{◌≡◌, ℕ, ◌+◌, ◌-◌, ◌<◌, ◌≤◌, inl, inr, List, ◌++◌, length, take, drop, Some, sym, ◌∙◌, ap, arith}
 use Rattle.std.specs.Prelude.{slice_get, slice_index, map, sum}
-use Rattle.std.specs.List.{sum_by}
 use Rattle.std.proofs.lemmas.Bool.{cases_eq}
 use Rattle.std.proofs.lemmas.Option.{slice_get_within}
 use Rattle.std.proofs.lemmas.List.{length-take, length-drop}
@@ -15,10 +14,9 @@ use Rattle.obj_core.specs.declared.piece.Piece.{Piece}
 use Rattle.obj_core.specs.Pieces.{pieces, piece_len}
 use Rattle.obj_core.specs.Slots.{slot_start, slot_purpose, positions}
 use Rattle.obj_core.specs.WellFormed.{AreFew, IsWellFormed}
-use Rattle.obj_core.specs.Placement.{gap_purpose, order, inverse, index_in, code_base, row, starts_from, starts, address, address_from}
-use Rattle.obj_core.specs.Layout.{branch_ways, link_ways, behind, filled, filled_by, filled_in, piece_bytes, code_from, code_bytes}
-use Rattle.obj_core.proofs.Fronts.{code_len, front_of}
-use Rattle.obj_core.proofs.Pieces.{IsEdge, Apart, apart_other, Holder, Inside, inside}
+use Rattle.obj_core.specs.Placement.{gap_purpose, order, inverse, index_in, code_base, row, starts, address, address_from}
+use Rattle.obj_core.specs.Layout.{branch_ways, link_ways, behind, filled, filled_by, filled_in, piece_bytes, code_bytes}
+use Rattle.obj_core.proofs.Pieces.{IsEdge, Apart, apart_other, inside}
 use Rattle.obj_core.proofs.Cuts.{all_rising}
 use Rattle.obj_core.proofs.Orders.{place_again, index_below, inverse_index, inverse_get}
 use Rattle.obj_core.proofs.Totals.{few_here, row_here, row_long, order_as_many}

@@ -1,4 +1,4 @@
-use Rattle.std.proofs.Common.{◌≡◌, ◌≤◌, ◌∙◌, ℕ, length, drop, sym, ap, subst, rules}
+use Rattle.std.proofs.Common.{◌≡◌, ◌∙◌, ℕ, drop, sym, ap, subst}
 use Rattle.x86_core.specs.declared.instr.Instr.{Instr}
 use Rattle.x86_core.specs.declared.instr.Decoded.TheVariants.{One}
 use Rattle.x86_core.specs.Decoding.{decode}
@@ -6,7 +6,6 @@ use Rattle.obj_core.specs.declared.code.CodeBuilder.{CodeBuilder}
 use Rattle.obj_core.specs.Plans.{planned}
 use Rattle.obj_core.specs.Disassembly.{instrs_from}
 use Rattle.obj_core.specs.Layout.{ways_of}
-use Rattle.obj_core.specs.declared.run.Run.{Run}
 use Rattle.std.specs.Prelude.{List}
 use Rattle.obj_lay.specs.Putting.{IsDecoded, put_ways}
 use Rattle.obj_lay.proofs.Put.{branch_put, none_put, builder_is}
