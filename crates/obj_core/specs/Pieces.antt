@@ -1,13 +1,8 @@
 -- The pieces of an object, in which its functions are cut: by the functions' numbers, and in a function by offset.
-use Rattle.std.specs.Prelude.{ℕ, ◌+◌, List, [], ◌∷◌, ◌++◌, length}
+use Rattle.std.specs.Prelude.{ℕ, ◌+◌, ◌-◌, List, [], ◌∷◌, ◌++◌, length}
 use Rattle.obj_core.specs.declared.object.Object.{Object}
 use Rattle.obj_core.specs.declared.object.Func.{Func}
-
--- the bytes of a function from one offset up to another
-pub record Piece : Type 0 where
-  pub function : ℕ
-  pub from : ℕ
-  pub to : ℕ
+use Rattle.obj_core.specs.declared.piece.Piece.{Piece}
 
 -- the pieces from an offset to the end, where these cuts lie between
 abbrev pub pieces_between : ℕ → ℕ → List ℕ → ℕ → List Piece
@@ -25,3 +20,7 @@ pieces_from n (f ∷ fs) = pieces_of n f ++ pieces_from (n + 1) fs
 
 abbrev pub pieces : Object → List Piece
 pieces o = pieces_from 0 o.functions
+
+-- how many bytes a piece has
+abbrev pub piece_len : Piece → ℕ
+piece_len p = p.to - p.from

@@ -107,7 +107,7 @@ fn call_slot(alloc: Global) -> Result<Segment, NoMemory> {
 }
 
 /// The code, whose jump goes to the slot at position 1.
-#[tactic(auto, unfolding(crate::specs::Plans::function_runs))]
+#[tactic(auto, unfolding(crate::specs::Plans::piece_runs))]
 fn all_code(alloc: Global) -> Result<Segment, NoMemory> {
     let o = small_object(alloc)?;
     let plan = CodePlan::new(alloc, &o, LAYOUT_SEED)?;
