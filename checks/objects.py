@@ -180,9 +180,9 @@ def row(code, start):
 # Draws
 
 
-def chacha_words(key):
-    """The first block of ChaCha20 under a key, with counter and stream 0."""
-    start = list(struct.unpack("<4I", b"expand 32-byte k")) + list(struct.unpack("<8I", key)) + [0] * 4
+def chacha_words(key, block=0):
+    """A block of ChaCha20 under a key, the first one by default, in stream 0."""
+    start = list(struct.unpack("<4I", b"expand 32-byte k")) + list(struct.unpack("<8I", key)) + [block, 0, 0, 0]
     s = start[:]
 
     def turn(n, by):
@@ -199,6 +199,23 @@ def chacha_words(key):
         for k in range(4):
             quarter(k, 4 + (k + 1) % 4, 8 + (k + 2) % 4, 12 + (k + 3) % 4)
     return [a + b & 0xFFFFFFFF for a, b in zip(s, start)]
+
+
+def drawn(seed, purpose):
+    """All words that a seed draws for a purpose."""
+    block = 0
+    while True:
+        yield from chacha_words(struct.pack("<IIQ16x", purpose, 0, seed), block)
+        block += 1
+
+
+def shuffled(seed, purpose, count):
+    """The order of so many numbers that a seed draws for a purpose."""
+    order, words = list(range(count)), drawn(seed, purpose)
+    for i in range(count - 1, 0, -1):
+        j = next(words) % (i + 1)
+        order[i], order[j] = order[j], order[i]
+    return order
 
 
 def five(reg_seed, purpose, function):

@@ -78,6 +78,16 @@ five_slots : layout (object 2 (invalid ∷ jump_on ∷ []) (Slot.Entry 1 ∷ Slo
 unfolding u32_at quarter_round column_round diagonal_round double_rounds block_word stream_key stream_word shuffled positions piece_in order starts code_bytes address trampoline_bytes layout
 five_slots = refl
 
+-- a function in three pieces, in another order: its jump goes over a breakpoint, to the last piece
+abbrev in_pieces : Func
+in_pieces = record { kind = FuncKind.Plain; bytes = 233 ∷ 1 ∷ 0 ∷ 0 ∷ 0 ∷ 204 ∷ 15 ∷ 11 ∷ []; links = []; cuts = 5 ∷ 6 ∷ [] }
+
+four_pieces : layout (object 1 (in_pieces ∷ jump_on ∷ []) (Slot.Entry 0 ∷ Slot.Jump 1 ∷ []) [] []) 2049 ≡ image 268435472 (
+    segment 0x10000000 ((233 ∷ 59 ∷ 16 ∷ 183 ∷ 63 ∷ []) ++ (filler 11 ++ ((233 ∷ 91 ∷ 16 ∷ 183 ∷ 63 ∷ []) ++ filler 11))) 1 ∷
+    segment 1337397248 (filler 64 ++ ((233 ∷ 187 ∷ 239 ∷ 72 ∷ 192 ∷ []) ++ (filler 43 ++ ((233 ∷ 11 ∷ 0 ∷ 0 ∷ 0 ∷ []) ++ (filler 11 ++ ((15 ∷ 11 ∷ []) ++ filler 14)))))) 1 ∷ [])
+unfolding u32_at quarter_round column_round diagonal_round double_rounds block_word stream_key stream_word shuffled positions piece_in order starts code_bytes address trampoline_bytes layout decode
+four_pieces = refl
+
 -- the tour in an image, with its code wherever it fits
 abbrev slots_bytes : List ℕ
 slots_bytes = (233 ∷ 251 ∷ 255 ∷ 255 ∷ 47 ∷ []) ++ (filler 11 ++ ((233 ∷ 27 ∷ 0 ∷ 0 ∷ 48 ∷ []) ++ (filler 11 ++ ((144 ∷ 144 ∷ 65 ∷ 255 ∷ 211 ∷ 233 ∷ 230 ∷ 255 ∷ 255 ∷ 47 ∷ []) ++ (filler 6 ++ ((15 ∷ 5 ∷ 144 ∷ 144 ∷ 144 ∷ 233 ∷ 251 ∷ 255 ∷ 255 ∷ 47 ∷ []) ++ (filler 6 ++ ((232 ∷ 219 ∷ 255 ∷ 255 ∷ 47 ∷ 233 ∷ 187 ∷ 255 ∷ 255 ∷ 47 ∷ []) ++ (filler 6 ++ ((233 ∷ 203 ∷ 255 ∷ 255 ∷ 47 ∷ []) ++ (filler 11)))))))))))
