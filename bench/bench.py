@@ -36,6 +36,14 @@ def code_object(size, slots=1):
     return header + function + struct.pack("<IIII", 0, 0, 0, 0) + struct.pack("<IIII", 1, 0, 0, 0) * (slots - 1)
 
 
+def code_in_pieces(count):
+    """An object of one function in so many pieces of 512 bytes, each a row of `mov rax, rbx` and a jump to the next one."""
+    code = (b"\x48\x89\xd8" * 169 + b"\xe9\0\0\0\0") * (count - 1) + b"\x48\x89\xd8" * 170 + b"\x0f\x0b"
+    header = b"RDO1" + struct.pack("<IQQIIII", 2, 1, 2, 1, 1, 0, 0)
+    cuts = struct.pack(f"<{count - 1}I", *range(512, len(code), 512))
+    return header + struct.pack("<IIII", 0, len(code), 0, count - 1) + code + cuts + struct.pack("<IIII", 0, 0, 0, 0)
+
+
 def loop_image(turns, rights):
     """An image that counts down from `turns` by two instructions a turn, and ends with 0."""
     code = b"\x48\xb9" + struct.pack("<Q", turns)  # mov rcx, turns
@@ -99,6 +107,11 @@ class Bench:
         self.row("lay, 16 MiB of code", costs[1], "4 MiB", costs[0])
         copy = self.seconds(["cp", many, os.path.join(self.work, "copy")], 5)
         self.row("lay, 16 MiB of code", costs[1], "copying the object", copy)
+        few, many = (self.file(f"pieces-{n}.obj", code_in_pieces(n)) for n in (1 << 15, 1 << 17))
+        costs = [self.seconds([PROGRAM, "lay", path, "--layout-seed", "3"], 3) for path in (few, many)]
+        self.row("lay, 64 MiB of code in 131,072 pieces", costs[1], "16 MiB in 32,768", costs[0])
+        copy = self.seconds(["cp", many, os.path.join(self.work, "copy")], 3)
+        self.row("lay, 64 MiB of code in 131,072 pieces", costs[1], "copying the object", copy)
         few, many = (self.file(f"slots-{n}.obj", code_object(3, n)) for n in (1 << 18, 1 << 20))
         costs = [self.seconds([PROGRAM, "lay", path, "--layout-seed", "3"], 5) for path in (few, many)]
         self.row("lay, 2^20 slots", costs[1], "2^18", costs[0])

@@ -1,6 +1,6 @@
 """A part of bench.py: how `lay` and the verifier grow: costs of an object four times as large over those of the smaller one, in one run.
 
-Near 4 or less is linear. What the verifier costs is told by an object whose last function breaks the last rule of code,
+Near 4 or less is linear. What the verifier costs is told by an object whose last function breaks one of the last two rules,
 less one that breaks the first rule before any code is looked at; what decoding alone costs, by one that has no
 instruction at its very end. Each cost is processor time, the least of several runs, since other work on the machine only adds to it.
 """
@@ -20,7 +20,7 @@ from processor import at, pair
 PROGRAM = os.path.join(HERE, "..", "crates", "read_main", "out", "read_main")
 TAKEN, VERIFIED, DECODED, READ = "taken", "verified", "decoded", "read"
 # What `lay` has to say of each, so that a ratio is one of what it is named for.
-SAYS = {TAKEN: "", VERIFIED: "shape 8 function", DECODED: "shape 2 function", READ: "shape 1 whole"}
+SAYS = {TAKEN: "", VERIFIED: ("shape 8 function", "shape 9 function"), DECODED: "shape 2 function", READ: "shape 1 whole"}
 
 CODE = {
     "one byte": NOP,
@@ -32,9 +32,9 @@ CODE = {
 }
 
 
-def of_code(what, piece, size):
+def of_code(what, part, size):
     """One function of about so many bytes."""
-    code = piece * (size // len(piece)) + (b"\x0f\x0b\xea" if what == DECODED else UD2)
+    code = part * (size // len(part)) + (b"\x0f\x0b\xea" if what == DECODED else UD2)
     return Object([(SAVES if what == VERIFIED else PLAIN, code, [])], [] if what == READ else [START])
 
 
@@ -49,6 +49,12 @@ def of_functions(what, count):
     """So many functions of 1,000 bytes."""
     last = b"\xea" if what == DECODED else RET
     return Object([(PLAIN, NOP * 999 + RET, [])] * (count - 1) + [(SAVES if what == VERIFIED else PLAIN, last, [])], [] if what == READ else [START])
+
+
+def of_cuts(what, count):
+    """One function of so many instructions and one more, cut before each; a cut at its end is one too many."""
+    code = RET * count + (b"\xea" if what == DECODED else RET)
+    return Object([(PLAIN, code, [], list(range(1, count + 1 + (what == VERIFIED))))], [] if what == READ else [START])
 
 
 def of_slots(what, count):
@@ -89,10 +95,11 @@ def main(times=9):
     print("ratios     n         lay 4n / n   verify 4n/n   verify / decode, at 4n")
     with tempfile.TemporaryDirectory() as work:
         bench = Bench(work, times)
-        for name, piece in CODE.items():
-            bench.row(name, lambda what, size, piece=piece: of_code(what, piece, size), 2**20, True)
+        for name, part in CODE.items():
+            bench.row(name, lambda what, size, part=part: of_code(what, part, size), 2**20, True)
         bench.row("links", of_links, 2**20, True)
         bench.row("functions", of_functions, 1028, False)
+        bench.row("cuts", of_cuts, 32767, False)
         bench.row("slots", of_slots, 2**18, False)
     return 0
 

@@ -20,6 +20,8 @@ SAVED = [RBX, RBP, R12, R13, R14]
 CONDITIONS = [0, 1, 2, 3, 4, 5, 6, 7, 8, 9, 12, 13, 14, 15]
 PLAIN, SAVES = 0, 1
 ENTRY, JUMP, CALL, INDIRECT, SYSTEM = range(5)
+# What may stand last in a function, or before a cut.
+ENDS = ("jmp", "jmp_r11", "ret", "ud2", "int3")
 
 
 # Instructions
@@ -178,9 +180,9 @@ def row(code, start):
 # Draws
 
 
-def chacha_words(key):
-    """The first block of ChaCha20 under a key, with counter and stream 0."""
-    start = list(struct.unpack("<4I", b"expand 32-byte k")) + list(struct.unpack("<8I", key)) + [0] * 4
+def chacha_words(key, block=0):
+    """A block of ChaCha20 under a key, the first one by default, in stream 0."""
+    start = list(struct.unpack("<4I", b"expand 32-byte k")) + list(struct.unpack("<8I", key)) + [block, 0, 0, 0]
     s = start[:]
 
     def turn(n, by):
@@ -197,6 +199,23 @@ def chacha_words(key):
         for k in range(4):
             quarter(k, 4 + (k + 1) % 4, 8 + (k + 2) % 4, 12 + (k + 3) % 4)
     return [a + b & 0xFFFFFFFF for a, b in zip(s, start)]
+
+
+def drawn(seed, purpose):
+    """All words that a seed draws for a purpose."""
+    block = 0
+    while True:
+        yield from chacha_words(struct.pack("<IIQ16x", purpose, 0, seed), block)
+        block += 1
+
+
+def shuffled(seed, purpose, count):
+    """The order of so many numbers that a seed draws for a purpose."""
+    order, words = list(range(count)), drawn(seed, purpose)
+    for i in range(count - 1, 0, -1):
+        j = next(words) % (i + 1)
+        order[i], order[j] = order[j], order[i]
+    return order
 
 
 def five(reg_seed, purpose, function):
@@ -226,16 +245,19 @@ def prologue(reg_seed, function):
 
 class Object:
     def __init__(self, functions, slots, ro=b"", rw=b"", slot_seed=0, reg_seed=0):
-        """A function is a kind, its code and its links (at, slot); a slot is a kind, a target and a way back."""
-        self.functions, self.slots, self.ro, self.rw = functions, slots, ro, rw
+        """A function is a kind, its code, its links (at, slot) and, if it has any, its cuts; a slot is a kind, a target and a way back."""
+        self.functions, self.slots, self.ro, self.rw = [f if len(f) == 4 else (*f, []) for f in functions], slots, ro, rw
         self.slot_seed, self.reg_seed = slot_seed, reg_seed
 
-    def file(self):
-        out = [b"RDO1", struct.pack("<IQQ", 1, self.slot_seed, self.reg_seed)]
+    def file(self, form=2):
+        out = [b"RDO1", struct.pack("<IQQ", form, self.slot_seed, self.reg_seed)]
         out.append(struct.pack("<IIII", len(self.functions), len(self.slots), len(self.ro), len(self.rw)))
-        for kind, code, links in self.functions:
-            out.append(struct.pack("<III", kind, len(code), len(links)) + code)
+        for kind, code, links, cuts in self.functions:
+            assert form == 2 or not cuts
+            counts = [len(code), len(links)] + [len(cuts)] * (form == 2)
+            out.append(struct.pack(f"<I{len(counts)}I", kind, *counts) + code)
             out.extend(struct.pack("<II", place, slot) for place, slot in links)
+            out.extend(struct.pack("<I", place) for place in cuts)
         out.extend(struct.pack("<IIII", *slot) for slot in self.slots)
         return b"".join(out) + self.ro + self.rw
 
@@ -275,20 +297,25 @@ class Reader:
         self.exactly(bytes(4))
         return 0
 
-    def function(self):
+    def function(self, form):
         kind, size, links = self.below(2), self.field(), self.field()
+        cuts = self.field() if form == 2 else 0
         code = self.take(size)
-        return kind, code, [(self.field(), self.field()) for _ in range(links)]
+        return kind, code, [(self.field(), self.field()) for _ in range(links)], [self.field() for _ in range(cuts)]
 
     def slot(self):
         kind = self.below(5)
         return kind, self.used(kind in (ENTRY, JUMP, CALL)), self.used(kind >= CALL), self.used(kind >= CALL)
 
     def object(self):
-        self.exactly(b"RDO1\x01\0\0\0")
+        self.exactly(b"RDO1")
+        form = self.take(1)[0]
+        if form not in (1, 2):
+            raise NoForm(self.place - 1)
+        self.exactly(bytes(3))
         slot_seed, reg_seed = struct.unpack("<QQ", self.take(16))
         functions, slots, ro, rw = (self.field() for _ in range(4))
-        read = Object([self.function() for _ in range(functions)], [self.slot() for _ in range(slots)], self.take(ro), self.take(rw), slot_seed, reg_seed)
+        read = Object([self.function(form) for _ in range(functions)], [self.slot() for _ in range(slots)], self.take(ro), self.take(rw), slot_seed, reg_seed)
         if self.place < len(self.data):
             raise NoForm(self.place)
         return read
@@ -297,7 +324,7 @@ class Reader:
 # Rules
 
 
-def cut(code):
+def instructions_of(code):
     """The instructions by their places, or the first place where none begins."""
     found, place = {}, 0
     while place < len(code):
@@ -307,6 +334,11 @@ def cut(code):
         found[place] = instr
         place += instr.length
     return found, None if code else 0
+
+
+def cut_places(found):
+    """Where a function may be cut: where an instruction begins behind one that lets nothing run on."""
+    return [place + instr.length for place, instr in found.items() if instr.name in ENDS and place + instr.length in found]
 
 
 def bad_branches(found, links, code, slots):
@@ -340,37 +372,48 @@ def broken(o):
     """The first rule that an object breaks, with its first place, or None."""
     if not 1 <= len(o.functions) <= 4112 or not 1 <= len(o.slots) <= 2**20:
         return 1, "whole", 0, 0
-    if sum(len(code) for _, code, _ in o.functions) > 2**26 or len(o.ro) + len(o.rw) > 2**26:
+    if len(o.functions) + sum(len(cuts) for *_, cuts in o.functions) > 131072:
         return 1, "whole", 0, 0
-    cuts = []
-    for n, (_, code, _) in enumerate(o.functions):
-        found, stuck = cut(code)
+    if sum(len(code) for _, code, *_ in o.functions) > 2**26 or len(o.ro) + len(o.rw) > 2**26:
+        return 1, "whole", 0, 0
+    instrs = []
+    for n, (_, code, *_) in enumerate(o.functions):
+        found, stuck = instructions_of(code)
         if stuck is not None:
             return 2, "function", n, stuck
-        cuts.append(found)
+        instrs.append(found)
 
     def transfers(n):
-        return [place for place, instr in cuts[n].items() if instr.name in ("call", "call_r11", "syscall")]
+        return [place for place, instr in instrs[n].items() if instr.name in ("call", "call_r11", "syscall")]
 
     def branches(n):
-        return bad_branches(cuts[n], o.functions[n][2], o.functions[n][1], len(o.slots))
+        return bad_branches(instrs[n], o.functions[n][2], o.functions[n][1], len(o.slots))
 
     def ends(n):
-        last = max(cuts[n])
-        return [] if cuts[n][last].name in ("jmp", "jmp_r11", "ret", "ud2", "int3") else [last]
+        last = max(instrs[n])
+        return [] if instrs[n][last].name in ENDS else [last]
 
     def saved(n):
-        return [] if o.functions[n][0] == PLAIN or is_saved_well(o, n, o.functions[n][1], cuts[n]) else [0]
+        return [] if o.functions[n][0] == PLAIN or is_saved_well(o, n, o.functions[n][1], instrs[n]) else [0]
+
+    def cuts(n):
+        legal = set(cut_places(instrs[n]))
+        before = 0
+        for place in o.functions[n][3]:
+            if place <= before or place not in legal:
+                return [place]
+            before = place
+        return []
 
     def in_functions(rule, fails):
-        for n in range(len(cuts)):
+        for n in range(len(instrs)):
             bad = fails(n)
             if bad:
                 return rule, "function", n, min(bad)
         return None
 
     def is_start(function, offset):
-        return function < len(cuts) and offset in cuts[function]
+        return function < len(instrs) and offset in instrs[function]
 
     def in_slots(rule, passes):
         for k, slot in enumerate(o.slots):
@@ -379,7 +422,7 @@ def broken(o):
         return None
 
     def goals(_, kind, target, function, offset):
-        return (kind not in (ENTRY, JUMP, CALL) or target < len(cuts)) and (kind < CALL or is_start(function, offset))
+        return (kind not in (ENTRY, JUMP, CALL) or target < len(instrs)) and (kind < CALL or is_start(function, offset))
 
     return (
         in_functions(3, transfers)
@@ -388,6 +431,7 @@ def broken(o):
         or in_slots(6, goals)
         or in_slots(7, lambda k, kind, *_: (kind == ENTRY) == (k == 0))
         or in_functions(8, saved)
+        or in_functions(9, cuts)
     )
 
 
@@ -417,9 +461,9 @@ UD2, RET, NOP, OPEN = b"\x0f\x0b", b"\xc3", b"\x90", b"\xe9\0\0\0\0"
 START = (ENTRY, 0, 0, 0)
 
 
-def plain(code, links=(), slots=(START,)):
+def plain(code, links=(), slots=(START,), cuts=()):
     """An object of one plain function."""
-    return Object([(PLAIN, code, list(links))], list(slots))
+    return Object([(PLAIN, code, list(links), list(cuts))], list(slots))
 
 
 def with_slots(*slots):
@@ -463,8 +507,8 @@ def table():
     yield plain(b""), "shape 2 function 0 0"
     yield Object([(PLAIN, b"\x0f\x05", []), (PLAIN, NOP + b"\x40" + UD2, [])], [START]), "shape 2 function 1 1"
     yield Object([(PLAIN, UD2, []), (PLAIN, b"", [])], [START]), "shape 2 function 1 0"
-    for piece in ["eb00", "4090", "484801c0", "6601c0", "4201c0", "0fb6c0", "66660fb6c0", "010100", "0f8a00000000", "8b05", "48c7c000000000", "f3c3"]:
-        yield plain(bytes.fromhex(piece) + UD2), "shape 2 function 0 0"
+    for code in ["eb00", "4090", "484801c0", "6601c0", "4201c0", "0fb6c0", "66660fb6c0", "010100", "0f8a00000000", "8b05", "48c7c000000000", "f3c3"]:
+        yield plain(bytes.fromhex(code) + UD2), "shape 2 function 0 0"
     # transfers
     yield plain(NOP + b"\xe8\0\0\0\0" + UD2), "shape 3 function 0 1"
     yield plain(NOP + b"\x41\xff\xd3" + b"\x0f\x05" + UD2), "shape 3 function 0 1"
@@ -545,6 +589,36 @@ def table():
     yield Object([(SAVES, whole, [])], [START]), "shape 5 function 0 %d" % (len(whole) - len(push(five(0, 4, 0)[4])))
 
 
+def cut_table():
+    """The same for cuts."""
+    for cuts in [[], [5], [6], [5, 6]]:
+        yield parts(cuts), ""
+    for cuts, place in [([6, 5], 5), ([1], 1), ([0], 0), ([5, 5], 5), ([5, 6, 6], 6), ([8], 8), ([5, 7], 7), ([6, 0, 5], 0), ([2**32 - 1], 2**32 - 1)]:
+        yield parts(cuts), f"shape 9 function 0 {place}"
+    # behind what runs on, and behind each instruction that doesn't
+    for before in [NOP, set_word(3, 1), if_not(4, -6), push(0)]:
+        yield plain(before + UD2, cuts=[len(before)]), f"shape 9 function 0 {len(before)}"
+    for before in [UD2, RET, b"\xcc", b"\x41\xff\xe3", jump(0, 5)]:
+        yield plain(before + UD2, cuts=[len(before)]), ""
+        yield plain(before, cuts=[len(before)]), f"shape 9 function 0 {len(before)}"
+    # the test of a function that saves registers may be cut behind its breakpoint, and the first function counts
+    front = prologue(0, 0)
+    yield Object([(SAVES, front + UD2, [], [14])], [START]), ""
+    yield Object([(SAVES, front + UD2, [], [13])], [START]), "shape 9 function 0 13"
+    yield Object([(PLAIN, UD2, [], []), (PLAIN, UD2 + RET, [], [2, 1]), (PLAIN, UD2, [], [1])], [START]), "shape 9 function 1 1"
+    yield Object([(PLAIN, UD2, [], [1]), (SAVES, UD2, [], [])], [START]), "shape 8 function 1 0"
+    # functions and cuts together
+    yield plain(RET * 131072, cuts=range(1, 131072)), ""
+    yield plain(RET * 131073, cuts=range(1, 131073)), "shape 1 whole 0 0"
+    yield Object([(PLAIN, RET * 131071, [], list(range(1, 131071))), (PLAIN, RET, [])], [START]), ""
+    yield Object([(PLAIN, RET * 131071, [], list(range(1, 131071))), (PLAIN, RET, []), (PLAIN, RET, [])], [START]), "shape 1 whole 0 0"
+
+
+def parts(cuts):
+    """A jump over a breakpoint to an invalid instruction."""
+    return plain(jump(6, 5) + b"\xcc" + UD2, cuts=cuts)
+
+
 def some_instr(rng, regs):
     """A random instruction without control over the registers given."""
     d, s, w = rng.choice(regs), rng.choice(regs), rng.randrange(2)
@@ -577,28 +651,30 @@ def some_instr(rng, regs):
 def some_function(rng, kind, n, reg_seed, slots, count):
     """A function that keeps the rules: instructions, linked branches, and branches to starts of its own."""
     regs = [r for r in range(16) if r not in SAVED]
-    pieces, links, branches = [], [], []
+    row, links, branches = [], [], []
     if kind == SAVES:
         front = prologue(reg_seed, n)
-        pieces += [front[place : place + instr.length] for place, instr in cut(front)[0].items()]
+        row += [front[place : place + instr.length] for place, instr in instructions_of(front)[0].items()]
         colors = names(reg_seed, n)[: rng.randrange(6)]
-        pieces += [uses(r) for r in colors]
+        row += [uses(r) for r in colors]
         regs += colors
     for _ in range(count):
         if rng.random() < 0.2:
-            branches.append(len(pieces))
-            pieces.append(if_not(rng.choice(CONDITIONS)) if rng.random() < 0.5 else OPEN)
+            branches.append(len(row))
+            row.append(if_not(rng.choice(CONDITIONS)) if rng.random() < 0.5 else OPEN)
         else:
-            pieces.append(some_instr(rng, regs if kind == SAVES else list(range(16))))
-    pieces.append(rng.choice([UD2, RET, b"\xcc", b"\x41\xff\xe3"]))
-    starts = [sum(map(len, pieces[:i])) for i in range(len(pieces))]
+            row.append(some_instr(rng, regs if kind == SAVES else list(range(16))))
+    row.append(rng.choice([UD2, RET, b"\xcc", b"\x41\xff\xe3"]))
+    starts = [sum(map(len, row[:i])) for i in range(len(row))]
     for i in branches:
-        end = starts[i] + len(pieces[i])
+        end = starts[i] + len(row[i])
         if rng.random() < 0.5:
             links.append((end - 4, rng.randrange(slots)))
         else:
-            pieces[i] = pieces[i][:-4] + struct.pack("<i", rng.choice(starts) - end)
-    return (kind, b"".join(pieces), links), starts
+            row[i] = row[i][:-4] + struct.pack("<i", rng.choice(starts) - end)
+    code = b"".join(row)
+    cuts = [place for place in cut_places(instructions_of(code)[0]) if rng.random() < 0.5]
+    return (kind, code, links, cuts), starts
 
 
 def some_object(rng, most=4):
@@ -621,11 +697,11 @@ def some_object(rng, most=4):
 
 
 def small_object():
-    """An object with links, all kinds of slots, and functions of both kinds."""
+    """An object with links, cuts, all kinds of slots, and functions of both kinds."""
     code = NOP + if_not(4) + set_word(R11, 3) + if_not(5, -23) + OPEN
     registers = prologue(9, 1) + uses(*names(9, 1)[:2]) + RET
     slots = [START, (JUMP, 1, 0, 0), (CALL, 1, 0, 1), (INDIRECT, 0, 0, 7), (SYSTEM, 0, 1, 14)]
-    return Object([(PLAIN, code, [(3, 1), (24, 2)]), (SAVES, registers, [])], slots, b"ro", b"rw", 7, 9)
+    return Object([(PLAIN, code, [(3, 1), (24, 2)]), (SAVES, registers, [], [14])], slots, b"ro", b"rw", 7, 9)
 
 
 def changed(data, places, rng, count):
@@ -664,7 +740,7 @@ class Asker:
 
 
 def ask_table(asker):
-    for n, (o, wanted) in enumerate(table()):
+    for n, (o, wanted) in enumerate([*table(), *cut_table()]):
         data = o.file()
         if answer(data) != wanted:
             asker.failed += 1
@@ -673,7 +749,8 @@ def ask_table(asker):
 
 
 def ask_forms(asker, rng):
-    least = plain(UD2).file()
+    least = plain(UD2).file(1)
+    asker.ask(least, "", "the least object in format 1")
     asker.ask(least[:-1], "form 69", "a byte less")
     asker.ask(least + b"\0", "form 70", "a byte more")
     asker.ask(b"", "form 0", "no byte")
@@ -685,6 +762,16 @@ def ask_forms(asker, rng):
         asker.ask(with_count(least, place, 2**32 - 1), f"form {len(least)}", "a large count")
     for data in changed(small, range(len(small)), rng, 3):
         asker.compare(data, "a changed byte")
+    cut = parts([5, 6]).file()
+    for length in range(len(cut)):
+        asker.ask(cut[:length], f"form {length}", "a prefix of a function in pieces")
+    asker.ask(cut + b"\0", f"form {len(cut)}", "a byte more")
+    for place in (24, 28, 32, 36, 44, 48, 52):
+        asker.ask(with_count(cut, place, 2**32 - 1), f"form {len(cut)}", "a large count")
+    for data in (cut, parts([]).file(1)):
+        for place in range(len(data)):
+            for bit in range(8):
+                asker.compare(data[:place] + bytes([data[place] ^ 1 << bit]) + data[place + 1 :], "a changed bit")
 
 
 def ask_random(asker, rng, count):

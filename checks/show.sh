@@ -1,5 +1,6 @@
 #!/usr/bin/env bash
-# Two layouts of an object differ as files, and show one text before their first instruction, after each, and once they have stopped.
+# Two layouts of an object differ as files, and show one text before their first instruction, after each, and once they have stopped; so do
+# 1,000 layouts of a function in pieces.
 . "$(dirname "$0")/square.bash"
 cmp -s "$work/image-3" "$work/image-4" && fail "two seeds give the same image"
 
@@ -16,3 +17,8 @@ while [ "$stopped" -lt 2 ]; do
 done
 grep -q '^outcome ended 227$' "$work/text-3" || fail "another end: $(grep '^outcome' "$work/text-3")"
 echo "two layouts show one text at $steps places"
+if command -v python3 >/dev/null; then
+  python3 checks/pieces.py crates/read_main/out/read_main || fail "layouts of pieces differ"
+else
+  echo "left out: python3 is wanted for layouts of pieces"
+fi

@@ -25,17 +25,17 @@ one_bounded fs gs n f bytes same few h e same_bytes =
     let d : sum (map (λ (g : Func). length g.bytes) fs) ≡ sum (map (λ (g : Func). length g.bytes) gs) = ap (λ (hs : List Func). sum (map (λ (g : Func). length g.bytes) hs)) same in
     omega arith
 
-cut_push : (fs : List Func) (cs : List Notes) (f : Func) (c : Notes) → AreNoted fs cs → IsNoted f.bytes c → AreNoted (fs ++ f ∷ []) (cs ++ c ∷ [])
-cut_push [] [] f c h k = (k, tt)
-cut_push [] (d ∷ cs) f c h k = absurd h
-cut_push (g ∷ fs) [] f c h k = absurd h
-cut_push (g ∷ fs) (d ∷ cs) f c h k = (h.0, cut_push fs cs f c h.1 k)
+noted_push : (fs : List Func) (cs : List Notes) (f : Func) (c : Notes) → AreNoted fs cs → IsNoted f.bytes c → AreNoted (fs ++ f ∷ []) (cs ++ c ∷ [])
+noted_push [] [] f c h k = (k, tt)
+noted_push [] (d ∷ cs) f c h k = absurd h
+noted_push (g ∷ fs) [] f c h k = absurd h
+noted_push (g ∷ fs) (d ∷ cs) f c h k = (h.0, noted_push fs cs f c h.1 k)
 
 -- one function more
 pub note_more : (fs : List Func) (n : ℕ) (cs : List Notes) (f : Func) (bytes : List ℕ) (c : Notes) → n < length fs → f ≡ get_or fs n f → bytes ≡ f.bytes → AreNoted (take n fs) cs → IsNoted bytes c → AreNoted (take (n + 1) fs) (cs ++ c ∷ [])
 note_more fs n cs f bytes c h e same_bytes are k =
     let more : take (n + 1) fs ≡ take n fs ++ f ∷ [] = take_more fs n f h ∙ ap (λ (g : Func). take n fs ++ g ∷ []) (sym e) in
-    subst (λ gs. AreNoted gs (cs ++ c ∷ [])) (sym more) (cut_push (take n fs) cs f c are (subst (λ bs. IsNoted bs c) same_bytes k))
+    subst (λ gs. AreNoted gs (cs ++ c ∷ [])) (sym more) (noted_push (take n fs) cs f c are (subst (λ bs. IsNoted bs c) same_bytes k))
 
 one_disassembly : (f : Func) (fs : List Func) (row : List Instr) (disassemblies : List (List Instr)) → IsDisassembly f.bytes row → 1 ≤ length row → AreDisassemblies fs disassemblies → AreDisassemblies (f ∷ fs) (row ∷ disassemblies)
 one_disassembly f fs [] disassemblies c some h = absurd (omega arith)

@@ -10,25 +10,25 @@ use Rattle.obj_core.specs.Object.{IsFunc, IsObject}
 use Rattle.obj_core.specs.Disassembly.{AreDisassemblies, spelled}
 use Rattle.obj_core.proofs.Kept.{function_keeps}
 use Rattle.obj_core.proofs.Inside.{disassembly_at, few_links}
-use Rattle.obj_core.specs.WellFormed.{AreFew, Violation, IsFirstStuck, or_else, in_slots, in_functions, is_good_slot, agrees_with, zero_unless, is_saved_well, violation}
+use Rattle.obj_core.specs.WellFormed.{AreFew, Violation, IsFirstStuck, or_else, in_slots, is_good_slot, agrees_with, violation}
 use Rattle.obj_check.specs.declared.notes.Notes.{Notes}
 use Rattle.obj_check.specs.declared.fault.Broken.{Broken}
 use Rattle.obj_check.specs.declared.fault.ShapeSpot.{ShapeSpot}
 use Rattle.obj_check.specs.Disassembled.{AreNoted, disassemblies_of}
 use Rattle.obj_check.specs.Least.{as_violation}
-use Rattle.obj_check.specs.Judging.{later_violation, Judges}
+use Rattle.obj_check.specs.Judging.{last_violation, later_violation, Judges}
 use Rattle.obj_check.specs.Ranges.{AreFuncNumbers, AreNumbers}
 use Rattle.obj_check.proofs.Eaches.{each_got, got_each}
 use Rattle.obj_check.proofs.Disassembled.{are_disassemblies}
 
 module _ (o : Object) (numbers : AreNumbers o) (few : AreFew o) where
-  -- a function is not longer than all of them
-  one_of_all : (fs : List Func) (n : ℕ) (f : Func) → slice_get fs n ≡ Some f → length f.bytes ≤ sum (map (λ (g : Func). length g.bytes) fs)
-  one_of_all [] n f e = absurd (cc)
-  one_of_all (g ∷ fs) zero f e =
-      let same : length g.bytes ≡ length f.bytes = ap (λ (x : Option Func). length (unwrap_or x g).bytes) e in
-      omega (arith, same, sum_by-cons (λ (m : ℕ). m) (length g.bytes) (map (λ (x : Func). length x.bytes) fs))
-  one_of_all (g ∷ fs) (suc n) f e = omega (arith, one_of_all fs n f e, sum_by-cons (λ (m : ℕ). m) (length g.bytes) (map (λ (x : Func). length x.bytes) fs))
+  -- a function is not longer than all of them, and has no more cuts
+  one_of_all : (size : Func → ℕ) (fs : List Func) (n : ℕ) (f : Func) → slice_get fs n ≡ Some f → size f ≤ sum (map size fs)
+  one_of_all size [] n f e = absurd (cc)
+  one_of_all size (g ∷ fs) zero f e =
+      let same : size g ≡ size f = ap (λ (x : Option Func). size (unwrap_or x g)) e in
+      omega (arith, same, sum_by-cons (λ (m : ℕ). m) (size g) (map size fs))
+  one_of_all size (g ∷ fs) (suc n) f e = omega (arith, one_of_all size fs n f e, sum_by-cons (λ (m : ℕ). m) (size g) (map size fs))
 
   module _ (disassemblies : List (List Instr)) (disassembled : AreDisassemblies o.functions disassemblies) (kept : violation o disassemblies ≡ None) where
     -- the counts of a function fit their fields
@@ -38,12 +38,17 @@ module _ (o : Object) (numbers : AreNumbers o) (few : AreFew o) where
         let rules = function_keeps o disassemblies kept n f d.instrs e d.there in
         let long : length (spelled d.instrs) ≡ length f.bytes = ap length d.is_disassembly.whole in
         let known = got_each AreFuncNumbers o.functions n f numbers.functions e in
-        let small : length f.bytes ≤ 67108864 = omega (arith, one_of_all o.functions n f e, few.code) in
+        let part : length f.bytes ≤ sum (map (λ (g : Func). length g.bytes) o.functions) = one_of_all (λ (g : Func). length g.bytes) o.functions n f e in
+        let small : length f.bytes ≤ 67108864 = omega (arith, part, few.code) in
+        let cuts : length f.cuts ≤ sum (map (λ (g : Func). length g.cuts) o.functions) = one_of_all (λ (g : Func). length g.cuts) o.functions n f e in
+        let few_cuts : length f.cuts ≤ 131072 = omega (arith, cuts, few.pieces) in
         record {
           bytes = known.bytes;
           links = known.links;
+          cuts = known.cuts;
           length_fits = omega (arith, small);
           links_fit = omega (arith, small, long, few_links d.instrs (length o.slots) f.links rules.links);
+          cuts_fit = omega (arith, few_cuts);
         }
 
     -- and those of the object
@@ -84,5 +89,5 @@ or_else_assoc (Some x) v r = refl
 
 -- the rules that are asked last, in one row
 pub later_is : (o : Object) (disassemblies : List (List Instr)) →
-    later_violation o disassemblies ≡ or_else (in_slots 6 (λ (k : ℕ) (s : Slot). is_good_slot disassemblies s) 0 o.slots) (or_else (in_slots 7 agrees_with 0 o.slots) (in_functions 8 (λ (n : ℕ) (f : Func) (instrs : List Instr). zero_unless (is_saved_well o.reg_seed n f instrs)) 0 o.functions disassemblies))
-later_is o disassemblies = or_else_assoc (in_slots 6 (λ (k : ℕ) (s : Slot). is_good_slot disassemblies s) 0 o.slots) (in_slots 7 agrees_with 0 o.slots) (in_functions 8 (λ (n : ℕ) (f : Func) (instrs : List Instr). zero_unless (is_saved_well o.reg_seed n f instrs)) 0 o.functions disassemblies)
+    later_violation o disassemblies ≡ or_else (in_slots 6 (λ (k : ℕ) (s : Slot). is_good_slot disassemblies s) 0 o.slots) (or_else (in_slots 7 agrees_with 0 o.slots) (last_violation o disassemblies))
+later_is o disassemblies = or_else_assoc (in_slots 6 (λ (k : ℕ) (s : Slot). is_good_slot disassemblies s) 0 o.slots) (in_slots 7 agrees_with 0 o.slots) (last_violation o disassemblies)

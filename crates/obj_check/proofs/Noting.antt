@@ -6,7 +6,7 @@ use Rattle.x86_core.specs.declared.reg.Reg.{Reg}
 use Rattle.x86_core.specs.Encoding.{encoding}
 use Rattle.obj_core.specs.Disassembly.{Found, found, found_from, size_of, spelled, starts_at, IsDisassembly}
 use Rattle.obj_core.specs.Saved.{registers_of, is_push_or_pop, is_among, occurs}
-use Rattle.obj_core.specs.WellFormed.{displacement, is_zero, is_slots_own, is_end, end_of, fills_zero, forbidden_in, open_end}
+use Rattle.obj_core.specs.WellFormed.{displacement, is_zero, is_slots_own, is_end, end_of, fills_zero, stops_at, forbidden_in, open_end}
 use Rattle.obj_check.specs.declared.instr_at.InstrAt.{InstrAt}
 use Rattle.obj_check.specs.declared.notes.Notes.{Notes}
 use Rattle.obj_check.specs.Instrs.{StandsAt}
@@ -37,6 +37,12 @@ zeros_push [] x k = refl
 zeros_push (y ∷ ys) x k =
     ap (λ (b : Bool). (nat_eq (end_of y) (k + 4) && is_zero (displacement y.instr)) || b) (zeros_push ys x k) ∙
     or_swap (nat_eq (end_of y) (k + 4) && is_zero (displacement y.instr)) (nat_eq (end_of x) (k + 4) && is_zero (displacement x.instr)) (fills_zero ys k)
+
+stops_push : (xs : List Found) (x : Found) (k : ℕ) → stops_at (xs ++ x ∷ []) k ≡ ((nat_eq (end_of x) k && is_end x.instr) || stops_at xs k)
+stops_push [] x k = refl
+stops_push (y ∷ ys) x k =
+    ap (λ (b : Bool). (nat_eq (end_of y) k && is_end y.instr) || b) (stops_push ys x k) ∙
+    or_swap (nat_eq (end_of y) k && is_end y.instr) (nat_eq (end_of x) k && is_end x.instr) (stops_at ys k)
 
 occurs_push : (row : List Instr) (i : Instr) (r : Reg) → occurs r (row ++ i ∷ []) ≡ ((if is_push_or_pop i then false else is_among r (registers_of i)) || occurs r row)
 occurs_push [] i r = refl
@@ -88,6 +94,10 @@ notes_more row old new p h m e z =
           m.zeros (k + 4) ∙ ap (λ (b : Bool). (nat_eq p.end (k + 4) && is_zero (displacement p.instr)) || b) (h.zeros k) ∙
           ap (λ (n : ℕ). (nat_eq n (k + 4) && is_zero (displacement p.instr)) || fills_zero (found row) k) ends ∙
           sym (zeros_push (found row) x k) ∙ ap (λ (xs : List Found). fills_zero xs k) (sym all);
+      stops = λ k.
+          m.stops k ∙ ap (λ (b : Bool). (nat_eq p.end k && is_end p.instr) || b) (h.stops k) ∙
+          ap (λ (n : ℕ). (nat_eq n k && is_end p.instr) || stops_at (found row) k) ends ∙
+          sym (stops_push (found row) x k) ∙ ap (λ (xs : List Found). stops_at xs k) (sym all);
       registers = λ r.
           m.registers r ∙ ap (λ (b : Bool). (if is_push_or_pop p.instr then false else is_among r (registers_of p.instr)) || b) (h.registers r) ∙ sym (occurs_push row p.instr r);
       transfer =
@@ -110,15 +120,17 @@ pub noted_more : (bytes : List ℕ) (at : ℕ) (old new : Notes) (p : InstrAt) �
 noted_more bytes at old new p h s keeps more =
     let a = h.room.starts in
     let b = h.room.zeros in
+    let g = h.room.stops in
     let d = h.room.registers in
     let ka = keeps.starts in
     let kb = keeps.zeros in
+    let kg = keeps.stops in
     let kd = keeps.registers in
     record {
       instrs = h.instrs ++ p.instr ∷ [];
       row = row_more bytes at h.instrs p h.row s;
       notes = notes_more h.instrs old new p h.notes more (s.here ∙ h.row.long) s.is_whole.end;
-      room = record { starts = omega arith; zeros = omega arith; registers = omega arith };
+      room = record { starts = omega arith; zeros = omega arith; stops = omega arith; registers = omega arith };
     }
 
 pub noted_whole : (bytes : List ℕ) (at : ℕ) (c : Notes) → 0 < length bytes → NotedTo bytes at c → length bytes ≤ at → IsNoted bytes c

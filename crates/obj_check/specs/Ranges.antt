@@ -2,12 +2,13 @@
 use Rattle.std.specs.Prelude.{◌^◌, ◌<◌}
 use Rattle.obj_core.specs.declared.object.Object.{Object}
 use Rattle.obj_core.specs.declared.object.Func.{Func}
-use Rattle.obj_core.specs.Object.{Each, IsByte, IsLink, IsSlot}
+use Rattle.obj_core.specs.Object.{Each, IsByte, IsField, IsLink, IsSlot}
 
 -- the numbers of a function
 pub record AreFuncNumbers (f : Func) : Type 0 where
   pub bytes : Each IsByte f.bytes
   pub links : Each IsLink f.links
+  pub cuts : Each IsField f.cuts
 
 -- the numbers of an object
 pub record AreNumbers (o : Object) : Type 0 where

@@ -1,4 +1,4 @@
-//! The rules of code: the first function in which a rule fails, and the least offset there.
+//! The rules of code: the first function in which a rule fails, and the offset there.
 //!
 //! A rule is asked of the functions in their order, from what is noted of them; the first one that
 //! fails it ends the search. Which rule is asked what is told by `CodeRule`. Rules on slots are in
@@ -12,6 +12,7 @@ ghost use Rattle.obj_check.specs.Least.{least_with, as_violation};
 ghost use Rattle.obj_check.specs.Failing.{rule_number, failing};
 
 use crate::branches::first_bad_branch;
+use crate::cuts::first_bad_cut;
 use crate::fault::{Broken, ShapeSpot};
 use crate::notes::Notes;
 use crate::saved::is_saved_well;
@@ -30,6 +31,8 @@ pub enum CodeRule {
     Ends,
     /// A saved function begins with its test and its pushes, and uses the registers of the first colours.
     Saved,
+    /// Cuts rise, and each is between an instruction that nothing runs past and another one.
+    Cuts,
 }
 
 /// The number of a rule.
@@ -41,6 +44,7 @@ fn number(rule: CodeRule) -> u8
         CodeRule::Branches => 4,
         CodeRule::Ends => 5,
         CodeRule::Saved => 8,
+        CodeRule::Cuts => 9,
     }
 }
 
@@ -73,7 +77,7 @@ pub fn first_in_functions(
     Ok(None)
 }
 
-/// The least offset of a function at which a rule fails.
+/// The offset of a function at which a rule fails: of cuts the first in their order, else the least.
 fn first_in_function(
     alloc: Global,
     rule: CodeRule,
@@ -98,5 +102,6 @@ fn first_in_function(
                 Ok(Some(0))
             }
         }
+        CodeRule::Cuts => Ok(first_bad_cut(function, notes)),
     }
 }

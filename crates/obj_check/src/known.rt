@@ -4,7 +4,7 @@
 //! number of an object and do nothing with it; their contracts say that it is in the range of its
 //! type. Nothing is asked of the object, and no memory is taken.
 
-ghost use Rattle.obj_core.specs.Object.{Each, IsByte, IsCodeAt, IsLink, IsSlot};
+ghost use Rattle.obj_core.specs.Object.{Each, IsByte, IsCodeAt, IsField, IsLink, IsSlot};
 ghost use Rattle.obj_check.specs.Ranges.{AreFuncNumbers, AreNumbers};
 
 use obj_core::object::{CodeAt, Func, Link, Object, Slot};
@@ -37,6 +37,7 @@ fn function_known(function: &Func)
 {
     bytes_known(&function.bytes);
     links_known(function.links.as_slice());
+    cuts_known(function.cuts.as_slice());
 }
 
 /// The same of bytes.
@@ -61,6 +62,22 @@ fn link_known(link: &Link)
 {
     let _at = link.at;
     let _slot = link.slot;
+}
+
+/// The same of cuts.
+fn cuts_known(cuts: &[u32])
+    ensures { Each IsField cuts.now }
+{
+    for cut in cuts {
+        cut_known(cut);
+    }
+}
+
+/// The same of one cut.
+fn cut_known(cut: &u32)
+    ensures { IsField cut.now }
+{
+    let _cut = *cut;
 }
 
 /// The same of slots.

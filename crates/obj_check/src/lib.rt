@@ -1,22 +1,23 @@
 //! The verifier of objects: takes exactly the well-formed ones, and asks nothing of the others.
 //!
-//! Eight rules are asked in order: sizes (`few`), whole instructions (`disassembly`), transfers and
+//! Nine rules are asked in order: sizes (`few`), whole instructions (`disassembly`), transfers and
 //! ends (`code`), branches and links (`branches`), goals of slots and the entry (`slots`), saved
-//! registers (`saved`); the first that fails is told, where it fails first. Code is decoded twice:
+//! registers (`saved`), cuts (`cuts`); the first that fails is told, where it fails first. Code is decoded twice:
 //! by `disassembly`, which notes what the rules ask (`notes`), and by `branches`, when all starts are
 //! known. No instruction is kept: where one starts is a bit of a table (`marks`). Time is linear in
-//! the object; memory is two bits a byte of code, and a third for the function that is looked at.
+//! the object; memory is three bits a byte of code, and a fourth for the function that is looked at.
 #![tactic(auto)]
 
 ghost use Rattle.std.specs.Prelude.{◌≡◌, IfOk, IfErr};
 ghost use Rattle.obj_core.specs.WellFormed.{AreFew, IsWellFormed, violation};
 ghost use Rattle.obj_check.specs.Disassembled.{AreNoted, disassemblies_of};
 ghost use Rattle.obj_check.specs.Least.{as_violation};
-ghost use Rattle.obj_check.specs.Judging.{later_violation, Judges, NamesViolation};
+ghost use Rattle.obj_check.specs.Judging.{last_violation, later_violation, Judges, NamesViolation};
 
 mod asked;
 mod branches;
 mod code;
+mod cuts;
 mod disassembly;
 pub mod fault;
 mod few;
@@ -90,7 +91,7 @@ fn first_broken(alloc: Global, o: &Object) -> Result<Option<Broken>, NoMemory>
     }
 }
 
-/// The first of rules 3 to 8 that fails.
+/// The first of rules 3 to 9 that fails.
 fn first_in_noted(alloc: Global, o: &Object, noted: &[Notes]) -> Result<Option<Broken>, NoMemory>
     requires noted { AreNoted o.now.functions noted.now }
     requires few { AreFew o.now }
@@ -109,7 +110,7 @@ fn first_in_noted(alloc: Global, o: &Object, noted: &[Notes]) -> Result<Option<B
     first_in_rest(alloc, o, noted)
 }
 
-/// The first of rules 6 to 8 that fails.
+/// The first of rules 6 to 9 that fails.
 fn first_in_rest(alloc: Global, o: &Object, noted: &[Notes]) -> Result<Option<Broken>, NoMemory>
     requires noted { AreNoted o.now.functions noted.now }
     requires few { AreFew o.now }
@@ -118,6 +119,19 @@ fn first_in_rest(alloc: Global, o: &Object, noted: &[Notes]) -> Result<Option<Br
 {
     match first_bad_slot(o.functions.as_slice(), noted, o.slots.as_slice()) {
         Some(broken) => Ok(Some(broken)),
-        None => first_in_functions(alloc, CodeRule::Saved, o, noted),
+        None => first_in_last(alloc, o, noted),
     }
+}
+
+/// The first of rules 8 and 9 that fails.
+fn first_in_last(alloc: Global, o: &Object, noted: &[Notes]) -> Result<Option<Broken>, NoMemory>
+    requires noted { AreNoted o.now.functions noted.now }
+    requires few { AreFew o.now }
+    ensures { IfOk result (λ r. as_violation r ≡
+        last_violation o.now (disassemblies_of o.now.functions)) }
+{
+    if let Some(broken) = first_in_functions(alloc, CodeRule::Saved, o, noted)? {
+        return Ok(Some(broken));
+    }
+    first_in_functions(alloc, CodeRule::Cuts, o, noted)
 }

@@ -1,6 +1,6 @@
 //! What the rules ask of a function's instructions, noted while they are decoded one after another.
 //!
-//! Notes begin empty and take one instruction at a time, in order; they hold two bits a byte of the
+//! Notes begin empty and take one instruction at a time, in order; they hold three bits a byte of the
 //! function, the registers that occur, and two offsets. What they say is what the rules ask of the
 //! list of these instructions (`specs/Noted.antt`), so the list itself need not be kept.
 
@@ -26,6 +26,8 @@ pub struct Notes {
     pub starts: Table,
     /// The offsets at which a branch with displacement 0 ends.
     pub zeros: Table,
+    /// The offsets at which an instruction ends that lets nothing run on.
+    pub stops: Table,
     /// The numbers of the registers that occur outside of pushes and pops.
     pub registers: Table,
     /// The least offset of a transfer that only a slot may make.
@@ -41,10 +43,12 @@ pub fn no_notes(alloc: Global, size: usize) -> Result<Notes, NoMemory>
 {
     let starts = blank(alloc, size)?;
     let zeros = blank(alloc, size)?;
+    let stops = blank(alloc, size)?;
     let registers = blank(alloc, 15)?;
     Ok(Notes {
         starts,
         zeros,
+        stops,
         registers,
         transfer: None,
         last_open: None,
@@ -70,6 +74,18 @@ fn note_zero(zeros: &mut Table, here: &InstrAt)
 {
     if is_zero_branch(&here.instr) {
         mark(zeros, here.end as usize);
+    }
+}
+
+/// Notes where an instruction ends that lets nothing run on.
+fn note_stop(stops: &mut Table, here: &InstrAt)
+    requires { here.now.end < room stops.old }
+    ensures room { room stops.new ≡ room stops.old }
+    ensures marks { (k : ℕ) → marked stops.new k ≡
+        ((nat_eq here.now.end k && is_end here.now.instr) || marked stops.old k) }
+{
+    if is_end(&here.instr) {
+        mark(stops, here.end as usize);
     }
 }
 
@@ -118,6 +134,7 @@ pub fn note(notes: &mut Notes, here: &InstrAt)
 {
     mark(&mut notes.starts, here.at as usize);
     note_zero(&mut notes.zeros, here);
+    note_stop(&mut notes.stops, here);
     note_registers(&mut notes.registers, here);
     notes.transfer = transfer_with(notes.transfer, here);
     notes.last_open = open_at(here);

@@ -8,7 +8,7 @@ use Rattle.obj_core.specs.declared.object.Func.{Func}
 use Rattle.obj_core.specs.declared.object.Slot.{Slot}
 use Rattle.obj_core.specs.declared.object.Link.{Link}
 use Rattle.obj_core.specs.Disassembly.{Found, found}
-use Rattle.obj_core.specs.WellFormed.{forbidden_in, fills_zero, is_good_link, bad_links, bad_branches, open_end, is_good_slot, OfSlot, Violation, or_else, at_least_offset, in_functions, in_slots, violation}
+use Rattle.obj_core.specs.WellFormed.{forbidden_in, fills_zero, is_good_link, bad_links, bad_branches, open_end, is_good_slot, zero_unless, is_saved_well, agrees_with, bad_cut, OfSlot, Violation, or_else, at_least_offset, in_functions, in_slots, violation}
 
 -- where neither of two fails, each holds
 neither : (v w : Option Violation) → or_else v w ≡ None → (v ≡ None) × (w ≡ None)
@@ -74,6 +74,7 @@ pub record KeepsRules (slots : ℕ) (f : Func) (instrs : List Instr) : Type 0 wh
   pub links : bad_links None (found instrs) slots f.links ≡ []
   pub branches : bad_branches f.links (found instrs) (found instrs) ≡ []
   pub ends : open_end (found instrs) ≡ []
+  pub cuts : bad_cut 0 (found instrs) f.cuts ≡ []
 
 module _ (o : Object) (disassemblies : List (List Instr)) (kept : violation o disassemblies ≡ None) where
   pub function_keeps : (n : ℕ) (f : Func) (instrs : List Instr) → slice_get o.functions n ≡ Some f → slice_get disassemblies n ≡ Some instrs → KeepsRules (length o.slots) f instrs
@@ -81,12 +82,16 @@ module _ (o : Object) (disassemblies : List (List Instr)) (kept : violation o di
       let x = neither (in_functions 3 (λ m g c. forbidden_in (found c)) 0 o.functions disassemblies) _ kept in
       let y = neither (in_functions 4 (λ m g c. bad_links None (found c) (length o.slots) g.links ++ bad_branches g.links (found c) (found c)) 0 o.functions disassemblies) _ x.1 in
       let z = neither (in_functions 5 (λ m g c. open_end (found c)) 0 o.functions disassemblies) _ y.1 in
+      let w = neither (in_slots 6 (λ m s. is_good_slot disassemblies s) 0 o.slots) _ z.1 in
+      let v = neither (in_slots 7 agrees_with 0 o.slots) _ w.1 in
+      let t = neither (in_functions 8 (λ m g c. zero_unless (is_saved_well o.reg_seed m g c)) 0 o.functions disassemblies) _ v.1 in
       let both = no_more _ _ (holds_at 4 (λ g c. bad_links None (found c) (length o.slots) g.links ++ bad_branches g.links (found c) (found c)) 0 o.functions disassemblies y.0 n f instrs e d) in
       record {
         own = holds_at 3 (λ g c. forbidden_in (found c)) 0 o.functions disassemblies x.0 n f instrs e d;
         links = both.0;
         branches = both.1;
         ends = holds_at 5 (λ g c. open_end (found c)) 0 o.functions disassemblies z.0 n f instrs e d;
+        cuts = holds_at 9 (λ g c. bad_cut 0 (found c) g.cuts) 0 o.functions disassemblies t.1 n f instrs e d;
       }
 
   pub slot_keeps : (k : ℕ) (s : Slot) → slice_get o.slots k ≡ Some s → is_good_slot disassemblies s ≡ true

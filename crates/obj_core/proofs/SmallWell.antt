@@ -8,10 +8,10 @@ use Rattle.obj_core.specs.Small.{invalid, jump_on, small}
 use Rattle.obj_core.specs.WellFormed.{AreFew, IsWellFormed}
 
 invalid_is : IsFunc invalid
-invalid_is = record { bytes = (omega arith, (omega arith, tt)); links = tt; length_fits = omega arith; links_fit = omega arith }
+invalid_is = record { bytes = (omega arith, (omega arith, tt)); links = tt; cuts = tt; length_fits = omega arith; links_fit = omega arith; cuts_fit = omega arith }
 
 jump_is : IsFunc jump_on
-jump_is = record { bytes = (omega arith, (omega arith, (omega arith, (omega arith, (omega arith, tt))))); links = (record { at = omega arith; slot = omega arith }, tt); length_fits = omega arith; links_fit = omega arith }
+jump_is = record { bytes = (omega arith, (omega arith, (omega arith, (omega arith, (omega arith, tt))))); links = (record { at = omega arith; slot = omega arith }, tt); cuts = tt; length_fits = omega arith; links_fit = omega arith; cuts_fit = omega arith }
 
 -- its numbers are in range
 small_is : IsObject small
@@ -30,9 +30,9 @@ small_is = record {
 
 -- its sizes
 small_few : AreFew small
-small_few = record { some_function = omega arith; functions = omega arith; some_slot = omega arith; slots = omega arith; code = omega arith; data_bytes = omega arith }
+small_few = record { some_function = omega arith; functions = omega arith; pieces = omega arith; some_slot = omega arith; slots = omega arith; code = omega arith; data_bytes = omega arith }
 
--- and all eight rules hold
+-- and all nine rules hold
 small_is_well : IsWellFormed small
 small_is_well = record {
   object = small_is;

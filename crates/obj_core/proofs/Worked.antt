@@ -26,7 +26,7 @@ use Rattle.obj_core.specs.SymbolicMachine.{symbolic_step, symbolic_behavior}
 
 -- a plain function
 abbrev pub plain : List ℕ → List Link → Func
-plain bytes links = record { kind = FuncKind.Plain; bytes = bytes; links = links }
+plain bytes links = record { kind = FuncKind.Plain; bytes = bytes; links = links; cuts = [] }
 
 -- a link
 abbrev pub link : ℕ → ℕ → Link

@@ -37,7 +37,7 @@ names_are = refl
 
 -- an object of one saved function with these instructions
 abbrev saving : List Instr → Object
-saving instrs = record { slot_seed = 0; reg_seed = 1; functions = record { kind = FuncKind.Saved; bytes = spelled instrs; links = [] } ∷ []; slots = Slot.Entry 0 ∷ []; ro = []; rw = [] }
+saving instrs = record { slot_seed = 0; reg_seed = 1; functions = record { kind = FuncKind.Saved; bytes = spelled instrs; links = []; cuts = [] } ∷ []; slots = Slot.Entry 0 ∷ []; ro = []; rw = [] }
 
 -- what begins with a test and with these pushes
 abbrev behind_pushes : Reg → Reg → Reg → Reg → Reg → List Instr → List Instr

@@ -1,7 +1,10 @@
 -- The disassembly of a function: the one list of instructions that its bytes are.
-use Rattle.std.specs.Prelude.{◌≡◌, ℕ, ◌+◌, Bool, false, ◌||◌, nat_eq, List, [], ◌∷◌, ◌++◌, length}
+use Rattle.std.specs.Prelude.{◌≡◌, ℕ, zero, suc, ◌+◌, ◌-◌, Bool, false, ◌||◌, nat_eq, List, [], ◌∷◌, ◌++◌, length}
 use Rattle.x86_core.specs.declared.instr.Instr.{Instr}
+use Rattle.x86_core.specs.declared.instr.Decoded.{Decoded}
+use Rattle.x86_core.specs.declared.instr.Decoded.TheVariants.{One, Short, Unknown}
 use Rattle.x86_core.specs.Encoding.{encoding, IsInstr}
+use Rattle.x86_core.specs.Decoding.{decode}
 use Rattle.obj_core.specs.declared.object.Func.{Func}
 use Rattle.obj_core.specs.Object.{Each}
 
@@ -41,3 +44,18 @@ found instrs = found_from 0 instrs
 abbrev pub starts_at : List Found → ℕ → Bool
 starts_at [] off = false
 starts_at (x ∷ xs) off = nat_eq x.at off || starts_at xs off
+
+-- an instruction at an offset, and the others, which its size leads to
+abbrev pub and_others : ℕ → (ℕ → List Found) → Decoded → List Found
+and_others at others (One i size) = record { at = at; instr = i } ∷ others size
+and_others at others Short = []
+and_others at others Unknown = []
+
+-- the instructions that bytes are, from an offset on, as far as they are any; so many bytes belong to the one before
+abbrev pub instrs_from : ℕ → ℕ → List ℕ → List Found
+instrs_from left at [] = []
+instrs_from (suc left) at (b ∷ bs) = instrs_from left (at + 1) bs
+instrs_from zero at (b ∷ bs) = and_others at (λ size. instrs_from (size - 1) (at + 1) bs) (decode (b ∷ bs))
+
+abbrev pub instrs_in : List ℕ → List Found
+instrs_in bytes = instrs_from 0 0 bytes

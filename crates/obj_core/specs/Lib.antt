@@ -1,5 +1,6 @@
 pub mod Object
 pub mod Slots
+pub mod Pieces
 pub mod Disassembly
 pub mod Saved
 pub mod WellFormed

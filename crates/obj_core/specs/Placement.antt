@@ -4,10 +4,10 @@ use Rattle.std.specs.List.{range_with_len}
 use Rattle.rd_num.specs.Number.{le_bytes}
 use Rattle.rd_draw.specs.Draw.{keystream_word, shuffled}
 use Rattle.obj_core.specs.declared.object.Object.{Object}
-use Rattle.obj_core.specs.declared.object.Func.{Func}
-use Rattle.obj_core.specs.declared.object.Link.{Link}
 use Rattle.obj_core.specs.declared.object.CodeAt.{CodeAt}
+use Rattle.obj_core.specs.declared.piece.Piece.{Piece}
 use Rattle.obj_core.specs.Slots.{slot_base}
+use Rattle.obj_core.specs.Pieces.{pieces, piece_len}
 
 -- what the keystream of the layout seed is drawn for
 abbrev pub order_purpose : ℕ
@@ -37,39 +37,20 @@ overlaid bytes at (x ∷ xs) = overlaid (slice_set bytes at x) (at + 1) xs
 abbrev pub slot_in : List ℕ → ℕ → ℕ
 slot_in at k = slot_base + 16 * slice_index at k
 
--- bytes of a function that stay together, from an offset on, with the links in them, counted from their first byte
-pub record Piece : Type 0 where
-  pub function : ℕ
-  pub offset : ℕ
-  pub bytes : List ℕ
-  pub links : List Link
-
--- a function as a whole
-abbrev pub whole : ℕ → Func → Piece
-whole n f = record { function = n; offset = 0; bytes = f.bytes; links = f.links }
-
--- each function is one piece
-abbrev pub pieces_from : ℕ → List Func → List Piece
-pieces_from n [] = []
-pieces_from n (f ∷ fs) = whole n f ∷ pieces_from (n + 1) fs
-
-abbrev pub pieces : List Func → List Piece
-pieces fs = pieces_from 0 fs
-
 abbrev pub no_piece : Piece
-no_piece = record { function = 0; offset = 0; bytes = []; links = [] }
+no_piece = record { function = 0; from = 0; to = 0 }
 
 abbrev pub or_no_piece : Option Piece → Piece
 or_no_piece None = no_piece
 or_no_piece (Some p) = p
 
 -- the piece of a number
-unfoldable pub piece : List Func → ℕ → Piece
-piece fs k = or_no_piece (slice_get (pieces fs) k)
+unfoldable pub piece_in : List Piece → ℕ → Piece
+piece_in ps k = or_no_piece (slice_get ps k)
 
 -- the numbers of the pieces in the order in which they stand
 unfoldable pub order : Object → ℕ → List ℕ
-order o seed = shuffled (keystream_word seed order_purpose 0) (length (pieces o.functions))
+order o seed = shuffled (keystream_word seed order_purpose 0) (length (pieces o))
 
 -- where a number stands in a list
 abbrev pub index_in : List ℕ → ℕ → ℕ
@@ -91,36 +72,33 @@ start_behind end word = up16 end + 16 * (word % 32)
 -- where pieces begin that stand one behind the other, each by the next word
 abbrev pub starts_from : (ℕ → ℕ) → ℕ → ℕ → List Piece → List ℕ
 starts_from words i end [] = []
-starts_from words i end (p ∷ ps) = start_behind end (words i) ∷ starts_from words (i + 1) (start_behind end (words i) + length p.bytes) ps
+starts_from words i end (p ∷ ps) = start_behind end (words i) ∷ starts_from words (i + 1) (start_behind end (words i) + piece_len p) ps
 
--- the pieces in their order
-abbrev pub pieces_in : List Func → List ℕ → List Piece
-pieces_in fs ks = map (piece fs) ks
+-- the pieces of these numbers
+abbrev pub pieces_in : List Piece → List ℕ → List Piece
+pieces_in ps ks = map (piece_in ps) ks
+
+-- the pieces in the order in which they stand
+abbrev pub row : Object → ℕ → List Piece
+row o seed = pieces_in (pieces o) (order o seed)
 
 unfoldable pub starts : Object → ℕ → List ℕ
-starts o seed = starts_from (keystream_word seed gap_purpose 0) 1 (code_base seed) (pieces_in o.functions (order o seed))
+starts o seed = starts_from (keystream_word seed gap_purpose 0) 1 (code_base seed) (row o seed)
 
 -- whether a piece holds a byte of a function
 abbrev pub has_byte : Piece → CodeAt → Bool
-has_byte p c = nat_eq p.function c.function && (nat_le p.offset c.offset && nat_lt c.offset (p.offset + length p.bytes))
+has_byte p c = nat_eq p.function c.function && (nat_le p.from c.offset && nat_lt c.offset p.to)
 
 -- the address of a byte of a function: it is as far from the start of the piece that holds it as in the function;
 -- places and starts are by the piece's number and by its place
 abbrev pub address_from : List ℕ → List ℕ → ℕ → List Piece → CodeAt → ℕ
 address_from places starts k [] c = 0
 address_from places starts k (p ∷ ps) c =
-    if has_byte p c then slice_index starts (slice_index places k) + (c.offset - p.offset) else address_from places starts (k + 1) ps c
+    if has_byte p c then slice_index starts (slice_index places k) + (c.offset - p.from) else address_from places starts (k + 1) ps c
 
-abbrev pub address_in : List Func → List ℕ → List ℕ → CodeAt → ℕ
-address_in fs places starts c = address_from places starts 0 (pieces fs) c
-
--- the address of a byte of a function of an object that may not have it, where each function is one piece
-abbrev pub address_by : List ℕ → List ℕ → CodeAt → Option Func → ℕ
-address_by places starts c None = 0
-address_by places starts c (Some f) = if nat_lt c.offset (length f.bytes) then slice_index starts (slice_index places c.function) + c.offset else 0
-
+-- 0 where the object has no such byte
 unfoldable pub address : Object → ℕ → CodeAt → ℕ
-address o seed c = address_in o.functions (inverse (order o seed)) (starts o seed) c
+address o seed c = address_from (inverse (order o seed)) (starts o seed) 0 (pieces o) c
 
 -- the start of a function
 abbrev pub start_of : ℕ → CodeAt

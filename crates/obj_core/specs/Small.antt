@@ -7,11 +7,11 @@ use Rattle.obj_core.specs.declared.object.Slot.{Slot}
 
 -- ud2
 abbrev pub invalid : Func
-invalid = record { kind = FuncKind.Plain; bytes = 15 ∷ 11 ∷ []; links = [] }
+invalid = record { kind = FuncKind.Plain; bytes = 15 ∷ 11 ∷ []; links = []; cuts = [] }
 
 -- jmp to slot 0
 abbrev pub jump_on : Func
-jump_on = record { kind = FuncKind.Plain; bytes = 233 ∷ 0 ∷ 0 ∷ 0 ∷ 0 ∷ []; links = record { at = 1; slot = 0 } ∷ [] }
+jump_on = record { kind = FuncKind.Plain; bytes = 233 ∷ 0 ∷ 0 ∷ 0 ∷ 0 ∷ []; links = record { at = 1; slot = 0 } ∷ []; cuts = [] }
 
 -- the entry, and a call that comes back to the jump
 abbrev pub small : Object

@@ -1,11 +1,11 @@
--- Which objects are well formed, and what is the first thing that is wrong with another one. There are eight rules,
+-- Which objects are well formed, and what is the first thing that is wrong with another one. There are nine rules,
 -- in order; a rule speaks of functions, in order, or of slots, in order, and in a function the least offset counts.
 use Rattle.std.specs.Prelude.{◌≡◌, ℕ, ◌+◌, ◌≤◌, ◌⊎◌, Bool, true, false, not, ◌&&◌, ◌||◌, nat_eq, nat_lt, min, if◌then◌else◌, List, [], ◌∷◌, ◌++◌, length, sum, map, Option, Some, None, slice_get, ℤ, pos, negsuc}
 use Rattle.x86_core.specs.declared.instr.Instr.{Instr}
 use Rattle.x86_core.specs.declared.instr.Instr.TheVariants.{Jcc, Jmp, Call, Ret, CallR11, JmpR11, Syscall, Ud2, Int3}
 use Rattle.x86_core.specs.Arithmetic.{moved}
 use Rattle.x86_core.specs.Encoding.{encoding, IsInstr}
-use Rattle.obj_core.specs.declared.object.TheConstants.{MOST_FUNCTIONS, MOST_SLOTS, MOST_CODE, MOST_DATA}
+use Rattle.obj_core.specs.declared.object.TheConstants.{MOST_FUNCTIONS, MOST_PIECES, MOST_SLOTS, MOST_CODE, MOST_DATA}
 use Rattle.obj_core.specs.declared.object.Object.{Object}
 use Rattle.obj_core.specs.declared.object.Func.{Func}
 use Rattle.obj_core.specs.declared.object.FuncKind.{FuncKind}
@@ -20,6 +20,9 @@ use Rattle.obj_core.specs.Saved.{prologue, begins_with, are_first_colors}
 abbrev pub most_functions : ℕ
 most_functions = MOST_FUNCTIONS
 
+abbrev pub most_pieces : ℕ
+most_pieces = MOST_PIECES
+
 abbrev pub most_slots : ℕ
 most_slots = MOST_SLOTS
 
@@ -29,10 +32,11 @@ most_code = MOST_CODE
 abbrev pub most_data : ℕ
 most_data = MOST_DATA
 
--- rule 1, sizes: functions, slots, bytes of code, bytes of data
+-- rule 1, sizes: functions, pieces, slots, bytes of code, bytes of data; each cut makes one piece more
 pub record AreFew (o : Object) : Type 0 where
   pub some_function : 1 ≤ length o.functions
   pub functions : length o.functions ≤ most_functions
+  pub pieces : length o.functions + sum (map (λ (f : Func). length f.cuts) o.functions) ≤ most_pieces
   pub some_slot : 1 ≤ length o.slots
   pub slots : length o.slots ≤ most_slots
   pub code : sum (map (λ (f : Func). length f.bytes) o.functions) ≤ most_code
@@ -137,6 +141,20 @@ is_saved_well reg_seed n f instrs = by_kind f.kind
     by_kind FuncKind.Plain = true
     by_kind FuncKind.Saved = begins_with (prologue reg_seed n) f.bytes && are_first_colors reg_seed n instrs
 
+-- rule 9, cuts: an instruction that nothing runs past ends at an offset
+abbrev pub stops_at : List Found → ℕ → Bool
+stops_at [] off = false
+stops_at (x ∷ xs) off = (nat_eq (end_of x) off && is_end x.instr) || stops_at xs off
+
+-- behind the cut before it, and between an instruction that nothing runs past and another one
+abbrev pub is_good_cut : ℕ → List Found → ℕ → Bool
+is_good_cut before xs cut = nat_lt before cut && (starts_at xs cut && stops_at xs cut)
+
+-- the first cut that is not good, where 0 or another one comes before
+abbrev pub bad_cut : ℕ → List Found → List ℕ → List ℕ
+bad_cut before xs [] = []
+bad_cut before xs (c ∷ cs) = if is_good_cut before xs c then bad_cut c xs cs else c ∷ []
+
 -- where a violation is
 pub data Spot : Type 0 where
   Whole : Spot
@@ -174,7 +192,7 @@ abbrev pub zero_unless : Bool → List ℕ
 zero_unless true = []
 zero_unless false = 0 ∷ []
 
--- the first of rules 3 to 8 that fails, where these are the functions' disassemblies
+-- the first of rules 3 to 9 that fails, where these are the functions' disassemblies
 abbrev pub violation : Object → List (List Instr) → Option Violation
 violation o disassemblies =
     or_else (in_functions 3 (λ n f instrs. forbidden_in (found instrs)) 0 o.functions disassemblies)
@@ -182,9 +200,10 @@ violation o disassemblies =
     (or_else (in_functions 5 (λ n f instrs. open_end (found instrs)) 0 o.functions disassemblies)
     (or_else (in_slots 6 (λ k s. is_good_slot disassemblies s) 0 o.slots)
     (or_else (in_slots 7 agrees_with 0 o.slots)
-    (in_functions 8 (λ n f instrs. zero_unless (is_saved_well o.reg_seed n f instrs)) 0 o.functions disassemblies)))))
+    (or_else (in_functions 8 (λ n f instrs. zero_unless (is_saved_well o.reg_seed n f instrs)) 0 o.functions disassemblies)
+    (in_functions 9 (λ n f instrs. bad_cut 0 (found instrs) f.cuts) 0 o.functions disassemblies))))))
 
--- all eight rules hold; rule 2 is that every function has a disassembly
+-- all nine rules hold; rule 2 is that every function has a disassembly
 pub record IsWellFormed (o : Object) : Type 0 where
   pub object : IsObject o
   pub few : AreFew o

@@ -4,13 +4,19 @@
 //! is four bytes, little-endian, counted from the end of its instruction. What these bytes mean in a
 //! layout stands in `specs/Placement.antt`; `row` and `code` put them where they belong.
 
-ghost use Rattle.std.specs.Prelude.{◌≡◌, ◌<◌, ◌^◌, slice_index, slice_set, IfOk};
+ghost use Rattle.std.specs.Prelude.{◌≡◌, ◌<◌, ◌^◌, ◌++◌, slice_index, slice_set, IfOk, OnOk};
 ghost use Rattle.obj_core.specs.Placement.{filler, up16, displacement_bytes};
 
 use rd_num::bytes::put_u64_le;
 use rd_num::list::List;
 use rd_num::width::NoMemory;
 use std::alloc::Global;
+
+/// How many breakpoints are put at once.
+const MANY_LEN: u64 = 512;
+
+/// So many.
+const MANY: [u8; 512] = [0xCC; 512];
 
 /// The four bytes of a displacement from the end of an instruction. Takes no memory.
 pub fn way(to: u64, from: u64) -> [u8; 4]
@@ -43,10 +49,21 @@ pub fn breakpoints(alloc: Global, count: u32) -> Result<List<u8>, NoMemory>
     ensures { IfOk result (λ all. all ≡ filler count) }
 {
     let mut all = List::new(alloc);
-    for _ in 0..count {
-        all.add(0xCC)?;
-    }
+    pad(&mut all, u64::from(count))?;
     Ok(all)
+}
+
+/// Puts so many breakpoints at the end.
+#[tactic(auto, using(crate::proofs::Padded::pad_more, crate::proofs::Padded::pad_last))]
+pub fn pad(all: &mut List<u8>, count: u64) -> Result<(), NoMemory>
+    ensures { OnOk result (all.new ≡ all.old ++ filler count) }
+{
+    let mut left = count;
+    while left > MANY_LEN {
+        all.append(&MANY)?;
+        left -= MANY_LEN;
+    }
+    all.append(&MANY[..left as usize])
 }
 
 /// Puts a byte over the one at an index, if there is one. Takes no memory.

@@ -4,15 +4,17 @@
 //! segment that may be run alone. No call gives it as a number; whoever holds the finished segment of
 //! code can read it there, and what keeps it out of other segments is the contract of who lays out.
 
-ghost use Rattle.std.specs.Prelude.{◌≡◌, ℕ, ◌+◌, ◌-◌, ◌*◌, ◌<◌, ◌≤◌, ◌^◌, [], ◌∷◌, length, IfOk, slice_get, slice_index, Some};
+ghost use Rattle.std.specs.Prelude.{◌≡◌, ℕ, ◌+◌, ◌-◌, ◌*◌, ◌<◌, ◌≤◌, ◌^◌, [], ◌∷◌, length, IfOk, slice_index};
 ghost use Rattle.std.specs.List.{sum_by};
 ghost use Rattle.x86_core.specs.Data.{segment};
 ghost use Rattle.obj_core.specs.declared.object.Object.{Object};
 ghost use Rattle.obj_core.specs.declared.object.Func.{Func};
 ghost use Rattle.obj_core.specs.Slots.{slot_base};
-ghost use Rattle.obj_core.specs.Placement.{filler, displacement_bytes, address};
-ghost use Rattle.obj_core.specs.Runs.{end_of_runs, address_at, address_in_run, put_at, runs_from, slot_run};
-ghost use Rattle.obj_core.specs.Plans.{IsPlan, planned};
+ghost use Rattle.obj_core.specs.Pieces.{piece_len};
+ghost use Rattle.obj_core.specs.Placement.{filler, displacement_bytes, pieces_in, address};
+ghost use Rattle.obj_core.specs.Runs.{end_of_runs, address_at, put_at, runs_from, slot_run};
+ghost use Rattle.obj_core.specs.Plans.{IsPlan, fronts, planned};
+ghost use Rattle.obj_core.specs.Layout.{bytes_in, code_from};
 ghost use Rattle.obj_core.specs.WellFormed.{most_code};
 
 use crate::address::{SLOT_BASE, SlotAddr};
@@ -21,8 +23,10 @@ use crate::checked::Checked;
 use crate::limits::{row_known, sizes_known};
 use crate::object::{CodeAt, Func};
 use crate::order::inverted;
-use crate::row::{function_order, row_of};
-use crate::run::Run;
+use crate::piece::{Piece, pieces_of};
+use crate::placed::placed_bytes;
+use crate::row::{piece_order, row_of};
+use crate::run::{Run, address_by};
 use crate::runs::Runs;
 use bitflags::Flags;
 use rd_num::list::List;
@@ -39,18 +43,23 @@ pub struct Hidden {
     address: u64,
 }
 
-/// Where the code of an object stands for a layout seed: its first address, how many bytes it takes, and
-/// each function's run.
+/// Where the code of an object stands for a layout seed: its first address, how many bytes it takes, where
+/// functions begin that are put end to end, the pieces by their numbers, the order in which they stand with
+/// their starts, and each piece's run.
 #[derive(Drop)]
 pub struct CodePlan {
     base: u32,
     size: u32,
+    fronts: List<u32>,
+    pieces: List<Piece>,
+    order: List<u32>,
+    starts: List<u32>,
     runs: Runs,
 }
 
 impl CodePlan {
-    /// The plan of an object for a layout seed. Time and memory are linear in the object.
-    #[tactic(auto, unfolding(crate::specs::Plans::function_runs, crate::specs::Plans::code_size, crate::specs::Placement::starts))]
+    /// The plan of an object for a layout seed. Time and memory are linear in functions and cuts.
+    #[tactic(auto, unfolding(crate::specs::Plans::piece_runs, crate::specs::Plans::code_size, crate::specs::Placement::starts, crate::specs::Placement::order))]
     pub fn new(alloc: Global, o: &Checked, layout_seed: u64) -> Result<CodePlan, NoMemory>
         ensures { IfOk result (λ plan. IsPlan plan o.now.object layout_seed) }
     {
@@ -58,19 +67,30 @@ impl CodePlan {
         sizes_known(object);
         row_known(object, layout_seed);
         let functions = object.functions.as_slice();
-        let order = function_order(alloc, object, layout_seed)?;
-        let row = row_of(alloc, functions, order.as_slice(), layout_seed)?;
+        let fronts = fronts_of(alloc, functions)?;
+        let pieces = pieces_of(alloc, functions)?;
+        let order = piece_order(alloc, pieces.len() as u32, layout_seed)?;
+        let row = row_of(alloc, pieces.as_slice(), order.as_slice(), layout_seed)?;
         let places = inverted(alloc, order.as_slice())?;
-        let runs = runs_of(alloc, functions, places.as_slice(), row.starts.as_slice())?;
+        let runs = runs_of(
+            alloc,
+            pieces.as_slice(),
+            places.as_slice(),
+            row.starts.as_slice(),
+        )?;
         Ok(CodePlan {
             base: row.base,
             size: row.end - row.base,
+            fronts,
+            pieces,
+            order,
+            starts: row.starts,
             runs,
         })
     }
 
     /// The address that the layout gives a byte of a function, or 0 where the object has no such byte.
-    /// Takes no memory.
+    /// Takes no memory, and time that is the logarithm of the number of pieces.
     pub fn place(&self, at: &CodeAt) -> Hidden
         ensures planned { result.address ≡ planned self.now at.now }
         ensures layout { (o : Object) (seed : ℕ) → IsPlan self.now o seed → result.address ≡
@@ -85,39 +105,47 @@ impl CodePlan {
     fn address_of(&self, at: &CodeAt) -> u64
         ensures { result ≡ planned self.now at.now }
     {
-        match self.runs.get(at.function as usize) {
-            Some(run) => address_inside(run, at.offset),
-            None => 0,
+        let fronts = self.fronts.as_slice();
+        let function = at.function as usize;
+        let place = u64::from(number_at(fronts, function)) + u64::from(at.offset);
+        if place < u64::from(number_at(fronts, function + 1)) {
+            self.runs.address(place)
+        } else {
+            0
         }
     }
 }
 
-/// The address of a byte of a run, counted from its first, or 0. Takes no memory.
-fn address_inside(run: &Run, offset: u32) -> u64
-    ensures { result ≡ address_in_run (Some run.now) offset }
-{
-    if offset < run.end.saturating_sub(run.front) {
-        u64::from(run.start) + u64::from(offset)
-    } else {
-        0
-    }
-}
-
-/// The runs of functions, where places are by their numbers and starts by their places.
-fn runs_of(
-    alloc: Global,
-    functions: &[Func],
-    places: &[u32],
-    starts: &[u32],
-) -> Result<Runs, NoMemory>
+/// Where functions begin that are put end to end, and where the last one ends.
+fn fronts_of(alloc: Global, functions: &[Func]) -> Result<List<u32>, NoMemory>
     requires { sum_by (λ (f : Func). length f.bytes) functions.now ≤ most_code }
-    ensures { IfOk result (λ all. all ≡ runs_from
-        (λ n. slice_index starts.now (slice_index places.now n)) 0 0 functions.now) }
+    ensures { IfOk result (λ all. all ≡ fronts functions.now) }
 {
     let mut all = List::new(alloc);
     let mut front = 0;
-    for i in 0..functions.len() {
-        let end = front + functions[i].bytes.len() as u32;
+    for function in functions {
+        all.add(front)?;
+        front += function.bytes.len() as u32;
+    }
+    all.add(front)?;
+    Ok(all)
+}
+
+/// The runs of pieces, where places are by their numbers and starts by their places.
+fn runs_of(
+    alloc: Global,
+    pieces: &[Piece],
+    places: &[u32],
+    starts: &[u32],
+) -> Result<Runs, NoMemory>
+    requires { sum_by piece_len pieces.now ≤ most_code }
+    ensures { IfOk result (λ all. all ≡ runs_from
+        (λ k. slice_index starts.now (slice_index places.now k)) 0 0 pieces.now) }
+{
+    let mut all = List::new(alloc);
+    let mut front = 0;
+    for i in 0..pieces.len() {
+        let end = front + pieces[i].to.saturating_sub(pieces[i].from);
         let place = number_at(places, i);
         let start = number_at(starts, place as usize);
         all.add(Run { front, end, start })?;
@@ -171,6 +199,29 @@ impl CodeBuilder {
     {
         let runs = plan.runs.copied(alloc)?;
         let bytes = breakpoints(alloc, plan.size)?;
+        Ok(CodeBuilder {
+            start: plan.base,
+            runs,
+            bytes,
+        })
+    }
+
+    /// A segment for the code of a plan that has the bytes of functions as they are, each piece where the plan
+    /// has it, and breakpoints between. Places count as in one that is all breakpoints.
+    pub fn with_code(alloc: Global, plan: &CodePlan, o: &Checked) -> Result<CodeBuilder, NoMemory>
+        ensures { IfOk result (λ b. b ≡ record {
+          start = plan.now.base;
+          runs = plan.now.runs;
+          bytes = code_from (bytes_in o.now.object.functions) plan.now.base
+              plan.now.starts (pieces_in plan.now.pieces plan.now.order);
+        }) }
+    {
+        let runs = plan.runs.copied(alloc)?;
+        let functions = o.object().functions.as_slice();
+        let pieces = plan.pieces.as_slice();
+        let order = plan.order.as_slice();
+        let starts = plan.starts.as_slice();
+        let bytes = placed_bytes(alloc, functions, pieces, order, starts, plan.base)?;
         Ok(CodeBuilder {
             start: plan.base,
             runs,
@@ -255,13 +306,4 @@ impl CodeBuilder {
         let run = self.runs.find(at);
         address_by(&run, at)
     }
-}
-
-/// The address of a place by the run that holds it. Takes no memory.
-fn address_by(run: &Run, at: u64) -> u64
-    requires { at < run.now.end }
-    ensures value { result ≡ run.now.start + (at - run.now.front) }
-    ensures low { result < 2 ^ 33 }
-{
-    u64::from(run.start) + at.saturating_sub(u64::from(run.front))
 }

@@ -15,6 +15,8 @@ pub mod law;
 mod limits;
 pub mod object;
 mod order;
+mod piece;
+mod placed;
 pub mod readable;
 mod row;
 mod run;

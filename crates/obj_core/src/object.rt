@@ -10,6 +10,9 @@ use rd_num::list::List;
 /// The most functions of a well-formed object.
 pub const MOST_FUNCTIONS: usize = 4112;
 
+/// The most pieces: functions and cuts together.
+pub const MOST_PIECES: usize = 131_072;
+
 /// The most slots.
 pub const MOST_SLOTS: usize = 1_048_576;
 
@@ -34,12 +37,14 @@ pub struct Object {
     pub rw: List<u8>,
 }
 
-/// A function's code, with the branches that go to slots.
+/// A function's code, with the branches that go to slots and the offsets at which it is cut.
 #[derive(Drop)]
 pub struct Func {
     pub kind: FuncKind,
     pub bytes: List<u8>,
     pub links: List<Link>,
+    /// A piece goes from 0 or a cut to the next cut or the end, and a layout places each on its own.
+    pub cuts: List<u32>,
 }
 
 /// Whether a function saves the five registers that live across calls.

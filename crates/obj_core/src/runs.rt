@@ -4,13 +4,12 @@
 //! the logarithm of their number. Contracts see the row as the list of its runs, which never changes.
 //! What a place's address is, is `specs/Runs.antt`.
 
-ghost use Rattle.std.specs.Prelude.{◌≡◌, ◌+◌, ◌-◌, ◌<◌, ◌≤◌, ◌^◌, ℕ, length, IfOk, slice_get};
-ghost use Rattle.std.specs.Option.{option_copied};
+ghost use Rattle.std.specs.Prelude.{◌≡◌, ◌+◌, ◌-◌, ◌<◌, ◌≤◌, ◌^◌, ℕ, length, IfOk};
 ghost use Rattle.std.specs.List.Sorted.{IsNonDecreasingBy};
 ghost use Rattle.obj_core.specs.declared.run.Run.{Run};
 ghost use Rattle.obj_core.specs.Runs.{end_of_runs, address_at};
 
-use crate::run::Run;
+use crate::run::{Run, address_by};
 use rd_num::copied::copy_list;
 use rd_num::list::List;
 use rd_num::width::NoMemory;
@@ -44,13 +43,6 @@ impl Runs {
         Runs { kept }
     }
 
-    /// The run of a number. Takes no memory.
-    pub fn get(&self, number: usize) -> Option<&Run>
-        ensures { option_copied result ≡ slice_get self.now number }
-    {
-        self.kept.get(number)
-    }
-
     /// The same runs again.
     pub fn copied(&self, alloc: Global) -> Result<Runs, NoMemory>
         ensures { IfOk result (λ all. all ≡ self.now) }
@@ -71,5 +63,19 @@ impl Runs {
             .as_slice()
             .partition_point(|run| u64::from(run.end) <= at);
         self.kept.as_slice()[number]
+    }
+
+    /// The address of a place, or 0 where no run holds it. Takes no memory.
+    pub fn address(&self, at: u64) -> u64
+        ensures { result ≡ address_at self.now at }
+    {
+        let number = self
+            .kept
+            .as_slice()
+            .partition_point(|run| u64::from(run.end) <= at);
+        match self.kept.get(number) {
+            Some(run) => address_by(run, at),
+            None => 0,
+        }
     }
 }

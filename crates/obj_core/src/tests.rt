@@ -40,6 +40,7 @@ fn jump(alloc: Global) -> Result<Func, NoMemory>
         kind: FuncKind::Plain,
         bytes,
         links,
+        cuts: List::new(alloc),
     })
 }
 
@@ -53,6 +54,7 @@ fn ud2(alloc: Global) -> Result<Func, NoMemory>
         kind: FuncKind::Plain,
         bytes,
         links: List::new(alloc),
+        cuts: List::new(alloc),
     })
 }
 
@@ -105,7 +107,7 @@ fn call_slot(alloc: Global) -> Result<Segment, NoMemory> {
 }
 
 /// The code, whose jump goes to the slot at position 1.
-#[tactic(auto, unfolding(crate::specs::Plans::function_runs))]
+#[tactic(auto, unfolding(crate::specs::Plans::piece_runs))]
 fn all_code(alloc: Global) -> Result<Segment, NoMemory> {
     let o = small_object(alloc)?;
     let plan = CodePlan::new(alloc, &o, LAYOUT_SEED)?;

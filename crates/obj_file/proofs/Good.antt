@@ -4,7 +4,8 @@ use Rattle.std.proofs.lemmas.List.{length-replicate}
 use Rattle.rd_num.specs.Number.{le_number}
 use Rattle.x86_core.proofs.Parts.{number_back4}
 use Rattle.obj_core.specs.Object.{Each, IsByte, field}
-use Rattle.obj_file.specs.Texts.{IsText, IsRaw, IsNumber, FieldThen, Then, Times}
+use Rattle.obj_file.specs.declared.format.Format.{Format}
+use Rattle.obj_file.specs.Texts.{IsText, IsRaw, IsNumber, number_of, IsFormat, FormatThen, FieldThen, Then, Times}
 
 -- no text of the set begins another, and it has a text
 pub record Good (L : List ℕ → Type 0) : Type 0 where
@@ -99,6 +100,48 @@ good_field limit L l good = record {
         let there : L k.number h.rest = subst (λ n. L n h.rest) both.0 h.ends in
         let rests = (good k.number).unique h.rest k.rest x y there k.ends both.1 in
         (h.text ∙ ap (λ n. field n ++ h.rest) both.0 ∙ ap (λ r. field k.number ++ r) rests.0 ∙ sym k.text, rests.1)
+
+-- numbers of formats fit a field
+pub format_small : (f : Format) → number_of f < 2 ^ 32
+format_small Format.One = omega arith
+format_small Format.Two = omega arith
+
+-- and tell the format
+pub format_told : (f g : Format) → number_of f ≡ number_of g → f ≡ g
+format_told Format.One Format.One e = refl
+format_told Format.One Format.Two e = absurd (omega (arith, e))
+format_told Format.Two Format.One e = absurd (omega (arith, e))
+format_told Format.Two Format.Two e = refl
+
+-- fields with the number of a format
+pub good_number_of : Good IsFormat
+good_number_of = record {
+  unique = λ s t x y h k e. unique s t x y h k e;
+  some = field 1;
+  holds = record { format = Format.One; text = refl };
+}
+  where
+    unique : (s t x y : List ℕ) → IsFormat s → IsFormat t → s ++ x ≡ t ++ y → (s ≡ t) × (x ≡ y)
+    unique s t x y h k e =
+        let both = field_unique (number_of h.format) (number_of k.format) x y (format_small h.format) (format_small k.format) (ap (λ z. z ++ x) (sym h.text) ∙ e ∙ ap (λ z. z ++ y) k.text) in
+        (h.text ∙ ap field both.0 ∙ sym k.text, both.1)
+
+-- the number of a format and what it names
+pub good_format : (L : Format → List ℕ → Type 0) → ((f : Format) → Good (L f)) → Good (FormatThen L)
+good_format L good = record {
+  unique = λ s t x y h k e. unique s t x y h k e;
+  some = field 1 ++ (good Format.One).some;
+  holds = record { format = Format.One; rest = (good Format.One).some; text = refl; ends = (good Format.One).holds };
+}
+  where
+    unique : (s t x y : List ℕ) → FormatThen L s → FormatThen L t → s ++ x ≡ t ++ y → (s ≡ t) × (x ≡ y)
+    unique s t x y h k e =
+        let e2 : field (number_of h.format) ++ (h.rest ++ x) ≡ field (number_of k.format) ++ (k.rest ++ y) =
+        ap (λ z. z ++ x) (sym h.text) ∙ e ∙ ap (λ z. z ++ y) k.text in
+        let both = field_unique (number_of h.format) (number_of k.format) (h.rest ++ x) (k.rest ++ y) (format_small h.format) (format_small k.format) e2 in
+        let there : L k.format h.rest = subst (λ f. L f h.rest) (format_told h.format k.format both.0) h.ends in
+        let rests = (good k.format).unique h.rest k.rest x y there k.ends both.1 in
+        (h.text ∙ ap (λ n. field n ++ h.rest) both.0 ∙ ap (λ r. field (number_of k.format) ++ r) rests.0 ∙ sym k.text, rests.1)
 
 -- texts of one set, and of another
 pub good_then : (L M : List ℕ → Type 0) → Good L → Good M → Good (Then L M)

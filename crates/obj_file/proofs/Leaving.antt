@@ -2,8 +2,9 @@
 use Rattle.std.proofs.Common.{◌≡◌, ℕ, ◌+◌, ◌<◌, ◌^◌, List, [], ◌∷◌, ◌++◌, length, drop, refl, sym, ◌∙◌, ap, subst, arith, append_assoc, length-append, ◌⊎◌, inl, inr}
 use Rattle.obj_core.specs.Object.{field}
 use Rattle.obj_file.specs.declared.fault.FormFault.{FormFault}
-use Rattle.obj_file.specs.Texts.{IsNumber, FieldThen, Then, Spans, NoneBegins, Leaves, Fault}
-use Rattle.obj_file.proofs.Good.{cons_tail, cons_head, Good, field_unique, IsLimit, good_number}
+use Rattle.obj_file.specs.declared.format.Format.{Format}
+use Rattle.obj_file.specs.Texts.{IsNumber, number_of, IsFormat, FormatThen, FieldThen, Then, Spans, NoneBegins, Leaves, Fault}
+use Rattle.obj_file.proofs.Good.{cons_tail, cons_head, Good, field_unique, IsLimit, good_number, format_small, format_told, good_number_of}
 
 -- how two beginnings of one list lie
 pub record Longer (short long : List ℕ) (after : List ℕ) : Type 0 where
@@ -153,4 +154,22 @@ fault_after limit L bytes at to n e l h p f =
     let small2 : k.number < 2 ^ 32 = let a = k.below in let b = l.fits in omega arith in
     let both = field_unique n k.number t k.rest small small2 k.text in
     subst (λ z. L n z) (sym both.1) (subst (λ m. L m k.rest) (sym both.0) k.ends))
+    f
+
+-- the number of a format in front
+pub fault_format : (L : Format → List ℕ → Type 0) (bytes : List ℕ) (at : ℕ) (e : FormFault) → ((f : Format) → Good (L f)) → Fault IsFormat bytes at e → Fault (FormatThen L) bytes at e
+fault_format L bytes at e good f =
+    fault_part IsFormat (FormatThen L) bytes at e good_number_of
+    (λ s h. record { rest = (good h.format).some; whole = record { format = h.format; rest = (good h.format).some; text = ap (λ z. z ++ (good h.format).some) h.text; ends = (good h.format).holds } })
+    (λ t h. record { first = field (number_of h.format); rest = h.rest; text = h.text; begins = record { format = h.format; text = refl } })
+    f
+
+-- what follows it
+pub fault_after_format : (L : Format → List ℕ → Type 0) (bytes : List ℕ) (at to : ℕ) (format : Format) (e : FormFault) → Spans bytes at to (field (number_of format)) → Fault (L format) bytes to e → Fault (FormatThen L) bytes at e
+fault_after_format L bytes at to format e p f =
+    fault_past (L format) (FormatThen L) bytes at to (field (number_of format)) e p
+    (λ t k. record { format = format; rest = t; text = refl; ends = k })
+    (λ t k.
+    let both = field_unique (number_of format) (number_of k.format) t k.rest (format_small format) (format_small k.format) k.text in
+    subst (λ z. L format z) (sym both.1) (subst (λ m. L m k.rest) (sym (format_told format k.format both.0)) k.ends))
     f

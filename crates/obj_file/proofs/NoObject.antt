@@ -3,12 +3,13 @@ use Rattle.std.proofs.Common.{◌≡◌, ℕ, ◌+◌, ◌<◌, ◌≤◌, List,
 use Rattle.std.proofs.lemmas.List.{append-nil, take_at, drop_all}
 use Rattle.std.proofs.Math.Seq.{take-append-add}
 use Rattle.obj_core.specs.declared.object.Object.{Object}
-use Rattle.obj_core.specs.Object.{object_bytes, IsObject}
+use Rattle.obj_core.specs.Object.{IsObject, Spells}
 use Rattle.obj_file.specs.declared.fault.FormFault.{FormFault}
-use Rattle.obj_file.specs.Texts.{IsObjectText, NoneBegins, Leaves, Fault, Spans}
+use Rattle.obj_file.specs.Texts.{IsObjectText, NoneBegins, Leaves, Fault}
+use Rattle.obj_file.specs.Spellings.{object_in, Holds}
 use Rattle.obj_file.specs.Faults.{BeginsOne, IsNoneFrom, NamesFault}
 use Rattle.obj_file.proofs.Limits.{good_object}
-use Rattle.obj_file.proofs.Spelled.{object_spelled, object_text}
+use Rattle.obj_file.proofs.Spelled.{spells_in, object_spelled, object_text}
 
 -- one byte more of a prefix
 take_one : (front : List ℕ) (b : ℕ) (bs : List ℕ) → take (length front + 1) (front ++ b ∷ bs) ≡ front ++ b ∷ []
@@ -20,7 +21,7 @@ not_nil n more e = cc
 
 -- an object whose spelling begins with some bytes has a text that does
 begun_text : (front : List ℕ) (s : BeginsOne front) → IsObjectText (front ++ s.more)
-begun_text front s = subst IsObjectText s.spelling (object_text s.o s.object)
+begun_text front s = object_text (front ++ s.more) s.o s.object s.spelling
 
 -- bytes that leave the set are the spelling of no object
 none_leaves : (front others : List ℕ) (next : ℕ) (more : List ℕ) → IsObjectText (front ++ next ∷ more) → NoneBegins IsObjectText front others → IsObjectText (front ++ others) → ⊥
@@ -41,9 +42,9 @@ longest_at front (b ∷ bs) wrong =
 from_leaves : (bytes : List ℕ) (n : ℕ) → Leaves IsObjectText bytes n → IsNoneFrom bytes n
 from_leaves bytes n v =
     let whole = object_spelled (v.front ++ v.next ∷ v.more) v.goes_on in
-    let begins : BeginsOne v.front = record { o = whole.item; object = whole.holds; more = v.next ∷ v.more; spelling = sym whole.text } in
+    let begins : BeginsOne v.front = record { o = whole.item; object = whole.holds; more = v.next ∷ v.more; spelling = whole.text } in
     let at_front : IsNoneFrom (v.front ++ v.others) (length v.front) = record {
-      none = λ o h e. none_leaves v.front v.others v.next v.more v.goes_on v.wrong (subst IsObjectText (sym e) (object_text o h));
+      none = λ o h e. none_leaves v.front v.others v.next v.more v.goes_on v.wrong (object_text (v.front ++ v.others) o h e);
       within = let l = length-append v.front v.others in omega arith;
       begins = subst BeginsOne (sym (take_at v.front v.others (length v.front) refl)) begins;
       longest = longest_at v.front v.others v.wrong;
@@ -59,16 +60,15 @@ explained bytes (FormFault.At place) f =
 explained bytes FormFault.NoMemory f = tt
 
 -- behind the spelling of an object
-behind : (o : Object) (b : ℕ) (bs : List ℕ) → IsObject o → IsNoneFrom (object_bytes o ++ b ∷ bs) (length (object_bytes o))
-behind o b bs h =
-    let spelling = object_bytes o in
-    let here = object_text o h in
+behind : (spelling : List ℕ) (o : Object) (b : ℕ) (bs : List ℕ) → IsObject o → Spells spelling o → IsNoneFrom (spelling ++ b ∷ bs) (length spelling)
+behind spelling o b bs h k =
+    let here = object_text spelling o h k in
     record {
-      none = λ p k e.
-          let same : spelling ++ b ∷ bs ≡ object_bytes p ++ [] = e ∙ sym (append-nil (object_bytes p)) in
-          not_nil b bs (sym (good_object.unique spelling (object_bytes p) (b ∷ bs) [] here (object_text p k) same).1);
+      none = λ p q e.
+          let there = object_text (spelling ++ b ∷ bs) p q e in
+          not_nil b bs (sym (good_object.unique spelling (spelling ++ b ∷ bs) (b ∷ bs) [] here there (sym (append-nil (spelling ++ b ∷ bs)))).1);
       within = let l = length-append spelling (b ∷ bs) in omega arith;
-      begins = record { o = o; object = h; more = []; spelling = sym (ap (λ z. z ++ []) (take_at spelling (b ∷ bs) (length spelling) refl) ∙ append-nil spelling) };
+      begins = record { o = o; object = h; more = []; spelling = subst (λ z. Spells z o) (sym (ap (λ z. z ++ []) (take_at spelling (b ∷ bs) (length spelling) refl) ∙ append-nil spelling)) k };
       longest = inr (λ s.
           let t : BeginsOne (spelling ++ b ∷ []) = subst BeginsOne (take_one spelling b bs) s in
           let whole = begun_text (spelling ++ b ∷ []) t in
@@ -77,20 +77,29 @@ behind o b bs h =
     }
 
 -- bytes that go on behind the spelling of an object
-pub longer : (bytes : List ℕ) (end : ℕ) (o : Object) → IsObject o → Spans bytes 0 end (object_bytes o) → end < length bytes → IsNoneFrom bytes end
-longer bytes end o h p less = go (drop end bytes) refl
+pub longer : (bytes : List ℕ) (end : ℕ) (o : Object) → Holds bytes end o → end < length bytes → IsNoneFrom bytes end
+longer bytes end o held less = go (drop end bytes) refl
   where
     go : (rest : List ℕ) → drop end bytes ≡ rest → IsNoneFrom bytes end
     go [] e =
-        let whole : bytes ≡ object_bytes o ++ [] = p.text ∙ ap (λ z. object_bytes o ++ z) e in
-        let long : length bytes ≡ length (object_bytes o) + 0 = ap length whole ∙ length-append (object_bytes o) [] in
+        let p = held.spans in
+        let whole : bytes ≡ object_in held.format o ++ [] = p.text ∙ ap (λ z. object_in held.format o ++ z) e in
+        let long : length bytes ≡ length (object_in held.format o) + 0 = ap length whole ∙ length-append (object_in held.format o) [] in
         let size = p.size in
         absurd (omega arith)
     go (b ∷ bs) e =
-        let whole : bytes ≡ object_bytes o ++ b ∷ bs = p.text ∙ ap (λ z. object_bytes o ++ z) e in
-        let size : length (object_bytes o) ≡ end = let s = p.size in omega arith in
-        subst (λ z. IsNoneFrom z end) (sym whole) (subst (λ k. IsNoneFrom (object_bytes o ++ b ∷ bs) k) size (behind o b bs h))
+        let p = held.spans in
+        let whole : bytes ≡ object_in held.format o ++ b ∷ bs = p.text ∙ ap (λ z. object_in held.format o ++ z) e in
+        let size : length (object_in held.format o) ≡ end = let s = p.size in omega arith in
+        let known = spells_in held.format o (object_in held.format o) held.object refl in
+        subst (λ z. IsNoneFrom z end) (sym whole) (subst (λ k. IsNoneFrom (object_in held.format o ++ b ∷ bs) k) size (behind (object_in held.format o) o b bs held.object.object known))
 
 -- bytes that end where the spelling does
-pub exactly : (bytes : List ℕ) (end : ℕ) (o : Object) → Spans bytes 0 end (object_bytes o) → length bytes ≤ end → bytes ≡ object_bytes o
-exactly bytes end o p h = p.text ∙ ap (λ z. object_bytes o ++ z) (drop_all end bytes h) ∙ append-nil (object_bytes o)
+pub exactly : (bytes : List ℕ) (end : ℕ) (o : Object) → Holds bytes end o → length bytes ≤ end → Spells bytes o
+exactly bytes end o held h =
+    let spelling = object_in held.format o in
+    spells_in held.format o bytes held.object (held.spans.text ∙ ap (λ z. spelling ++ z) (drop_all end bytes h) ∙ append-nil spelling)
+
+-- what a file holds is an object
+pub held_object : (bytes : List ℕ) (end : ℕ) (o : Object) → Holds bytes end o → IsObject o
+held_object bytes end o held = held.object.object

@@ -11,7 +11,8 @@ use Rattle.x86_core.proofs.Parts.{IsBytes, bytes_back}
 use Rattle.obj_core.specs.Object.{Each, IsByte, field}
 use Rattle.obj_core.proofs.Spelling.{each_append}
 use Rattle.obj_file.specs.declared.fault.FormFault.{FormFault}
-use Rattle.obj_file.specs.Texts.{IsText, IsRaw, IsNumber, full, Spans, NoneBegins, LeavesAt, Fault}
+use Rattle.obj_file.specs.declared.format.Format.{Format}
+use Rattle.obj_file.specs.Texts.{IsText, IsRaw, IsNumber, IsFormat, number_of, full, Spans, NoneBegins, LeavesAt, Fault}
 use Rattle.obj_file.proofs.Good.{each_replicate}
 use Rattle.obj_file.proofs.Leaving.{fault_past}
 
@@ -35,9 +36,9 @@ pub bytes_of_each : (xs : List ℕ) → Each IsByte xs → IsBytes xs
 bytes_of_each [] h = tt
 bytes_of_each (x ∷ xs) h = (h.0, bytes_of_each xs h.1)
 
--- a piece of a file as a row of bytes
-pub piece_spans : (bytes : List ℕ) (at n : ℕ) → at + n ≤ length bytes → Spans bytes at (at + n) (take n (drop at bytes))
-piece_spans bytes at n h =
+-- a part of a file as a row of bytes
+pub part_spans : (bytes : List ℕ) (at n : ℕ) → at + n ≤ length bytes → Spans bytes at (at + n) (take n (drop at bytes))
+part_spans bytes at n h =
     let long : length (take n (drop at bytes)) ≡ n = length-take-le n (drop at bytes) (let e = length-drop at bytes in omega arith) in
     record {
       text = sym (take-append-drop n (drop at bytes)) ∙ ap (λ z. take n (drop at bytes) ++ z) (drop-drop n at bytes);
@@ -45,21 +46,21 @@ piece_spans bytes at n h =
       within = h;
     }
 
--- a piece of a file is bytes
-pub piece_raw : (bytes : List ℕ) (at n : ℕ) → All (λ b. b < 256) bytes → at + n ≤ length bytes → IsRaw n (take n (drop at bytes))
-piece_raw bytes at n all h = record {
+-- a part of a file is bytes
+pub part_raw : (bytes : List ℕ) (at n : ℕ) → All (λ b. b < 256) bytes → at + n ≤ length bytes → IsRaw n (take n (drop at bytes))
+part_raw bytes at n all h = record {
   bytes = each_from_all IsByte (take n (drop at bytes)) (All-take (λ b. b < 256) n (drop at bytes) (All-drop (λ b. b < 256) at bytes all));
   size = length-take-le n (drop at bytes) (let e = length-drop at bytes in omega arith);
 }
 
--- a number that a piece spells
+-- a number that a part spells
 pub number_spans : (bytes : List ℕ) (at k n : ℕ) → All (λ b. b < 256) bytes → at + k ≤ length bytes → n ≡ le_number (take k (drop at bytes)) → Spans bytes at (at + k) (le_bytes k n)
 number_spans bytes at k n all h e =
-    let raw = piece_raw bytes at k all h in
-    let piece = take k (drop at bytes) in
-    let back : le_bytes k n ≡ piece =
-    ap (λ m. le_bytes k m) e ∙ ap (λ j. le_bytes j (le_number piece)) (sym raw.size) ∙ bytes_back piece (bytes_of_each piece raw.bytes) in
-    subst (λ s. Spans bytes at (at + k) s) (sym back) (piece_spans bytes at k h)
+    let raw = part_raw bytes at k all h in
+    let part = take k (drop at bytes) in
+    let back : le_bytes k n ≡ part =
+    ap (λ m. le_bytes k m) e ∙ ap (λ j. le_bytes j (le_number part)) (sym raw.size) ∙ bytes_back part (bytes_of_each part raw.bytes) in
+    subst (λ s. Spans bytes at (at + k) s) (sym back) (part_spans bytes at k h)
 
 -- zeros that fill a row
 filled_to : (rest : List ℕ) (k : ℕ) → length rest < k → length (rest ++ 0 ∷ replicate (k - length rest - 1) 0) ≡ k
@@ -135,7 +136,7 @@ raw_fault bytes at size e h = short_fault (IsRaw size) bytes at size e (same_raw
 pub field_fault : (bytes : List ℕ) (at : ℕ) (e : FormFault) → IsShort bytes at 4 e → Fault (IsNumber full) bytes at e
 field_fault bytes at e h = short_fault (IsNumber full) bytes at 4 e raw_number h
 
--- what an open piece of a file is
+-- what an open part of a file is
 pub rest_number : (bytes : List ℕ) (at k n : ℕ) → n ≡ le_number (take k (take (length bytes - at) (drop at bytes))) → n ≡ le_number (take k (drop at bytes))
 rest_number bytes at k n e = e ∙ ap (λ z. le_number (take k z)) (take_rest bytes at)
 
@@ -151,7 +152,7 @@ one_more bytes wanted at i h inside within same =
 pub all_stand : (bytes wanted : List ℕ) (at i : ℕ) → i ≡ length wanted → take i wanted ≡ take i (drop at bytes) → at + i ≤ length bytes → Spans bytes at (at + length wanted) wanted
 all_stand bytes wanted at i e h within =
     let whole : take i wanted ≡ wanted = take_all i wanted (omega arith) in
-    subst (λ n. Spans bytes at (at + n) wanted) e (subst (λ s. Spans bytes at (at + i) s) (sym h ∙ whole) (piece_spans bytes at i within))
+    subst (λ n. Spans bytes at (at + n) wanted) e (subst (λ s. Spans bytes at (at + i) s) (sym h ∙ whole) (part_spans bytes at i within))
 
 -- a list around one of its items
 split_text : (wanted : List ℕ) (i : ℕ) → i < length wanted → wanted ≡ take i wanted ++ get_or wanted i 0 ∷ drop (i + 1) wanted
@@ -278,6 +279,68 @@ zeros_fault bytes at limit e fits room small f =
     let tails : t ≡ 0 ∷ 0 ∷ 0 ∷ [] = cc in
     record { same = tails })
     f
+
+-- the number of a format is one byte and three zeros
+format_field : (f : Format) → field (number_of f) ≡ number_of f ∷ (0 ∷ 0 ∷ 0 ∷ [])
+format_field Format.One = refl
+format_field Format.Two = refl
+
+-- no number of a format has another first byte
+no_format : (others : List ℕ) → ((b : ℕ) (bs : List ℕ) → others ≡ b ∷ bs → (f : Format) → number_of f ≢ b) → NoneBegins IsFormat [] others
+no_format [] w = tt
+no_format (b ∷ bs) w =
+    λ rest t.
+    let same : b ∷ rest ≡ number_of t.format ∷ (0 ∷ 0 ∷ 0 ∷ []) = t.text ∙ format_field t.format in
+    let is : number_of t.format ≡ b = cc in
+    w b bs refl t.format is
+
+-- a first byte that is wanting or no number of a format
+format_leaves : (bytes : List ℕ) (at : ℕ) → at ≤ length bytes → (at < length bytes → (f : Format) → number_of f ≢ get_or bytes at 0) → LeavesAt IsFormat bytes at at
+format_leaves bytes at within wrong = record {
+  inside = 0;
+  is = omega arith;
+  leaves = record {
+    front = [];
+    others = drop at bytes;
+    split = refl;
+    size = refl;
+    next = 1;
+    more = 0 ∷ 0 ∷ 0 ∷ [];
+    goes_on = record { format = Format.One; text = refl };
+    wrong = no_format (drop at bytes) (λ b bs e. other b bs e);
+  };
+}
+  where
+    other : (b : ℕ) (bs : List ℕ) → drop at bytes ≡ b ∷ bs → (f : Format) → number_of f ≢ b
+    other b bs e f =
+        let long : length (drop at bytes) ≡ suc (length bs) = ap length e in
+        let long2 : length (drop at bytes) ≡ length bytes - at = length-drop at bytes in
+        let room : at < length bytes = omega arith in
+        let here : drop at bytes ≡ get_or bytes at 0 ∷ drop (at + 1) bytes = drop_more bytes at 0 room in
+        let is : b ≡ get_or bytes at 0 = cc in
+        λ same. wrong room f (same ∙ is)
+
+-- the fault of such a byte
+pub format_fault : (bytes : List ℕ) (at : ℕ) → at ≤ length bytes → (at < length bytes → (f : Format) → number_of f ≢ get_or bytes at 0) → Fault IsFormat bytes at (FormFault.At at)
+format_fault bytes at within wrong = fault_at IsFormat bytes at at (format_leaves bytes at within wrong)
+
+-- the number and the three zeros behind it
+pub format_spans : (bytes : List ℕ) (at : ℕ) (f : Format) → at < length bytes → number_of f ≡ get_or bytes at 0 → Spans bytes (at + 1) (at + 1 + 3) (0 ∷ 0 ∷ 0 ∷ []) → Spans bytes at (at + 4) (field (number_of f))
+format_spans bytes at Format.One room e zeros = below_spans bytes at 1 (omega arith) room e zeros
+format_spans bytes at Format.Two room e zeros = below_spans bytes at 2 (omega arith) room e zeros
+
+-- zeros that are wanting behind the number
+pub format_zeros : (bytes : List ℕ) (at : ℕ) (f : Format) (e : FormFault) → at < length bytes → number_of f ≡ get_or bytes at 0 → Fault (IsText (0 ∷ 0 ∷ 0 ∷ [])) bytes (at + 1) e → Fault IsFormat bytes at e
+format_zeros bytes at f e room is fault =
+    let b = get_or bytes at 0 in
+    fault_past (IsText (0 ∷ 0 ∷ 0 ∷ [])) IsFormat bytes at (at + 1) (b ∷ []) e
+    (record { text = drop_more bytes at 0 room; size = refl; within = omega arith })
+    (λ t h. record { format = f; text = ap (λ z. b ∷ z) h.same ∙ ap (λ n. n ∷ (0 ∷ 0 ∷ 0 ∷ [])) (sym is) ∙ sym (format_field f) })
+    (λ t h.
+    let same : b ∷ t ≡ number_of h.format ∷ (0 ∷ 0 ∷ 0 ∷ []) = h.text ∙ format_field h.format in
+    let tails : t ≡ 0 ∷ 0 ∷ 0 ∷ [] = cc in
+    record { same = tails })
+    fault
 
 -- what a `?` hands on
 pub at_exit : {T : Type 0} (r : Result T FormFault) (e : FormFault) (F : FormFault → Type 0) → IsErrAnd r (λ y. y ≡ e) → F e → IfErr r F

@@ -1,14 +1,15 @@
 -- Many parts of one kind, one after another.
 use Rattle.std.proofs.Common.{◌≡◌, ℕ, zero, suc, ◌+◌, ◌<◌, ◌≤◌, List, [], ◌∷◌, ◌++◌, length, drop, refl, sym, ◌∙◌, ap, subst, arith, append_assoc, length-append}
 use Rattle.std.proofs.lemmas.List.{append-nil, drop-drop, drop_at}
-use Rattle.obj_core.specs.Object.{Each, function_bytes, functions_bytes, link_bytes, links_bytes, slot_bytes, slots_bytes}
+use Rattle.obj_core.specs.Object.{Each, field, functions_bytes, link_bytes, links_bytes, cuts_bytes, slot_bytes, slots_bytes}
+use Rattle.obj_core.specs.declared.object.Func.{Func}
 use Rattle.obj_file.specs.declared.fault.FormFault.{FormFault}
 use Rattle.obj_file.specs.Texts.{Times, Spans, Fault}
 use Rattle.obj_file.proofs.Good.{Good, good_times}
 use Rattle.obj_file.proofs.Leaving.{fault_first, fault_second}
 use Rattle.obj_core.proofs.Spelling.{each_append}
 
--- two pieces of a file, the second where the first ends
+-- two parts of a file, the second where the first ends
 pub spans_join : (bytes : List ℕ) (at mid to : ℕ) (s t : List ℕ) → Spans bytes at mid s → Spans bytes mid to t → Spans bytes at to (s ++ t)
 spans_join bytes at mid to s t p q = record {
   text = p.text ∙ ap (λ z. s ++ z) q.text ∙ sym (append_assoc s t (drop to bytes));
@@ -16,16 +17,16 @@ spans_join bytes at mid to s t p q = record {
   within = q.within;
 }
 
--- an empty piece
+-- an empty part
 pub spans_none : (bytes : List ℕ) (at : ℕ) → at ≤ length bytes → Spans bytes at at []
 spans_none bytes at h = record { text = refl; size = omega arith; within = h }
 
--- a piece that is made of two
+-- a part that is made of two
 pub record Split (bytes : List ℕ) (at to : ℕ) (s t : List ℕ) : Type 0 where
   pub first : Spans bytes at (at + length s) s
   pub second : Spans bytes (at + length s) to t
 
--- the two parts of a piece
+-- the two parts of a part
 pub spans_split : (bytes : List ℕ) (at to : ℕ) (s t : List ℕ) → Spans bytes at to (s ++ t) → Split bytes at to s t
 spans_split bytes at to s t p =
     let long : length (s ++ t) ≡ length s + length t = length-append s t in
@@ -62,9 +63,13 @@ links_row = record { none = refl; more = λ x xs. refl }
 pub slots_row : IsRow slot_bytes slots_bytes
 slots_row = record { none = refl; more = λ x xs. refl }
 
+-- cuts
+pub cuts_row : IsRow field cuts_bytes
+cuts_row = record { none = refl; more = λ x xs. refl }
+
 -- functions
-pub functions_row : IsRow function_bytes functions_bytes
-functions_row = record { none = refl; more = λ x xs. refl }
+pub functions_row : (one : Func → List ℕ) → IsRow one (functions_bytes one)
+functions_row one = record { none = refl; more = λ x xs. refl }
 
 -- the bytes of one more item come last
 pub row_end : {T : Type 0} (one : T → List ℕ) (all : List T → List ℕ) (r : IsRow one all) (xs : List T) (x : T) → all (xs ++ x ∷ []) ≡ all xs ++ one x

@@ -4,10 +4,11 @@ use Rattle.obj_core.specs.declared.object.Object.{Object}
 use Rattle.obj_core.specs.declared.object.Func.{Func}
 use Rattle.obj_core.specs.Object.{Each}
 
--- a function's code and links
+-- a function's code, links and cuts
 pub record FunctionFits (f : Func) : Type 0 where
   pub bytes : length f.bytes < 2 ^ 32
   pub links : length f.links < 2 ^ 32
+  pub cuts : length f.cuts < 2 ^ 32
 
 -- all counts and lengths of an object
 pub record CountsFit (o : Object) : Type 0 where

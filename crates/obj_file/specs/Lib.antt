@@ -1,3 +1,4 @@
 pub mod Fits
 pub mod Texts
+pub mod Spellings
 pub mod Faults

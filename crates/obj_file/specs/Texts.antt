@@ -1,8 +1,7 @@
 -- The parts of a file as sets of texts, and where bytes leave such a set.
 use Rattle.std.specs.Prelude.{◌≡◌, ℕ, zero, suc, ◌+◌, ◌<◌, ◌≤◌, ◌^◌, Bool, nat_le, if◌then◌else◌, List, [], ◌∷◌, ◌++◌, length, drop}
-use Rattle.obj_core.specs.declared.object.Func.{Func}
-use Rattle.obj_core.specs.declared.object.Slot.{Slot}
-use Rattle.obj_core.specs.Object.{Each, IsByte, IsFunc, IsSlot, field, magic, functions_bytes, slots_bytes}
+use Rattle.obj_core.specs.Object.{Each, IsByte, field, magic}
+use Rattle.obj_file.specs.declared.format.Format.{Format}
 use Rattle.obj_file.specs.declared.fault.FormFault.{FormFault}
 
 -- one text alone
@@ -27,6 +26,23 @@ pub record FieldThen (limit : ℕ) (L : ℕ → List ℕ → Type 0) (s : List �
   pub rest : List ℕ
   pub text : s ≡ field number ++ rest
   pub ends : L number rest
+
+-- the number of a format
+abbrev pub number_of : Format → ℕ
+number_of Format.One = 1
+number_of Format.Two = 2
+
+-- a field with the number of a format
+pub record IsFormat (s : List ℕ) : Type 0 where
+  pub format : Format
+  pub text : s ≡ field (number_of format)
+
+-- a field with the number of a format, and a text of the set that the format names
+pub record FormatThen (L : Format → List ℕ → Type 0) (s : List ℕ) : Type 0 where
+  pub format : Format
+  pub rest : List ℕ
+  pub text : s ≡ field (number_of format) ++ rest
+  pub ends : L format rest
 
 -- a text of one set and a text of another
 pub record Then (L M : List ℕ → Type 0) (s : List ℕ) : Type 0 where
@@ -53,21 +69,30 @@ limit_if used = if used then full else 1
 abbrev pub IsLinkText : List ℕ → Type 0
 IsLinkText = FieldThen full (λ at. IsNumber full)
 
--- a function: its code and links, and before them the fields that count them, and before these its kind
-abbrev pub CodeText : ℕ → ℕ → List ℕ → Type 0
-CodeText size links = Then (IsRaw size) (Times IsLinkText links)
+-- so many links, and so many cuts
+abbrev pub RowsText : ℕ → ℕ → List ℕ → Type 0
+RowsText links cuts = Then (Times IsLinkText links) (Times (IsNumber full) cuts)
 
--- the number of links, and what it and the size count
-abbrev pub LinksText : ℕ → List ℕ → Type 0
-LinksText size = FieldThen full (CodeText size)
+-- a function's code, and its links and cuts
+abbrev pub CutCodeText : ℕ → ℕ → ℕ → List ℕ → Type 0
+CutCodeText size links cuts = Then (IsRaw size) (RowsText links cuts)
+
+-- what follows the number of links: code and links, and in format 2 before them the number of cuts and behind them these
+abbrev pub CodeText : Format → ℕ → ℕ → List ℕ → Type 0
+CodeText Format.One size links = Then (IsRaw size) (Times IsLinkText links)
+CodeText Format.Two size links = FieldThen full (CutCodeText size links)
+
+-- the number of links, and what follows it
+abbrev pub LinksText : Format → ℕ → List ℕ → Type 0
+LinksText format size = FieldThen full (CodeText format size)
 
 -- the size, and what follows it
-abbrev pub SizeText : List ℕ → Type 0
-SizeText = FieldThen full LinksText
+abbrev pub SizeText : Format → List ℕ → Type 0
+SizeText format = FieldThen full (LinksText format)
 
 -- a function from its kind on
-abbrev pub IsFunctionText : List ℕ → Type 0
-IsFunctionText = FieldThen 2 (λ kind. SizeText)
+abbrev pub IsFunctionText : Format → List ℕ → Type 0
+IsFunctionText format = FieldThen 2 (λ kind. SizeText format)
 
 -- a slot: the offset of its way back, and before it the function, the target, and the kind, which says what is used
 abbrev pub OffsetText : ℕ → List ℕ → Type 0
@@ -94,66 +119,36 @@ abbrev pub SlotsText : ℕ → ℕ → ℕ → List ℕ → Type 0
 SlotsText slots ro rw = Then (Times IsSlotText slots) (DataText ro rw)
 
 -- the functions, the slots and the data
-abbrev pub BodyText : ℕ → ℕ → ℕ → ℕ → List ℕ → Type 0
-BodyText functions slots ro rw = Then (Times IsFunctionText functions) (SlotsText slots ro rw)
+abbrev pub BodyText : Format → ℕ → ℕ → ℕ → ℕ → List ℕ → Type 0
+BodyText format functions slots ro rw = Then (Times (IsFunctionText format) functions) (SlotsText slots ro rw)
 
 -- from the fourth count on
-abbrev pub AfterRo : ℕ → ℕ → ℕ → List ℕ → Type 0
-AfterRo functions slots ro = FieldThen full (BodyText functions slots ro)
+abbrev pub AfterRo : Format → ℕ → ℕ → ℕ → List ℕ → Type 0
+AfterRo format functions slots ro = FieldThen full (BodyText format functions slots ro)
 
 -- from the third count on
-abbrev pub AfterSlots : ℕ → ℕ → List ℕ → Type 0
-AfterSlots functions slots = FieldThen full (AfterRo functions slots)
+abbrev pub AfterSlots : Format → ℕ → ℕ → List ℕ → Type 0
+AfterSlots format functions slots = FieldThen full (AfterRo format functions slots)
 
 -- from the second count on
-abbrev pub AfterFunctions : ℕ → List ℕ → Type 0
-AfterFunctions functions = FieldThen full (AfterSlots functions)
+abbrev pub AfterFunctions : Format → ℕ → List ℕ → Type 0
+AfterFunctions format functions = FieldThen full (AfterSlots format functions)
 
 -- from the first count on
-abbrev pub CountedText : List ℕ → Type 0
-CountedText = FieldThen full AfterFunctions
-
--- the whole: what is fixed, two seeds, and the rest
-abbrev pub opening : List ℕ
-opening = magic ++ field 1
+abbrev pub CountedText : Format → List ℕ → Type 0
+CountedText format = FieldThen full (AfterFunctions format)
 
 -- from the register seed on
-abbrev pub RegSeedText : List ℕ → Type 0
-RegSeedText = Then (IsRaw 8) CountedText
+abbrev pub RegSeedText : Format → List ℕ → Type 0
+RegSeedText format = Then (IsRaw 8) (CountedText format)
 
 -- from the slot seed on
-abbrev pub SlotSeedText : List ℕ → Type 0
-SlotSeedText = Then (IsRaw 8) RegSeedText
+abbrev pub SlotSeedText : Format → List ℕ → Type 0
+SlotSeedText format = Then (IsRaw 8) (RegSeedText format)
 
 -- a whole file
 abbrev pub IsObjectText : List ℕ → Type 0
-IsObjectText = Then (IsText opening) SlotSeedText
-
--- what stands behind the seeds, and behind the counts
-abbrev pub body_bytes : List Func → List Slot → List ℕ → List ℕ → List ℕ
-body_bytes functions slots ro rw = functions_bytes functions ++ (slots_bytes slots ++ (ro ++ rw))
-
--- the counts and what they count
-abbrev pub counted_bytes : List Func → List Slot → List ℕ → List ℕ → List ℕ
-counted_bytes functions slots ro rw =
-    field (length functions) ++ (field (length slots) ++ (field (length ro) ++ (field (length rw) ++ body_bytes functions slots ro rw)))
-
--- parts in range and so many as the counts say
-pub record AreParts (functions_count slots_count ro_count rw_count : ℕ) (functions : List Func) (slots : List Slot) (ro rw : List ℕ) : Type 0 where
-  pub each_function : Each IsFunc functions
-  pub each_slot : Each IsSlot slots
-  pub raw_ro : IsRaw ro_count ro
-  pub raw_rw : IsRaw rw_count rw
-  pub functions_counted : length functions ≡ functions_count
-  pub slots_counted : length slots ≡ slots_count
-
--- parts in range whose counts fit their fields
-pub record AreCounted (functions : List Func) (slots : List Slot) (ro rw : List ℕ) : Type 0 where
-  pub parts : AreParts (length functions) (length slots) (length ro) (length rw) functions slots ro rw
-  pub functions_fit : length functions < full
-  pub slots_fit : length slots < full
-  pub ro_fits : length ro < full
-  pub rw_fits : length rw < full
+IsObjectText = Then (IsText magic) (FormatThen SlotSeedText)
 
 -- what stands in a file from one place to another
 pub record Spans (bytes : List ℕ) (at to : ℕ) (s : List ℕ) : Type 0 where

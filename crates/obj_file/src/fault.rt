@@ -10,7 +10,7 @@ use rd_num::width::NoMemory;
 /// The bytes leave the format at `place`, or memory is wanting.
 ///
 /// `place` counts bytes from the start of the file. It is the length of the longest prefix that
-/// begins the spelling of some object; in a file that is only too short it is the file's length.
+/// begins the spelling of some object in either format; in a file that is only too short it is the file's length.
 #[derive(Clone, Copy, PartialEq, Eq, Debug)]
 pub enum FormFault {
     At { place: u64 },

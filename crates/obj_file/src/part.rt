@@ -3,15 +3,24 @@
 //! Each function reads at `at`, which counts from the start of the file, and its fault names the
 //! place at which the bytes leave what may stand there.
 
-ghost use Rattle.std.specs.Prelude.{◌≡◌, ◌≢◌, ◌+◌, ◌<◌, ◌≤◌, ◌^◌, length, IfOk, IfErr};
+ghost use Rattle.std.specs.Prelude.{◌≡◌, ◌≢◌, ◌+◌, ◌<◌, ◌≤◌, ◌^◌, length, IfOk, IfErr, IfSome, None};
 ghost use Rattle.rd_num.specs.Number.{le_bytes};
 ghost use Rattle.obj_core.specs.Object.{field};
-ghost use Rattle.obj_file.specs.Texts.{IsText, IsRaw, IsNumber, full, limit_if, Spans, Fault};
+ghost use Rattle.obj_file.specs.Texts.{IsText, IsRaw, IsNumber, IsFormat, number_of, full, limit_if, Spans, Fault};
+ghost use Rattle.obj_file.specs.declared.format.Format.{Format as Form};
 
 use crate::fault::FormFault;
+use crate::format::Format;
 use rd_num::bytes::{bytes_known, get_u32_le, get_u64_le};
 use rd_num::list::List;
 use std::alloc::Global;
+
+/// What was read, and where it ends.
+#[derive(Drop)]
+pub struct Part<T> {
+    pub value: T,
+    pub end: usize,
+}
 
 /// Passes over bytes that are fixed.
 pub fn expect(bytes: &[u8], at: usize, wanted: &[u8]) -> Result<(), FormFault>
@@ -74,6 +83,37 @@ pub fn read_below(bytes: &[u8], at: usize, limit: u8) -> Result<u32, FormFault>
     }
     expect(bytes, at + 1, &[0, 0, 0])?;
     Ok(bytes[at] as u32)
+}
+
+/// The format whose number a byte is, if there is one.
+fn format_of(byte: u8) -> Option<Format>
+    ensures some { IfSome result (λ format. number_of format ≡ byte) }
+    ensures none { result ≡ None → (format : Form) → number_of format ≢ byte }
+{
+    match byte {
+        1 => Some(Format::One),
+        2 => Some(Format::Two),
+        _ => None,
+    }
+}
+
+/// The format of a file, by its number.
+pub fn read_format(bytes: &[u8], at: usize) -> Result<Format, FormFault>
+    requires { at ≤ length bytes.now }
+    ensures read { IfOk result (λ format. Spans bytes.now at (at + 4) (field (number_of format))) }
+    ensures fault { IfErr result (λ e. Fault IsFormat bytes.now at e) }
+    ensures told { IfErr result (λ e. e ≢ FormFault.NoMemory) }
+{
+    if at >= bytes.len() {
+        return Err(FormFault::At { place: at as u64 });
+    }
+    match format_of(bytes[at]) {
+        None => Err(FormFault::At { place: at as u64 }),
+        Some(format) => {
+            expect(bytes, at + 1, &[0, 0, 0])?;
+            Ok(format)
+        }
+    }
 }
 
 /// A field that is 0 where it isn't used.

@@ -6,22 +6,20 @@
 
 ghost use Rattle.std.specs.Prelude.{◌≡◌, ◌≢◌, ◌+◌, ◌<◌, ◌≤◌, ◌^◌, ◌++◌, nat_le, length, IfOk, IfErr};
 ghost use Rattle.rd_num.specs.Number.{le_bytes};
-ghost use Rattle.obj_core.specs.Object.{Each, IsField, IsLink, IsSlot, IsFunc, IsObject, kind_number, link_bytes, links_bytes, function_bytes, functions_bytes, slot_fields, slot_bytes, slots_bytes, header_bytes, object_bytes};
-ghost use Rattle.obj_file.specs.Texts.{Times, IsLinkText, IsFunctionText, IsSlotText, BodyText, CountedText, IsObjectText, body_bytes, counted_bytes, AreParts, AreCounted, full, limit_if, Spans, Fault};
+ghost use Rattle.obj_core.specs.Object.{Each, IsField, IsSlot, IsObject, Spells, kind_number, functions_bytes, slot_fields, slot_bytes, slots_bytes};
+ghost use Rattle.obj_file.specs.Texts.{Times, IsFunctionText, IsSlotText, BodyText, CountedText, SlotSeedText, IsObjectText, full, limit_if, Spans, Fault};
+ghost use Rattle.obj_file.specs.Spellings.{function_in, IsFuncIn, IsObjectIn, body_bytes, counted_bytes, seeded_bytes, AreParts, AreCounted, Holds};
 ghost use Rattle.obj_file.specs.Faults.{NamesFault};
 
 use crate::fault::FormFault;
-use crate::part::{expect, read_below, read_bytes, read_field, read_used, read_word};
-use obj_core::object::{CodeAt, Func, FuncKind, Link, Object, Slot};
+use crate::format::Format;
+use crate::function::read_code;
+use crate::part::{
+    Part, expect, read_below, read_bytes, read_field, read_format, read_used, read_word,
+};
+use obj_core::object::{CodeAt, Func, FuncKind, Object, Slot};
 use rd_num::list::List;
 use std::alloc::Global;
-
-/// What was read, and where it ends.
-#[derive(Drop)]
-struct Part<T> {
-    value: T,
-    end: usize,
-}
 
 /// How many functions and slots there are, and how long the data is.
 #[derive(Clone, Copy)]
@@ -42,13 +40,13 @@ struct Body {
     end: usize,
 }
 
-/// The object that the bytes of a file spell. Takes time and memory linear in them.
+/// The object that the bytes of a file spell, in format 2 or 1. Takes time and memory linear in them.
 ///
-/// `At` comes exactly where they spell no object. No count makes a fault by itself, and nothing is
+/// Functions of format 1 have no cuts. `At` comes exactly where they spell no object. No count makes a fault by itself, and nothing is
 /// allocated for a count that the file can't hold.
 pub fn read(alloc: Global, bytes: &[u8]) -> Result<Object, FormFault>
     ensures object { IfOk result IsObject }
-    ensures spelling { IfOk result (λ o. bytes.now ≡ object_bytes o) }
+    ensures spelling { IfOk result (λ o. Spells bytes.now o) }
     ensures fault { IfErr result (λ e. NamesFault bytes.now e) }
 {
     let part = read_object(alloc, bytes)?;
@@ -61,14 +59,29 @@ pub fn read(alloc: Global, bytes: &[u8]) -> Result<Object, FormFault>
 }
 
 fn read_object(alloc: Global, bytes: &[u8]) -> Result<Part<Object>, FormFault>
-    ensures object { IfOk result (λ p. IsObject p.value) }
-    ensures read { IfOk result (λ p. Spans bytes.now 0 p.end (object_bytes p.value)) }
+    ensures holds { IfOk result (λ p. Holds bytes.now p.end p.value) }
     ensures fault { IfErr result (λ e. Fault IsObjectText bytes.now 0 e) }
 {
-    expect(bytes, 0, &[b'R', b'D', b'O', b'1', 1, 0, 0, 0])?;
-    let slot_seed = read_word(bytes, 8)?;
-    let reg_seed = read_word(bytes, 16)?;
-    let body = read_counted(alloc, bytes, 24)?;
+    expect(bytes, 0, &[b'R', b'D', b'O', b'1'])?;
+    let format = read_format(bytes, 4)?;
+    let part = read_seeded(alloc, bytes, 8, format)?;
+    Ok(part)
+}
+
+fn read_seeded(
+    alloc: Global,
+    bytes: &[u8],
+    at: usize,
+    format: Format,
+) -> Result<Part<Object>, FormFault>
+    requires { at ≤ length bytes.now }
+    ensures object { IfOk result (λ p. IsObjectIn format p.value) }
+    ensures read { IfOk result (λ p. Spans bytes.now at p.end (seeded_bytes format p.value)) }
+    ensures fault { IfErr result (λ e. Fault (SlotSeedText format) bytes.now at e) }
+{
+    let slot_seed = read_word(bytes, at)?;
+    let reg_seed = read_word(bytes, at + 8)?;
+    let body = read_counted(alloc, bytes, at + 16, format)?;
     Ok(Part {
         value: Object {
             slot_seed,
@@ -82,12 +95,12 @@ fn read_object(alloc: Global, bytes: &[u8]) -> Result<Part<Object>, FormFault>
     })
 }
 
-fn read_counted(alloc: Global, bytes: &[u8], at: usize) -> Result<Body, FormFault>
+fn read_counted(alloc: Global, bytes: &[u8], at: usize, format: Format) -> Result<Body, FormFault>
     requires { at ≤ length bytes.now }
-    ensures parts { IfOk result (λ b. AreCounted b.functions b.slots b.ro b.rw) }
+    ensures parts { IfOk result (λ b. AreCounted format b.functions b.slots b.ro b.rw) }
     ensures read { IfOk result (λ b. Spans bytes.now at b.end
-        (counted_bytes b.functions b.slots b.ro b.rw)) }
-    ensures fault { IfErr result (λ e. Fault CountedText bytes.now at e) }
+        (counted_bytes format b.functions b.slots b.ro b.rw)) }
+    ensures fault { IfErr result (λ e. Fault (CountedText format) bytes.now at e) }
 {
     let functions = read_field(bytes, at)?;
     let slots = read_field(bytes, at + 4)?;
@@ -99,20 +112,26 @@ fn read_counted(alloc: Global, bytes: &[u8], at: usize) -> Result<Body, FormFaul
         ro,
         rw,
     };
-    let body = read_body(alloc, bytes, at + 16, counts)?;
+    let body = read_body(alloc, bytes, at + 16, format, counts)?;
     Ok(body)
 }
 
-fn read_body(alloc: Global, bytes: &[u8], at: usize, counts: Counts) -> Result<Body, FormFault>
+fn read_body(
+    alloc: Global,
+    bytes: &[u8],
+    at: usize,
+    format: Format,
+    counts: Counts,
+) -> Result<Body, FormFault>
     requires { at ≤ length bytes.now }
-    ensures parts { IfOk result (λ b. AreParts counts.functions counts.slots counts.ro counts.rw
+    ensures parts { IfOk result (λ b. AreParts format counts.functions counts.slots counts.ro counts.rw
         b.functions b.slots b.ro b.rw) }
     ensures read { IfOk result (λ b. Spans bytes.now at b.end
-        (body_bytes b.functions b.slots b.ro b.rw)) }
-    ensures fault { IfErr result (λ e. Fault (BodyText counts.functions counts.slots counts.ro
+        (body_bytes format b.functions b.slots b.ro b.rw)) }
+    ensures fault { IfErr result (λ e. Fault (BodyText format counts.functions counts.slots counts.ro
         counts.rw) bytes.now at e) }
 {
-    let functions = read_functions(alloc, bytes, at, counts.functions)?;
+    let functions = read_functions(alloc, bytes, at, format, counts.functions)?;
     let slots = read_slots(alloc, bytes, functions.end, counts.slots)?;
     let ro = read_bytes(alloc, bytes, slots.end, counts.ro)?;
     let middle = slots.end + counts.ro as usize;
@@ -130,18 +149,20 @@ fn read_functions(
     alloc: Global,
     bytes: &[u8],
     at: usize,
+    format: Format,
     count: u32,
 ) -> Result<Part<List<Func>>, FormFault>
     requires { at ≤ length bytes.now }
-    ensures functions { IfOk result (λ p. Each IsFunc p.value) }
+    ensures functions { IfOk result (λ p. Each (IsFuncIn format) p.value) }
     ensures count { IfOk result (λ p. length p.value ≡ count) }
-    ensures read { IfOk result (λ p. Spans bytes.now at p.end (functions_bytes p.value)) }
-    ensures fault { IfErr result (λ e. Fault (Times IsFunctionText count) bytes.now at e) }
+    ensures read { IfOk result (λ p. Spans bytes.now at p.end
+        (functions_bytes (function_in format) p.value)) }
+    ensures fault { IfErr result (λ e. Fault (Times (IsFunctionText format) count) bytes.now at e) }
 {
     let mut functions = List::new(alloc);
     let mut end = at;
     for _ in 0..count {
-        let function = read_function(alloc, bytes, end)?;
+        let function = read_function(alloc, bytes, end, format)?;
         functions.add(function.value)?;
         end = function.end;
     }
@@ -151,24 +172,29 @@ fn read_functions(
     })
 }
 
-fn read_function(alloc: Global, bytes: &[u8], at: usize) -> Result<Part<Func>, FormFault>
+fn read_function(
+    alloc: Global,
+    bytes: &[u8],
+    at: usize,
+    format: Format,
+) -> Result<Part<Func>, FormFault>
     requires { at ≤ length bytes.now }
-    ensures function { IfOk result (λ p. IsFunc p.value) }
-    ensures read { IfOk result (λ p. Spans bytes.now at p.end (function_bytes p.value)) }
-    ensures fault { IfErr result (λ e. Fault IsFunctionText bytes.now at e) }
+    ensures function { IfOk result (λ p. IsFuncIn format p.value) }
+    ensures read { IfOk result (λ p. Spans bytes.now at p.end (function_in format p.value)) }
+    ensures fault { IfErr result (λ e. Fault (IsFunctionText format) bytes.now at e) }
 {
     let kind = read_below(bytes, at, 2)?;
     let size = read_field(bytes, at + 4)?;
     let count = read_field(bytes, at + 8)?;
-    let code = read_bytes(alloc, bytes, at + 12, size)?;
-    let links = read_links(alloc, bytes, at + 12 + size as usize, count)?;
+    let rows = read_code(alloc, bytes, at + 12, format, size, count)?;
     Ok(Part {
         value: Func {
             kind: kind_of(kind),
-            bytes: code,
-            links: links.value,
+            bytes: rows.bytes,
+            links: rows.links,
+            cuts: rows.cuts,
         },
-        end: links.end,
+        end: rows.end,
     })
 }
 
@@ -181,40 +207,6 @@ fn kind_of(number: u32) -> FuncKind
     } else {
         FuncKind::Saved
     }
-}
-
-fn read_links(
-    alloc: Global,
-    bytes: &[u8],
-    at: usize,
-    count: u32,
-) -> Result<Part<List<Link>>, FormFault>
-    requires { at ≤ length bytes.now }
-    ensures links { IfOk result (λ p. Each IsLink p.value) }
-    ensures count { IfOk result (λ p. length p.value ≡ count) }
-    ensures read { IfOk result (λ p. Spans bytes.now at p.end (links_bytes p.value)) }
-    ensures fault { IfErr result (λ e. Fault (Times IsLinkText count) bytes.now at e) }
-{
-    let mut links = List::new(alloc);
-    let mut end = at;
-    for _ in 0..count {
-        let link = read_link(bytes, end)?;
-        links.add(link)?;
-        end += 8;
-    }
-    Ok(Part { value: links, end })
-}
-
-fn read_link(bytes: &[u8], at: usize) -> Result<Link, FormFault>
-    requires { at ≤ length bytes.now }
-    ensures link { IfOk result IsLink }
-    ensures read { IfOk result (λ link. Spans bytes.now at (at + 8) (link_bytes link)) }
-    ensures fault { IfErr result (λ e. Fault IsLinkText bytes.now at e) }
-    ensures told { IfErr result (λ e. e ≢ FormFault.NoMemory) }
-{
-    let place = read_field(bytes, at)?;
-    let slot = read_field(bytes, at + 4)?;
-    Ok(Link { at: place, slot })
 }
 
 fn read_slots(

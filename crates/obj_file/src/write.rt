@@ -6,7 +6,7 @@
 
 ghost use Rattle.std.specs.Prelude.{◌≡◌, ◌++◌, ◌<◌, ◌^◌, length, IfOk, OnOk};
 ghost use Rattle.rd_num.specs.Number.{le_bytes};
-ghost use Rattle.obj_core.specs.Object.{Each, field, kind_number, link_bytes, links_bytes, function_bytes, functions_bytes, slot_fields, slot_bytes, slots_bytes, header_bytes, object_bytes};
+ghost use Rattle.obj_core.specs.Object.{Each, field, kind_number, link_bytes, links_bytes, cuts_bytes, function_bytes, functions_bytes, slot_fields, slot_bytes, slots_bytes, header_bytes, object_bytes};
 ghost use Rattle.obj_file.specs.Fits.{FunctionFits, CountsFit};
 
 use obj_core::object::{CodeAt, Func, FuncKind, Link, Object, Slot};
@@ -15,7 +15,7 @@ use rd_num::list::List;
 use rd_num::width::NoMemory;
 use std::alloc::Global;
 
-/// The bytes of an object's file. Time and memory are linear in them.
+/// The bytes of an object's file, in format 2. Time and memory are linear in them.
 pub fn write(alloc: Global, o: &Object) -> Result<List<u8>, NoMemory>
     requires { CountsFit o.now }
     ensures { IfOk result (λ l. l ≡ object_bytes o.now) }
@@ -32,10 +32,10 @@ pub fn write(alloc: Global, o: &Object) -> Result<List<u8>, NoMemory>
 /// The magic number, the format, both seeds and the four counts.
 fn put_header(out: &mut List<u8>, o: &Object) -> Result<(), NoMemory>
     requires { CountsFit o.now }
-    ensures { OnOk result (out.new ≡ out.old ++ header_bytes o.now) }
+    ensures { OnOk result (out.new ≡ out.old ++ header_bytes 2 o.now) }
 {
     out.append(b"RDO1")?;
-    put_field(out, 1)?;
+    put_field(out, 2)?;
     put_word(out, o.slot_seed)?;
     put_word(out, o.reg_seed)?;
     put_counts(out, o)?;
@@ -76,7 +76,8 @@ fn put_word(out: &mut List<u8>, n: u64) -> Result<(), NoMemory>
 
 fn put_functions(out: &mut List<u8>, functions: &[Func]) -> Result<(), NoMemory>
     requires { Each FunctionFits functions.now }
-    ensures { OnOk result (out.new ≡ out.old ++ functions_bytes functions.now) }
+    ensures { OnOk result (out.new ≡ out.old ++
+        functions_bytes function_bytes functions.now) }
 {
     for function in functions {
         put_function(out, function)?;
@@ -91,8 +92,10 @@ fn put_function(out: &mut List<u8>, function: &Func) -> Result<(), NoMemory>
     put_kind(out, function.kind)?;
     put_length(out, &function.bytes)?;
     put_length(out, &function.links)?;
+    put_length(out, &function.cuts)?;
     out.append(function.bytes.as_slice())?;
     put_links(out, function.links.as_slice())?;
+    put_cuts(out, function.cuts.as_slice())?;
     Ok(())
 }
 
@@ -110,6 +113,15 @@ fn put_links(out: &mut List<u8>, links: &[Link]) -> Result<(), NoMemory>
 {
     for link in links {
         put_link(out, *link)?;
+    }
+    Ok(())
+}
+
+fn put_cuts(out: &mut List<u8>, cuts: &[u32]) -> Result<(), NoMemory>
+    ensures { OnOk result (out.new ≡ out.old ++ cuts_bytes cuts.now) }
+{
+    for cut in cuts {
+        put_field(out, *cut)?;
     }
     Ok(())
 }

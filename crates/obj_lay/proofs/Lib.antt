@@ -1,10 +1,12 @@
 pub mod lockstep
 pub mod Lengths
 pub mod Sound
-pub mod Growing
+pub mod Filling
+pub mod Instructions
+pub mod Put
+pub mod Laid
 pub mod Written
 pub mod Slotting
-pub mod Laid
 pub mod Made
 pub mod Worked
 pub mod hidden

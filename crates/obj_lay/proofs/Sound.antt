@@ -1,18 +1,19 @@
 -- The image of a well-formed object is sound.
 use Rattle.std.proofs.Common.{◌≡◌, ℕ, ◌+◌, ◌*◌, ◌%◌, ◌≤◌, List, [], ◌∷◌, ◌++◌, length, refl, subst, ◌∙◌, ap, arith}
-use Rattle.std.specs.Prelude.{All, sum, map}
+use Rattle.std.specs.Prelude.{All}
 use Rattle.std.proofs.lemmas.List.Elements.{All-cons}
-use Rattle.std.proofs.lemmas.List.Sums.{sum-map, sum_by-cons}
+use Rattle.std.proofs.lemmas.List.Sums.{sum_by-cons}
 use Rattle.x86_core.specs.declared.image.Segment.{Segment}
 use Rattle.x86_core.specs.Data.{ro_start, rw_start, segment}
 use Rattle.obj_core.specs.declared.object.Object.{Object}
-use Rattle.obj_core.specs.declared.object.Func.{Func}
 use Rattle.obj_core.specs.Slots.{slot_base}
 use Rattle.elf_file.specs.Sound.{IsRights, IsSegment, AreApart, total_bytes, IsSound}
 use Rattle.obj_core.specs.Placement.{code_base}
 use Rattle.obj_core.specs.Layout.{present, layout, trampoline_bytes, code_bytes}
 use Rattle.obj_core.specs.WellFormed.{IsWellFormed}
-use Rattle.obj_core.proofs.Sizes.{code_len, few_functions, some_slot, few_slots, little_code, little_data}
+use Rattle.std.proofs.Math.Logic.{∥∥₁_elim}
+use Rattle.std.proofs.Math.Bridge.{le_prop}
+use Rattle.obj_core.proofs.Sizes.{some_slot, few_slots, little_data}
 use Rattle.obj_lay.proofs.Lengths.{length-trampoline_bytes, code_small}
 
 -- segments from an address on, at most so many, with so many bytes
@@ -71,13 +72,10 @@ sound_of entry size ss all e f small some = subst (λ xs. IsSound (record { entr
   small = let size_is : total_bytes ss ≡ size = f.size in omega arith;
 })
 
-pub layout_sound : (o : Object) (seed : ℕ) → length o.functions ≤ 4112 → 1 ≤ length o.slots → length o.slots ≤ 1048576
-    → sum (map (λ (f : Func). length f.bytes) o.functions) ≤ 67108864 → length o.ro + length o.rw ≤ 67108864 → IsSound (layout o seed)
+pub layout_sound : (o : Object) (seed : ℕ) → 1 ≤ length o.slots → length o.slots ≤ 1048576 → length o.ro + length o.rw ≤ 67108864 → length (code_bytes o seed) ≤ 134086671 → IsSound (layout o seed)
 unfolding layout
-layout_sound o seed functions some slots code data_bytes =
+layout_sound o seed some slots data_bytes code_size =
     let slots_size : length (trampoline_bytes o seed) ≡ 16 * length o.slots = length-trampoline_bytes o seed in
-    let total : sum (map (λ (f : Func). length f.bytes) o.functions) ≡ code_len o.functions = sum-map (λ (f : Func). length f.bytes) o.functions in
-    let code_size : length (code_bytes o seed) ≤ code_len o.functions + 511 * length o.functions + 15 = code_small o seed in
     let base = code_base seed in
     let low : 0x40000000 ≤ base = base_low seed in
     let high : base ≤ 1342173184 = base_high seed in
@@ -92,7 +90,4 @@ layout_sound o seed functions some slots code data_bytes =
 
 -- the same of an object that is only known to be well formed
 pub checked_sound : (o : Object) (seed : ℕ) → ∥ IsWellFormed o ∥₁ → IsSound (layout o seed)
-checked_sound o seed known =
-    let total : sum (map (λ (f : Func). length f.bytes) o.functions) ≡ code_len o.functions = sum-map (λ (f : Func). length f.bytes) o.functions in
-    let code : code_len o.functions ≤ 67108864 = little_code o known in
-    layout_sound o seed (few_functions o known) (some_slot o known) (few_slots o known) (omega arith) (little_data o known)
+checked_sound o seed known = layout_sound o seed (some_slot o known) (few_slots o known) (little_data o known) (∥∥₁_elim known le_prop (λ w. code_small o w seed))

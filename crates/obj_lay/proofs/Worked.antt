@@ -25,11 +25,11 @@ use Rattle.obj_core.specs.declared.object.CodeAt.{CodeAt}
 use Rattle.obj_core.specs.Slots.{positions}
 use Rattle.obj_core.specs.SymbolicMachine.{symbolic_step}
 use Rattle.obj_core.proofs.Worked.{tour, tour_start, places}
-use Rattle.obj_core.specs.Placement.{filler, piece, order, starts, address}
+use Rattle.obj_core.specs.Placement.{filler, piece_in, order, starts, address}
 use Rattle.obj_core.specs.Layout.{code_bytes, trampoline_bytes, layout}
 
 abbrev plain : List ℕ → List Link → Func
-plain bytes links = record { kind = FuncKind.Plain; bytes = bytes; links = links }
+plain bytes links = record { kind = FuncKind.Plain; bytes = bytes; links = links; cuts = [] }
 
 abbrev object : ℕ → List Func → List Slot → List ℕ → List ℕ → Object
 object slot_seed functions slots ro rw = record { slot_seed = slot_seed; reg_seed = 0; functions = functions; slots = slots; ro = ro; rw = rw }
@@ -52,7 +52,7 @@ back = record { function = 1; offset = 0 }
 one_function : layout (object 1 (invalid ∷ []) (Slot.Entry 0 ∷ []) [] []) 4 ≡ image 0x10000000 (
     segment 0x10000000 ((233 ∷ 251 ∷ 63 ∷ 71 ∷ 54 ∷ []) ++ filler 11) 1 ∷
     segment 1179074560 ((15 ∷ 11 ∷ []) ++ filler 14) 1 ∷ [])
-unfolding u32_at quarter_round column_round diagonal_round double_rounds block_word stream_key stream_word shuffled positions piece order starts code_bytes address trampoline_bytes layout
+unfolding u32_at quarter_round column_round diagonal_round double_rounds block_word stream_key stream_word shuffled positions piece_in order starts code_bytes address trampoline_bytes layout
 one_function = refl
 
 -- two functions in the other order with a gap between, and slots in the other order
@@ -61,7 +61,7 @@ two_functions : layout (object 1 (jump_on ∷ invalid ∷ []) (Slot.Entry 0 ∷ 
     segment 0x20000000 (7 ∷ []) 4 ∷
     segment 0x30000000 (8 ∷ 9 ∷ []) 6 ∷
     segment 1170878464 ((15 ∷ 11 ∷ []) ++ (filler 30 ++ ((233 ∷ 219 ∷ 207 ∷ 53 ∷ 202 ∷ []) ++ filler 11))) 1 ∷ [])
-unfolding u32_at quarter_round column_round diagonal_round double_rounds block_word stream_key stream_word shuffled positions piece order starts code_bytes address trampoline_bytes layout
+unfolding u32_at quarter_round column_round diagonal_round double_rounds block_word stream_key stream_word shuffled positions piece_in order starts code_bytes address trampoline_bytes layout
 two_functions = refl
 
 -- slots of all five kinds
@@ -75,8 +75,18 @@ five_slots : layout (object 2 (invalid ∷ jump_on ∷ []) (Slot.Entry 1 ∷ Slo
     ) 1 ∷
     segment 0x20000000 (7 ∷ []) 4 ∷
     segment 1294213120 ((233 ∷ 27 ∷ 224 ∷ 219 ∷ 194 ∷ []) ++ (filler 11 ++ ((15 ∷ 11 ∷ []) ++ filler 14))) 1 ∷ [])
-unfolding u32_at quarter_round column_round diagonal_round double_rounds block_word stream_key stream_word shuffled positions piece order starts code_bytes address trampoline_bytes layout
+unfolding u32_at quarter_round column_round diagonal_round double_rounds block_word stream_key stream_word shuffled positions piece_in order starts code_bytes address trampoline_bytes layout
 five_slots = refl
+
+-- a function in three pieces, in another order: its jump goes over a breakpoint, to the last piece
+abbrev in_pieces : Func
+in_pieces = record { kind = FuncKind.Plain; bytes = 233 ∷ 1 ∷ 0 ∷ 0 ∷ 0 ∷ 204 ∷ 15 ∷ 11 ∷ []; links = []; cuts = 5 ∷ 6 ∷ [] }
+
+four_pieces : layout (object 1 (in_pieces ∷ jump_on ∷ []) (Slot.Entry 0 ∷ Slot.Jump 1 ∷ []) [] []) 2049 ≡ image 268435472 (
+    segment 0x10000000 ((233 ∷ 59 ∷ 16 ∷ 183 ∷ 63 ∷ []) ++ (filler 11 ++ ((233 ∷ 91 ∷ 16 ∷ 183 ∷ 63 ∷ []) ++ filler 11))) 1 ∷
+    segment 1337397248 (filler 64 ++ ((233 ∷ 187 ∷ 239 ∷ 72 ∷ 192 ∷ []) ++ (filler 43 ++ ((233 ∷ 11 ∷ 0 ∷ 0 ∷ 0 ∷ []) ++ (filler 11 ++ ((15 ∷ 11 ∷ []) ++ filler 14)))))) 1 ∷ [])
+unfolding u32_at quarter_round column_round diagonal_round double_rounds block_word stream_key stream_word shuffled positions piece_in order starts code_bytes address trampoline_bytes layout decode
+four_pieces = refl
 
 -- the tour in an image, with its code wherever it fits
 abbrev slots_bytes : List ℕ

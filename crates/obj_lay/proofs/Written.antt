@@ -1,72 +1,14 @@
--- What is put into a segment of slots or code, as bytes that are put over others.
-use Rattle.std.proofs.Common.{◌≡◌, ℕ, ◌+◌, ◌-◌, ◌*◌, ◌<◌, ◌≤◌, List, [], ◌∷◌, ◌++◌, length, drop, get_or, refl, sym, subst, add-one, ◌∙◌, ap, if◌then◌else◌, arith, append_assoc, length-append}
-use Rattle.std.specs.Prelude.{slice_index}
-use Rattle.std.proofs.Math.Seq.{drop-cons}
+-- What is put into a segment of slots, as bytes that are put over others.
+use Rattle.std.proofs.Common.{◌≡◌, ℕ, ◌+◌, ◌-◌, ◌<◌, ◌≤◌, List, [], ◌∷◌, ◌++◌, length, sym, ◌∙◌, ap, if◌then◌else◌, arith, append_assoc, length-append}
 use Rattle.std.proofs.lemmas.Bool.{lt-ltb}
 use Rattle.std.proofs.lemmas.List.{length-replicate, replicate-append-replicate}
-use Rattle.obj_core.specs.declared.object.Link.{Link}
 use Rattle.obj_core.specs.declared.code.CodeBuilder.{CodeBuilder}
-use Rattle.obj_core.specs.declared.run.Run.{Run}
 use Rattle.obj_core.specs.Slots.{slot_base}
-use Rattle.obj_core.specs.Placement.{filler, overlaid, displacement_bytes, slot_in}
+use Rattle.obj_core.specs.Placement.{filler, overlaid, displacement_bytes}
 use Rattle.obj_core.specs.Runs.{address_at, put_at, slot_run}
-use Rattle.obj_core.proofs.Overlaid.{overlaid_long, overlaid_inside, overlaid_first, overlaid_both}
+use Rattle.obj_core.proofs.Overlaid.{overlaid_inside, overlaid_first, overlaid_both}
 use Rattle.obj_core.proofs.Written.{put_together}
-use Rattle.obj_core.specs.Layout.{linked, jump}
-
--- a function, of whose links some are filled in
-pub record Filled (at : List ℕ) (start : ℕ) (old : List ℕ) (off : ℕ) (left links : List Link) (bytes all : List ℕ) : Type 0 where
-  pub inner : List ℕ
-  pub long : length inner ≡ length bytes
-  pub rest : linked at start left inner ≡ linked at start links bytes
-  pub is : all ≡ overlaid old off inner
-
-pub filled_first : (at : List ℕ) (start : ℕ) (old : List ℕ) (off : ℕ) (links : List Link) (bytes all : List ℕ) → all ≡ overlaid old off bytes → Filled at start old off links links bytes all
-filled_first at start old off links bytes all e = record { inner = bytes; long = refl; rest = refl; is = e }
-
-pub filled_more : (at : List ℕ) (start : ℕ) (old : List ℕ) (off : ℕ) (l : Link) (ls links : List Link) (bytes all new : List ℕ) → Filled at start old off (l ∷ ls) links bytes all
-    → off + length bytes ≤ length old → l.at + 4 ≤ length bytes → new ≡ overlaid all (off + l.at) (displacement_bytes (slot_in at l.slot) (start + l.at + 4)) → Filled at start old off ls links bytes new
-filled_more at start old off l ls links bytes all new f within inside e =
-    let d = displacement_bytes (slot_in at l.slot) (start + l.at + 4) in
-    let long : length f.inner ≡ length bytes = f.long in
-    record {
-      inner = overlaid f.inner l.at d;
-      long = overlaid_long f.inner l.at d ∙ f.long;
-      rest = f.rest;
-      is = e ∙ ap (λ xs. overlaid xs (off + l.at) d) f.is ∙ overlaid_inside old f.inner d off l.at (omega (arith, within, long)) (omega (arith, inside, long));
-    }
-
-pub filled_all : (at : List ℕ) (start : ℕ) (old : List ℕ) (off : ℕ) (links : List Link) (bytes all : List ℕ) → Filled at start old off [] links bytes all → all ≡ overlaid old off (linked at start links bytes)
-filled_all at start old off links bytes all f = f.is ∙ ap (overlaid old off) f.rest
-
--- one link more is filled in
-pub link_put : (at : List ℕ) (base : ℕ) (runs : List Run) (old : List ℕ) (front : ℕ) (links items : List Link) (bytes all new : List ℕ) (i : ℕ) (d : Link) (base_now : ℕ) (runs_now : List Run) (p : ℕ)
-    → items ≡ links → i < length items → Filled at (address_at runs front) old (address_at runs front - base) (drop i links) links bytes all
-    → base ≤ address_at runs front → ((k : ℕ) → k < length bytes → address_at runs (front + k) ≡ address_at runs front + k)
-    → address_at runs front - base + length bytes ≤ length old → (get_or items i d).at + 4 ≤ length bytes
-    → base_now ≡ base → runs_now ≡ runs → p ≡ slice_index at (get_or items i d).slot
-    → new ≡ put_at runs_now base_now all (front + (get_or items i d).at) (displacement_bytes (slot_base + 16 * p) (address_at runs_now (front + (get_or items i d).at + 3) + 1))
-    → Filled at (address_at runs front) old (address_at runs front - base) (drop (i + 1) links) links bytes new
-link_put at base runs old front links items bytes all new i d base_now runs_now p same lt f low together within inside base_is runs_are p_is new_is =
-    let l = get_or items i d in
-    let a = address_at runs front in
-    let left : drop i links ≡ l ∷ drop (i + 1) links = ap (drop i) (sym same) ∙ rw add-one (drop-cons items i d lt) ∙ ap (λ ls. l ∷ drop (i + 1) ls) same in
-    let way = displacement_bytes (slot_in at l.slot) (a + l.at + 4) in
-    let three : front + (l.at + 3) ≡ front + l.at + 3 = omega arith in
-    let four : a + (l.at + 3) + 1 ≡ a + l.at + 4 = omega arith in
-    let end : address_at runs (front + l.at + 3) + 1 ≡ a + l.at + 4 = ap (λ k. address_at runs k + 1) (sym three) ∙ ap (λ n. n + 1) (together (l.at + 3) (omega (arith, inside))) ∙ four in
-    let each : (k : ℕ) → k < 4 → address_at runs (front + l.at + k) ≡ a + l.at + k =
-    λ k h. let first : front + l.at + k ≡ front + (l.at + k) = omega arith in let last : a + (l.at + k) ≡ a + l.at + k = omega arith in ap (address_at runs) first ∙ together (l.at + k) (omega (arith, inside, h)) ∙ last in
-    let far : a + l.at - base ≡ a - base + l.at = omega (arith, low) in
-    let put : new ≡ overlaid all (a - base + l.at) way =
-    new_is ∙
-    ap (λ n. put_at runs_now n all (front + l.at) (displacement_bytes (slot_base + 16 * p) (address_at runs_now (front + l.at + 3) + 1))) base_is ∙
-    ap (λ rs. put_at rs base all (front + l.at) (displacement_bytes (slot_base + 16 * p) (address_at rs (front + l.at + 3) + 1))) runs_are ∙
-    ap (λ n. put_at runs base all (front + l.at) (displacement_bytes (slot_base + 16 * n) (address_at runs (front + l.at + 3) + 1))) p_is ∙
-    ap (λ n. put_at runs base all (front + l.at) (displacement_bytes (slot_in at l.slot) n)) end ∙
-    put_together runs base (a + l.at) all (front + l.at) way (omega (arith, low)) each ∙
-    ap (λ n. overlaid all n way) far in
-    filled_more at a old (a - base) l (drop (i + 1) links) links bytes all new (subst (λ ls. Filled at a old (a - base) ls links bytes all) left f) within inside put
+use Rattle.obj_core.specs.Layout.{jump}
 
 -- bytes that are put over breakpoints, with the breakpoints that stay
 on_blank : (all xs : List ℕ) (at : ℕ) → all ≡ overlaid all at (filler 16) → at + 16 ≤ length all → length xs ≤ 16 → overlaid all at xs ≡ overlaid all at (xs ++ filler (16 - length xs))

@@ -1,4 +1,5 @@
 pub mod Held
 pub mod Mirrors
 pub mod Places
+pub mod Putting
 pub mod Hidden

@@ -8,7 +8,8 @@ use Rattle.obj_core.specs.declared.object.Func.{Func}
 use Rattle.obj_core.specs.declared.object.Slot.{Slot}
 use Rattle.obj_core.specs.declared.object.Place.{Place}
 use Rattle.obj_core.specs.Slots.{slot_start}
-use Rattle.obj_core.specs.Disassembly.{found, starts_at}
+use Rattle.obj_core.specs.Disassembly.{found, starts_at, size_of}
+use Rattle.obj_core.specs.WellFormed.{is_end}
 use Rattle.obj_core.specs.SymbolicMachine.{link_before, target, at_code}
 use Rattle.obj_lay.specs.Held.{AreHidden, IsAt, IsAtTo, HasInstr}
 
@@ -48,10 +49,11 @@ module _ (exec : List Segment) (place : Place → ℕ) (o : Object) where
       IsAt exec (place (Place.Slot k 0)) Syscall × IsAt exec (place (Place.Slot k 2)) Nop × IsAt exec (place (Place.Slot k 3)) Nop ×
       IsAt exec (place (Place.Slot k 4)) Nop × IsAtTo exec (place (Place.Slot k 5)) Jmp (place (at_code back))
 
-  -- hidden bytes hold each instruction and each slot of an object with these disassemblies, and neighbours in a function are neighbours
+  -- hidden bytes hold each instruction and each slot of an object with these disassemblies, and what is run past has the
+  -- next instruction behind it
   pub record HoldsInstrs (disassemblies : List (List Instr)) : Type 0 where
     pub hidden : AreHidden exec
     pub code : (n off : ℕ) → is_code_place (slice_get disassemblies n) off ≡ true → (s : HasInstr o n off) → CodeBytes s.func n off s.instr
-    pub neighbours : (n off size : ℕ) → is_code_place (slice_get disassemblies n) off ≡ true → is_code_place (slice_get disassemblies n) (off + size) ≡ true → place (Place.Code n (off + size)) ≡ (place (Place.Code n off) + size) % 2 ^ 64
+    pub neighbours : (n off : ℕ) → is_code_place (slice_get disassemblies n) off ≡ true → (s : HasInstr o n off) → is_end s.instr ≡ false → is_code_place (slice_get disassemblies n) (off + size_of s.instr) ≡ true → place (Place.Code n (off + size_of s.instr)) ≡ (place (Place.Code n off) + size_of s.instr) % 2 ^ 64
     pub slots : (k : ℕ) (s : Slot) → slice_get o.slots k ≡ Some s → SlotBytes k s
     pub addresses : (k at : ℕ) → place (Place.Slot k at) ≡ slot_start o k + at

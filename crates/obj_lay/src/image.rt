@@ -9,7 +9,7 @@ ghost use Rattle.std.specs.List.{sum_by};
 ghost use Rattle.x86_core.specs.Data.{ro_start, rw_start, segment as segment_of};
 ghost use Rattle.obj_core.specs.declared.object.Func.{Func};
 ghost use Rattle.obj_core.specs.Slots.{positions as positions_of};
-ghost use Rattle.obj_core.specs.WellFormed.{IsWellFormed, most_code, most_slots};
+ghost use Rattle.obj_core.specs.WellFormed.{IsWellFormed, most_code, most_functions, most_slots};
 ghost use Rattle.elf_file.specs.Sound.{IsSound};
 ghost use Rattle.obj_core.specs.Layout.{present, layout};
 ghost use Rattle.obj_lay.specs.Hidden.{HasDataOf, RepliesAsObject, ShowTheSame, ShowsObject};
@@ -31,8 +31,8 @@ const SLOT_PURPOSE: u32 = 2;
 
 /// The image of an object for a layout seed, which is sound and hides where its code lies.
 ///
-/// Time is linear in the image, times the logarithm of the number of functions; memory is that of the
-/// image, and a constant a function and a slot.
+/// Time is linear in the image, with the logarithm of the number of pieces for each link, branch and slot;
+/// memory is that of the image, and a constant a piece and a slot.
 #[tactic(auto, unfolding(obj_core::specs::Layout::layout))]
 pub fn lay(alloc: Global, o: &Checked, layout_seed: u64) -> Result<Image, NoMemory>
     ensures layout { IfOk result (λ image. image ≡ layout o.now.object layout_seed) }
@@ -58,6 +58,7 @@ pub fn lay(alloc: Global, o: &Checked, layout_seed: u64) -> Result<Image, NoMemo
 /// Makes it known to a proof how large a well-formed object is at most.
 fn sizes_known(o: &Object)
     requires { ∥ IsWellFormed o.now ∥₁ }
+    ensures functions { length o.now.functions ≤ most_functions }
     ensures slots { length o.now.slots ≤ most_slots }
     ensures code { sum_by (λ (f : Func). length f.bytes) o.now.functions ≤ most_code }
 {}

@@ -9,6 +9,7 @@
 
 mod code;
 mod image;
+mod instr_at;
 pub mod law;
 mod slots;
 

@@ -184,11 +184,11 @@ module _ (n : Narrow) (fit : IsFit n) where
     abbrev o : Object
     o = narrow_object slot_seed reg_seed n
 
-    abbrev cuts : List (List Instr)
-    cuts = main_code n ∷ (Jmp (pos 0) ∷ []) ∷ (Ud2 ∷ []) ∷ (Ud2 ∷ []) ∷ (Ud2 ∷ []) ∷ (Ud2 ∷ []) ∷ (Ud2 ∷ []) ∷ []
+    abbrev disassemblies : List (List Instr)
+    disassemblies = main_code n ∷ (Jmp (pos 0) ∷ []) ∷ (Ud2 ∷ []) ∷ (Ud2 ∷ []) ∷ (Ud2 ∷ []) ∷ (Ud2 ∷ []) ∷ (Ud2 ∷ []) ∷ []
 
-    main_cut : IsDisassembly (main_bytes n) (main_code n)
-    main_cut = record {
+    main_disassembly : IsDisassembly (main_bytes n) (main_code n)
+    main_disassembly = record {
       instructions = subst (Each IsInstr) (sym split) (each_append IsInstr front last (each_instr front quiet) (omega arith, (tt, tt)));
       whole = refl;
     }
@@ -205,20 +205,24 @@ module _ (n : Narrow) (fit : IsFit n) where
     main_fits = record {
       bytes = main_bytes_fit;
       links = (record { at = let s = main_short in omega arith; slot = omega arith }, tt);
+      cuts = tt;
       length_fits = let s = main_short in omega arith;
       links_fit = omega arith;
+      cuts_fit = omega arith;
     }
 
     start_fits : IsFunc start_function
     start_fits = record {
       bytes = (omega arith, (omega arith, (omega arith, (omega arith, (omega arith, tt)))));
       links = (record { at = omega arith; slot = omega arith }, tt);
+      cuts = tt;
       length_fits = omega arith;
       links_fit = omega arith;
+      cuts_fit = omega arith;
     }
 
     stub_fits : IsFunc stub_function
-    stub_fits = record { bytes = (omega arith, (omega arith, tt)); links = tt; length_fits = omega arith; links_fit = omega arith }
+    stub_fits = record { bytes = (omega arith, (omega arith, tt)); links = tt; cuts = tt; length_fits = omega arith; links_fit = omega arith; cuts_fit = omega arith }
 
     object_fits : IsObject o
     object_fits = record {
@@ -238,17 +242,18 @@ module _ (n : Narrow) (fit : IsFit n) where
     few_enough = record {
       some_function = omega arith;
       functions = omega arith;
+      pieces = omega arith;
       some_slot = omega arith;
       slots = omega arith;
       code = let s = main_short in omega arith;
       data_bytes = omega arith;
     }
 
-    stub_cut : IsDisassembly (spelled (Ud2 ∷ [])) (Ud2 ∷ [])
-    stub_cut = record { instructions = (tt, tt); whole = refl }
+    stub_disassembly : IsDisassembly (spelled (Ud2 ∷ [])) (Ud2 ∷ [])
+    stub_disassembly = record { instructions = (tt, tt); whole = refl }
 
-    all_cut : AreDisassemblies o.functions cuts
-    all_cut = (main_cut, (record { instructions = (omega arith, tt); whole = refl }, (stub_cut, (stub_cut, (stub_cut, (stub_cut, (stub_cut, tt)))))))
+    all_disassembled : AreDisassemblies o.functions disassemblies
+    all_disassembled = (main_disassembly, (record { instructions = (omega arith, tt); whole = refl }, (stub_disassembly, (stub_disassembly, (stub_disassembly, (stub_disassembly, (stub_disassembly, tt)))))))
 
     -- what the rules find in `main` and in its last slot; nothing else can fail
     abbrev judged : List ℕ → List ℕ → List ℕ → List ℕ → Bool → Option Violation
@@ -258,7 +263,7 @@ module _ (n : Narrow) (fit : IsFit n) where
         (or_else (or_else (at_least_offset 5 0 ends) None)
         (or_else (if starts then None else Some (record { rule = 6; spot = OfSlot 2; offset = 0 })) None)))
 
-    kept : violation o cuts ≡ None
+    kept : violation o disassemblies ≡ None
     kept =
         let all = found (main_code n) in
         let l = bad_links None all 3 links in
@@ -269,4 +274,4 @@ module _ (n : Narrow) (fit : IsFit n) where
         ap (λ x. judged [] [] [] x s) ends_well ∙ ap (judged [] [] [] []) back_starts
 
     pub narrow_well_formed : IsWellFormed o
-    narrow_well_formed = record { object = object_fits; few = few_enough; disassemblies = cuts; disassembled = all_cut; kept = kept }
+    narrow_well_formed = record { object = object_fits; few = few_enough; disassemblies = disassemblies; disassembled = all_disassembled; kept = kept }

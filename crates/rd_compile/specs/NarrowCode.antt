@@ -64,15 +64,15 @@ main_bytes n = spelled (main_code n)
 
 -- the jump to the system call ends, and what is behind it begins, two bytes before the end
 abbrev pub main_function : Narrow → Func
-main_function n = record { kind = FuncKind.Plain; bytes = main_bytes n; links = record { at = length (main_bytes n) - 6; slot = 2 } ∷ [] }
+main_function n = record { kind = FuncKind.Plain; bytes = main_bytes n; links = record { at = length (main_bytes n) - 6; slot = 2 } ∷ []; cuts = [] }
 
 -- a jump to `main` by its slot
 abbrev pub start_function : Func
-start_function = record { kind = FuncKind.Plain; bytes = spelled (Jmp (pos 0) ∷ []); links = record { at = 1; slot = 1 } ∷ [] }
+start_function = record { kind = FuncKind.Plain; bytes = spelled (Jmp (pos 0) ∷ []); links = record { at = 1; slot = 1 } ∷ []; cuts = [] }
 
 -- an outside function, which no narrow program calls
 abbrev pub stub_function : Func
-stub_function = record { kind = FuncKind.Plain; bytes = spelled (Ud2 ∷ []); links = [] }
+stub_function = record { kind = FuncKind.Plain; bytes = spelled (Ud2 ∷ []); links = []; cuts = [] }
 
 abbrev pub narrow_object : ℕ → ℕ → Narrow → Object
 narrow_object slot_seed reg_seed n = record {

@@ -19,6 +19,7 @@ fn single(alloc: Global, instr: &Instr) -> Result<Func, NoMemory>
       kind = FuncKind.Plain;
       bytes = spelled (instr.now ∷ []);
       links = [];
+      cuts = [];
     }) }
 {
     let mut bytes = List::new(alloc);
@@ -27,6 +28,7 @@ fn single(alloc: Global, instr: &Instr) -> Result<Func, NoMemory>
         kind: FuncKind::Plain,
         bytes,
         links: List::new(alloc),
+        cuts: List::new(alloc),
     })
 }
 
@@ -42,6 +44,7 @@ fn start(alloc: Global) -> Result<Func, NoMemory>
         kind: FuncKind::Plain,
         bytes,
         links,
+        cuts: List::new(alloc),
     })
 }
 
@@ -53,6 +56,7 @@ fn main_of(alloc: Global, bytes: List<u8>) -> Result<Func, NoMemory>
       kind = FuncKind.Plain;
       bytes = bytes;
       links = record { at = length bytes - 6; slot = 2 } ∷ [];
+      cuts = [];
     }) }
 {
     let at = (bytes.len() - 6) as u32;
@@ -62,6 +66,7 @@ fn main_of(alloc: Global, bytes: List<u8>) -> Result<Func, NoMemory>
         kind: FuncKind::Plain,
         bytes,
         links,
+        cuts: List::new(alloc),
     })
 }
 

@@ -406,7 +406,7 @@ const SQUARE: &[u8] =
 /// How the object of the module that returns 7 begins: its form, its seeds, its seven functions.
 #[rattlefmt::skip]
 const SEVEN_OBJECT: [u8; 28] = [
-    0x52, 0x44, 0x4F, 0x31, 1, 0, 0, 0,
+    0x52, 0x44, 0x4F, 0x31, 2, 0, 0, 0,
     1, 0, 0, 0, 0, 0, 0, 0,
     2, 0, 0, 0, 0, 0, 0, 0,
     7, 0, 0, 0,
@@ -503,15 +503,71 @@ fn objects_have_these_lines(rt: HostRuntime) -> Result<(), Fail> {
         (b"\x90", 0, 5, b"shape 5 function 0 0\n"),
         (b"\x06", 0, 5, b"shape 2 function 0 0\n"),
     ];
-    for (code, cut, want, line) in rows {
+    for (code, less, want, line) in rows {
         let mut file = Vec::new(alloc);
         file.extend_from_slice(&OBJECT)?;
         file.extend_from_slice(&[(code.len() % 256) as u8, 0, 0, 0, 0, 0, 0, 0])?;
         file.extend_from_slice(code)?;
         file.resize(file.len() + 16, 0)?;
-        let length = file.len() - cut;
+        let length = file.len() - less;
         let left = run_surely(alloc, &["lay", "m", "--layout-seed", "7"], &file[..length])?;
         assert_eq!(rt; left.status, want);
+        assert!(rt; left.said.as_slice() == line);
+    }
+    Ok(())
+}
+
+/// An object of one function and one slot that leads to it, in format 2: a jump over a breakpoint to `ud2`.
+/// Two cuts part the breakpoint from what stands on both sides.
+#[rattlefmt::skip]
+const CUT_OBJECT: [u8; 88] = [
+    0x52, 0x44, 0x4F, 0x31, 2, 0, 0, 0,
+    0, 0, 0, 0, 0, 0, 0, 0,
+    0, 0, 0, 0, 0, 0, 0, 0,
+    1, 0, 0, 0, 1, 0, 0, 0,
+    0, 0, 0, 0, 0, 0, 0, 0,
+    0, 0, 0, 0, 8, 0, 0, 0,
+    0, 0, 0, 0, 2, 0, 0, 0,
+    0xE9, 1, 0, 0, 0, 0xCC, 0x0F, 0x0B,
+    5, 0, 0, 0, 6, 0, 0, 0,
+    0, 0, 0, 0, 0, 0, 0, 0,
+    0, 0, 0, 0, 0, 0, 0, 0,
+];
+
+#[test]
+fn a_function_in_pieces_runs_in_each_layout(rt: HostRuntime) -> Result<(), Fail> {
+    let alloc = rt.alloc();
+    for layout_seed in ["0", "1", "2", "7"] {
+        let lay = ["lay", "m", "--layout-seed", layout_seed];
+        let laid = run_surely(alloc, &lay, &CUT_OBJECT)?;
+        assert_eq!(rt; laid.status, 0);
+        let two = run_surely(alloc, &["run", "m", "--steps", "2"], laid.out.as_slice())?;
+        assert_eq!(rt; two.status, 21);
+        assert!(rt; two.said.as_slice() == b"going\n".as_slice());
+        let three = run_surely(alloc, &["run", "m", "--steps", "3"], laid.out.as_slice())?;
+        assert_eq!(rt; three.status, 20);
+        assert!(rt; three.said.as_slice() == b"trapped invalid\n".as_slice());
+    }
+    Ok(())
+}
+
+#[test]
+fn wrong_cuts_have_these_lines(rt: HostRuntime) -> Result<(), Fail> {
+    let alloc = rt.alloc();
+    let rows: [(u8, &[u8], &[u8]); 3] = [
+        (2, b"\x06\0\0\0\x05\0\0\0", b"shape 9 function 0 5\n"),
+        (1, b"\x01\0\0\0", b"shape 9 function 0 1\n"),
+        (1, b"\x08\0\0\0", b"shape 9 function 0 8\n"),
+    ];
+    for (count, cuts, line) in rows {
+        let mut file = Vec::new(alloc);
+        file.extend_from_slice(&CUT_OBJECT[..52])?;
+        file.extend_from_slice(&[count, 0, 0, 0])?;
+        file.extend_from_slice(&CUT_OBJECT[56..64])?;
+        file.extend_from_slice(cuts)?;
+        file.extend_from_slice(&CUT_OBJECT[72..])?;
+        let left = run_surely(alloc, &["lay", "m", "--layout-seed", "7"], file.as_slice())?;
+        assert_eq!(rt; left.status, 5);
         assert!(rt; left.said.as_slice() == line);
     }
     Ok(())

@@ -1,6 +1,6 @@
 //! Worked objects: the smallest one passes, and small changes fail a rule each.
 //!
-//! Each row is a file of one function at most, with entry slots, and what the verifier tells of it. The
+//! Each row is a file of one function at most, with cuts and entry slots, and what the verifier tells of it. The
 //! files are put together here by hand, and read by `obj_file`.
 
 ghost use Rattle.std.specs.Prelude.{◌<◌, length};
@@ -14,13 +14,14 @@ use rd_num::width::NoMemory;
 use std::alloc::Global;
 
 /// A file of one function without links, or of none where there is no code, and entry slots.
-fn file(alloc: Global, code: &[u8], targets: &[u32]) -> Result<List<u8>, NoMemory>
+fn file(alloc: Global, code: &[u8], cuts: &[u32], targets: &[u32]) -> Result<List<u8>, NoMemory>
     requires code_is_short { length code.now < 100 }
+    requires few_cuts { length cuts.now < 100 }
     requires few_slots { length targets.now < 100 }
 {
     let mut out = List::new(alloc);
     out.append(b"RDO1")?;
-    out.append(&[1, 0, 0, 0, 0, 0, 0, 0, 0, 0, 0, 0, 0, 0, 0, 0, 0, 0, 0, 0])?;
+    out.append(&[2, 0, 0, 0, 0, 0, 0, 0, 0, 0, 0, 0, 0, 0, 0, 0, 0, 0, 0, 0])?;
     out.append(&[u8::from(!code.is_empty()), 0, 0, 0])?;
     out.append(&put_u32_le(targets.len() as u32))?;
     out.append(&[0, 0, 0, 0, 0, 0, 0, 0])?;
@@ -28,7 +29,11 @@ fn file(alloc: Global, code: &[u8], targets: &[u32]) -> Result<List<u8>, NoMemor
         out.append(&[0, 0, 0, 0])?;
         out.append(&put_u32_le(code.len() as u32))?;
         out.append(&[0, 0, 0, 0])?;
+        out.append(&put_u32_le(cuts.len() as u32))?;
         out.append(code)?;
+        for cut in cuts {
+            out.append(&put_u32_le(*cut))?;
+        }
     }
     for target in targets {
         out.append(&[0, 0, 0, 0])?;
@@ -91,9 +96,59 @@ fn tells_the_first_rule_that_fails(rt: HostRuntime) {
             Some((rule, spot, offset)) => Some(ShapeFault::Rule { rule, spot, offset }),
         };
         assert!(rt; code.len() < 100 && targets.len() < 100);
-        match file(rt.alloc(), code, targets) {
+        match file(rt.alloc(), code, &[], targets) {
             Ok(bytes) => assert_eq!(rt; told(rt.alloc(), bytes.as_slice()), expected),
             Err(_) => panic!(rt; "no memory"),
         }
+    }
+}
+
+/// A jump over a breakpoint to `ud2`.
+const PARTS: [u8; 8] = [0xE9, 1, 0, 0, 0, 0xCC, 0x0F, 0x0B];
+
+#[test]
+fn tells_the_first_cut_that_is_wrong(rt: HostRuntime) {
+    // the cuts, and which of them is told
+    let rows: [(&[u32], Option<u32>); 9] = [
+        (&[5, 6], None),
+        (&[5], None),
+        (&[6], None),
+        (&[6, 5], Some(5)),
+        (&[6, 6], Some(6)),
+        (&[0, 5], Some(0)),
+        (&[1], Some(1)),
+        (&[7, 0], Some(7)),
+        (&[5, 6, 8], Some(8)),
+    ];
+    for (cuts, wanted) in rows {
+        let expected = match wanted {
+            None => None,
+            Some(offset) => Some(ShapeFault::Rule {
+                rule: 9,
+                spot: ShapeSpot::Function(0),
+                offset,
+            }),
+        };
+        assert!(rt; cuts.len() < 100);
+        match file(rt.alloc(), &PARTS, cuts, &[0]) {
+            Ok(bytes) => assert_eq!(rt; told(rt.alloc(), bytes.as_slice()), expected),
+            Err(_) => panic!(rt; "no memory"),
+        }
+    }
+}
+
+#[test]
+fn a_cut_stands_behind_what_nothing_runs_past(rt: HostRuntime) {
+    // nop, then int3: an instruction begins at 1, but the one before runs on
+    match file(rt.alloc(), &[0x90, 0xCC], &[1], &[0]) {
+        Ok(bytes) => assert_eq!(rt;
+            told(rt.alloc(), bytes.as_slice()),
+            Some(ShapeFault::Rule {
+                rule: 9,
+                spot: ShapeSpot::Function(0),
+                offset: 1,
+            })
+        ),
+        Err(_) => panic!(rt; "no memory"),
     }
 }

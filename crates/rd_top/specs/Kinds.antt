@@ -16,7 +16,7 @@ use Rattle.ir_parse.specs.declared.parse.ParseFault.TheVariants as stray
 use Rattle.ir_parse.specs.Faults.{Faults as FaultsOf}
 use Rattle.obj_core.specs.declared.object.Object.{Object}
 use Rattle.obj_core.specs.declared.checked.Checked.{Checked}
-use Rattle.obj_core.specs.Object.{IsObject, object_bytes}
+use Rattle.obj_core.specs.Object.{IsObject, Spells}
 use Rattle.obj_core.specs.WellFormed.{IsWellFormed, IsFirstViolation}
 use Rattle.obj_file.specs.Faults.{IsNoneFrom}
 use Rattle.obj_check.specs.declared.fault.ShapeSpot.{ShapeSpot}
@@ -101,20 +101,20 @@ module_text = record { limit = 8388608; Spells = SpellsValid; Refuses = RefusesM
 abbrev pub narrow_text : Kind Narrow
 narrow_text = record { limit = 8388608; Spells = SpellsNarrow; Refuses = RefusesNarrow }
 
--- bytes are those of this object
-pub record Spells (bytes : List ℕ) (o : Object) : Type 0 where
+-- bytes are a file of this object, in either format
+pub record AreObject (bytes : List ℕ) (o : Object) : Type 0 where
   pub object : IsObject o
-  pub spelled : bytes ≡ object_bytes o
+  pub spelled : Spells bytes o
 
 -- bytes are those of a well-formed object
 pub record SpellsChecked (bytes : List ℕ) (checked : Checked) : Type 0 where
-  pub spells : Spells bytes checked.object
+  pub spells : AreObject bytes checked.object
   pub well_formed : IsWellFormed checked.object
 
 -- bytes spell an object that isn't well formed, and this is what is wrong with it
 pub record IsMisshapen (bytes : List ℕ) (rule : ℕ) (spot : ShapeSpot) (offset : ℕ) : Type 0 where
   pub object : Object
-  pub spells : Spells bytes object
+  pub spells : AreObject bytes object
   pub first : IsFirstViolation object (record { rule = rule; spot = spot_of spot; offset = offset })
 
 abbrev pub RefusesObject : List ℕ → Refusal → Type 0

@@ -69,7 +69,7 @@ all_hidden (x ∷ xs) base [] = (refl, refl, tt)
 all_hidden (x ∷ xs) base (w ∷ ws) = (refl, refl, (refl, refl, tt))
 
 -- sixteen bytes hold an instruction whole
-take_past : (n : ℕ) (xs more : List ℕ) → length xs ≤ n → take n (xs ++ more) ≡ xs ++ take (n - length xs) more
+pub take_past : (n : ℕ) (xs more : List ℕ) → length xs ≤ n → take n (xs ++ more) ≡ xs ++ take (n - length xs) more
 take_past n [] more le = let whole : n ≡ n - 0 = omega arith in ap (λ m. take m more) whole
 take_past zero (x ∷ xs) more le = absurd (omega (arith, le))
 take_past (suc n) (x ∷ xs) more le =

@@ -48,7 +48,7 @@ module _ (o : Object) (w : IsWellFormed o) (seed : ℕ) where
   laid = record {
     hidden = all_hidden (trampoline_bytes o seed) (code_base seed) (code_bytes o seed);
     code = code_laid o w seed;
-    neighbours = λ n off size here next. neighbours o w seed n off size next;
+    neighbours = neighbours o w seed;
     slots = slot_laid o w seed;
     addresses = λ k at. refl;
   }

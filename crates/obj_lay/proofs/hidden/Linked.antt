@@ -1,19 +1,24 @@
--- What the bytes of a function have at its instructions once the displacements of its links are filled in.
-use Rattle.std.proofs.Common.{◌≡◌, ℕ, ◌+◌, ◌-◌, ◌<◌, ◌≤◌, ◌⊎◌, inl, inr, Bool, true, false, List, [], ◌∷◌, ◌++◌, length, drop, Option, Some, None, if◌then◌else◌, refl, sym, ◌∙◌, ap, arith}
-use Rattle.std.specs.Prelude.{nat_eq, slice_set, ℤ, pos}
+-- What the bytes of a function have at its instructions once displacements are filled in.
+use Rattle.std.proofs.Common.{◌≡◌, ℕ, ◌+◌, ◌-◌, ◌<◌, ◌≤◌, ◌⊎◌, inl, inr, Bool, true, false, List, [], ◌∷◌, ◌++◌, length, drop, Option, Some, None, if◌then◌else◌, refl, sym, ◌∙◌, ap, subst, arith}
+use Rattle.std.specs.Prelude.{nat_eq, nat_lt, slice_set, ℤ, pos, negsuc, ◌%◌, ◌^◌}
 use Rattle.std.proofs.lemmas.Bool.{eqb-true, eqb-false, ne_eqb, ltb-true, and_parts}
 use Rattle.std.proofs.lemmas.List.{set-append_right, drop-set-lt, drop-set-add}
 use Rattle.x86_core.specs.declared.instr.Instr.{Instr}
 use Rattle.x86_core.specs.declared.instr.Cond.{Cond}
 use Rattle.x86_core.specs.declared.instr.Instr.TheVariants.{Jcc, Jmp}
 use Rattle.x86_core.specs.Encoding.{encoding, number32}
+use Rattle.x86_core.specs.Arithmetic.{moved}
+use Rattle.x86_core.proofs.Laws.{some_bytes}
+use Rattle.obj_core.specs.declared.object.Func.{Func}
 use Rattle.obj_core.specs.declared.object.Link.{Link}
-use Rattle.obj_core.specs.Disassembly.{Found, found, size_of}
+use Rattle.obj_core.specs.declared.object.CodeAt.{CodeAt}
+use Rattle.obj_core.specs.Object.{Each}
+use Rattle.obj_core.specs.Disassembly.{Found, found, found_from, size_of}
 use Rattle.obj_core.specs.SymbolicMachine.{link_before}
-use Rattle.obj_core.specs.WellFormed.{fills_zero, is_good_link, bad_links}
+use Rattle.obj_core.specs.WellFormed.{displacement, bad_links}
 use Rattle.obj_core.proofs.Kept.{good_parts, good_first}
 use Rattle.obj_core.specs.Placement.{displacement_bytes, overlaid, slot_in}
-use Rattle.obj_core.specs.Layout.{linked}
+use Rattle.obj_core.specs.Layout.{Way, way_of, ways_of, link_ways, led}
 use Rattle.obj_lay.proofs.hidden.Instrs.{IsIn, Front, apart, FillsZero, which_fills, IsZeroBranch, zero_branch}
 
 -- what is put before an offset is not seen from there
@@ -48,27 +53,55 @@ stays bs d at off i (inr le) h =
       begins = drop_within off bs d (at - off) at whole ∙ ap (λ xs. overlaid xs (at - off) d) h.begins ∙ put_behind (encoding i) h.more d (at - off - size_of i) (at - off) split;
     }
 
--- a branch with displacement 0 gets another displacement
-abbrev IsFilled : (ℤ → Instr) → Type 0
-IsFilled make = (bs d : List ℕ) (at off : ℕ) (by : ℤ) → at + 4 ≡ off + size_of (make (pos 0)) → d ≡ number32 by → Front (drop off bs) (make (pos 0)) → Front (drop off (overlaid bs at d)) (make by)
+-- a branch gets another displacement
+abbrev pub IsFilled : (ℤ → Instr) → Type 0
+IsFilled make = (bs d : List ℕ) (at off : ℕ) (x by : ℤ) → at + 4 ≡ off + size_of (make x) → d ≡ number32 by → Front (drop off bs) (make x) → Front (drop off (overlaid bs at d)) (make by)
 
 -- a jump
-jump_filled : IsFilled Jmp
-jump_filled bs d at off by e same h =
+pub jump_filled : IsFilled Jmp
+jump_filled bs d at off (pos n) by e same h =
     let whole : at ≡ off + 1 = omega arith in
     record {
       more = h.more;
-      begins = ap (λ x. drop off (overlaid bs at x)) same ∙ drop_within off bs (number32 by) 1 at whole ∙ ap (λ xs. overlaid xs 1 (number32 by)) h.begins;
+      begins = ap (λ x. drop off (overlaid bs at x)) same ∙ drop_within off bs (number32 by) 1 at whole ∙ ap (λ xs. overlaid xs 1 (number32 by)) h.begins ∙ jump_bytes by;
     }
+  where
+    jump_bytes : (by : ℤ) → overlaid (encoding (Jmp (pos n)) ++ h.more) 1 (number32 by) ≡ encoding (Jmp by) ++ h.more
+    jump_bytes (pos m) = refl
+    jump_bytes (negsuc m) = refl
+jump_filled bs d at off (negsuc n) by e same h =
+    let whole : at ≡ off + 1 = omega arith in
+    record {
+      more = h.more;
+      begins = ap (λ x. drop off (overlaid bs at x)) same ∙ drop_within off bs (number32 by) 1 at whole ∙ ap (λ xs. overlaid xs 1 (number32 by)) h.begins ∙ jump_bytes by;
+    }
+  where
+    jump_bytes : (by : ℤ) → overlaid (encoding (Jmp (negsuc n)) ++ h.more) 1 (number32 by) ≡ encoding (Jmp by) ++ h.more
+    jump_bytes (pos m) = refl
+    jump_bytes (negsuc m) = refl
 
 -- a conditional branch
-test_filled : (c : Cond) → IsFilled (Jcc c)
-test_filled c bs d at off by e same h =
+pub test_filled : (c : Cond) → IsFilled (Jcc c)
+test_filled c bs d at off (pos n) by e same h =
     let whole : at ≡ off + 2 = omega arith in
     record {
       more = h.more;
-      begins = ap (λ x. drop off (overlaid bs at x)) same ∙ drop_within off bs (number32 by) 2 at whole ∙ ap (λ xs. overlaid xs 2 (number32 by)) h.begins;
+      begins = ap (λ x. drop off (overlaid bs at x)) same ∙ drop_within off bs (number32 by) 2 at whole ∙ ap (λ xs. overlaid xs 2 (number32 by)) h.begins ∙ test_bytes by;
     }
+  where
+    test_bytes : (by : ℤ) → overlaid (encoding (Jcc c (pos n)) ++ h.more) 2 (number32 by) ≡ encoding (Jcc c by) ++ h.more
+    test_bytes (pos m) = refl
+    test_bytes (negsuc m) = refl
+test_filled c bs d at off (negsuc n) by e same h =
+    let whole : at ≡ off + 2 = omega arith in
+    record {
+      more = h.more;
+      begins = ap (λ x. drop off (overlaid bs at x)) same ∙ drop_within off bs (number32 by) 2 at whole ∙ ap (λ xs. overlaid xs 2 (number32 by)) h.begins ∙ test_bytes by;
+    }
+  where
+    test_bytes : (by : ℤ) → overlaid (encoding (Jcc c (negsuc n)) ++ h.more) 2 (number32 by) ≡ encoding (Jcc c by) ++ h.more
+    test_bytes (pos m) = refl
+    test_bytes (negsuc m) = refl
 
 -- no later link has the place of an earlier one
 pub no_later : (xs : List Found) (slots b b2 : ℕ) (ls : List Link) → b ≤ b2 → bad_links (Some b2) xs slots ls ≡ [] → link_before ls (b + 4) ≡ None
@@ -96,13 +129,148 @@ zero_size : (i : Instr) → IsZeroBranch i → 4 ≤ size_of i
 zero_size i (inl e) = let size : size_of i ≡ 5 = ap size_of e in omega (arith, size)
 zero_size i (inr x) = let size : size_of i ≡ 6 = ap size_of x.1 in omega (arith, size)
 
-module _ (positions : List ℕ) (start : ℕ) (is : List Instr) (slots : ℕ) (off : ℕ) (i : Instr) (there : IsIn 0 is off i) where
-  -- the bytes of a link lie before or behind an instruction that does not end with them
-  aside : (l : Link) → fills_zero (found is) l.at ≡ true → (l.at + 4 ≡ off + size_of i → ⊥) → (l.at + 4 ≤ off) ⊎ (off + size_of i ≤ l.at)
-  aside l good other =
-      let y = which_fills 0 is l.at good in
-      let ends : y.off + size_of y.instr ≡ l.at + 4 = y.ends in
-      let large = zero_size y.instr (zero_branch y.instr y.zero_by) in
+branch_size : (i : Instr) (by : ℤ) → displacement i ≡ Some by → 4 ≤ size_of i
+branch_size (Jcc c by) x e = omega arith
+branch_size (Jmp by) x e = omega arith
+branch_size i x e = absurd (cc)
+
+-- four bytes end with an instruction of a row
+pub record IsWay (is : List Instr) (w : Way) : Type 0 where
+  pub off : ℕ
+  pub instr : Instr
+  pub is_in : IsIn 0 is off instr
+  pub ends : off + size_of instr ≡ w.at + 4
+  pub long : 4 ≤ size_of instr
+
+-- each link does
+pub link_ways_end : (before : Option ℕ) (is : List Instr) (slots : ℕ) (positions : List ℕ) (ls : List Link) → bad_links before (found is) slots ls ≡ [] → Each (IsWay is) (link_ways positions ls)
+link_ways_end before is slots positions [] e = tt
+link_ways_end before is slots positions (l ∷ ls) e =
+    let x = good_first before (found is) slots l ls e in
+    let y = which_fills 0 is l.at (good_parts before (found is) slots l x.0).0 in
+    (record { off = y.off; instr = y.instr; is_in = y.is_in; ends = y.ends; long = zero_size y.instr (zero_branch y.instr y.zero_by) }, link_ways_end (Some l.at) is slots positions ls x.1)
+
+-- no way ends at an offset
+abbrev pub NoneEnds : ℕ → List Way → Type 0
+NoneEnds end ws = Each (λ (w : Way). w.at + 4 ≡ end → ⊥) ws
+
+-- all that do lead to an address, and one does
+abbrev pub AllLead : ℕ → ℕ → List Way → Type 0
+AllLead end to ws = Each (λ (w : Way). w.at + 4 ≡ end → w.to ≡ to) ws
+
+abbrev pub OneEnds : ℕ → List Way → Type 0
+OneEnds end [] = ⊥
+OneEnds end (w ∷ ws) = (w.at + 4 ≡ end) ⊎ OneEnds end ws
+
+-- links where there is none
+pub no_link_ends : (positions : List ℕ) (end : ℕ) (ls : List Link) → link_before ls end ≡ None → NoneEnds end (link_ways positions ls)
+no_link_ends positions end [] e = tt
+no_link_ends positions end (l ∷ ls) e = by_test (nat_eq (l.at + 4) end) refl e (λ x. no_link_ends positions end ls x)
+  where
+    by_test : (t : Bool) → nat_eq (l.at + 4) end ≡ t → (if t then Some l.slot else link_before ls end) ≡ None → (link_before ls end ≡ None → NoneEnds end (link_ways positions ls)) → NoneEnds end (link_ways positions (l ∷ ls))
+    by_test true same none next = absurd (cc)
+    by_test false other none next = (eqb-false (l.at + 4) end other, next none)
+
+none_lead : (end to : ℕ) (ws : List Way) → NoneEnds end ws → AllLead end to ws
+none_lead end to [] h = tt
+none_lead end to (w ∷ ws) h = (λ e. absurd (h.0 e), none_lead end to ws h.1)
+
+-- links where there is one lead to its slot
+pub links_lead : (before : Option ℕ) (xs : List Found) (slots : ℕ) (positions : List ℕ) (end k : ℕ) (ls : List Link) → bad_links before xs slots ls ≡ [] → link_before ls end ≡ Some k → AllLead end (slot_in positions k) (link_ways positions ls) × OneEnds end (link_ways positions ls)
+links_lead before xs slots positions end k [] e f = absurd (cc)
+links_lead before xs slots positions end k (l ∷ ls) e f = by_test (nat_eq (l.at + 4) end) refl f (λ g. links_lead (Some l.at) xs slots positions end k ls (good_first before xs slots l ls e).1 g)
+  where
+    by_test : (t : Bool) → nat_eq (l.at + 4) end ≡ t → (if t then Some l.slot else link_before ls end) ≡ Some k → (link_before ls end ≡ Some k → AllLead end (slot_in positions k) (link_ways positions ls) × OneEnds end (link_ways positions ls)) → AllLead end (slot_in positions k) (link_ways positions (l ∷ ls)) × OneEnds end (link_ways positions (l ∷ ls))
+    by_test true same g next =
+        let this : l.slot ≡ k = cc in
+        let ends : l.at + 4 ≡ end = eqb-true (l.at + 4) end same in
+        let none : link_before ls end ≡ None = ap (link_before ls) (sym ends) ∙ no_later xs slots l.at l.at ls (omega arith) (good_first before xs slots l ls e).1 in
+        ((λ h. ap (slot_in positions) this, none_lead end (slot_in positions k) (link_ways positions ls) (no_link_ends positions end ls none)), inl ends)
+    by_test false other g next =
+        let x = next g in
+        let no = eqb-false (l.at + 4) end other in
+        ((λ h. absurd (no h), x.0), inr x.1)
+
+-- the ways of the branches of a row
+module _ (code : CodeAt → ℕ) (n : ℕ) (f : Func) where
+  -- an instruction's
+  abbrev way : ℕ → Instr → ℤ → Way
+  way off i by = record { at = off + size_of i - 4; to = code (record { function = n; offset = moved (off + size_of i) by }) }
+
+  pub each_both : (P : Way → Type 0) (vs ws : List Way) → Each P vs → Each P ws → Each P (vs ++ ws)
+  each_both P [] ws h k = k
+  each_both P (v ∷ vs) ws h k = (h.0, each_both P vs ws h.1 k)
+
+  way_each : (P : Way → Type 0) (off : ℕ) (i : Instr) (by : Option ℤ) → displacement i ≡ by → ((x : ℤ) → displacement i ≡ Some x → P (way off i x)) → Each P (way_of code n f (record { at = off; instr = i }) by)
+  way_each P off i None e h = tt
+  way_each P off i (Some x) e h = by_test (nat_lt (moved (off + size_of i) x) (length f.bytes))
+    where
+      by_test : (t : Bool) → Each P (if t then way off i x ∷ [] else [])
+      by_test true = (h x e, tt)
+      by_test false = tt
+
+  -- what holds of each branch's
+  pub ways_each : (P : Way → Type 0) (at : ℕ) (is : List Instr) → ((off : ℕ) (i : Instr) (by : ℤ) → IsIn at is off i → displacement i ≡ Some by → P (way off i by)) → Each P (ways_of code n f (found_from at is))
+  ways_each P at [] h = tt
+  ways_each P at (j ∷ js) h =
+      each_both P (way_of code n f (record { at = at; instr = j }) (displacement j)) (ways_of code n f (found_from (at + size_of j) js))
+      (way_each P at j (displacement j) refl (λ x e. h at j x (inl (refl, refl)) e))
+      (ways_each P (at + size_of j) js (λ off i by k e. h off i by (inr k) e))
+
+  one_left : (end : ℕ) (vs ws : List Way) → OneEnds end vs → OneEnds end (vs ++ ws)
+  one_left end [] ws h = absurd h
+  one_left end (v ∷ vs) ws (inl h) = inl h
+  one_left end (v ∷ vs) ws (inr h) = inr (one_left end vs ws h)
+
+  one_right : (end : ℕ) (vs ws : List Way) → OneEnds end ws → OneEnds end (vs ++ ws)
+  one_right end [] ws h = h
+  one_right end (v ∷ vs) ws h = inr (one_right end vs ws h)
+
+  way_ends : (off : ℕ) (i : Instr) (by : ℤ) (y : Option ℤ) → displacement i ≡ Some by → displacement i ≡ y → nat_lt (moved (off + size_of i) by) (length f.bytes) ≡ true → OneEnds (off + size_of i) (way_of code n f (record { at = off; instr = i }) y)
+  way_ends off i by None e g lt = absurd (let no : None ≡ Some by = sym g ∙ e in cc)
+  way_ends off i by (Some x) e g lt =
+      let same : x ≡ by = some_same (sym g ∙ e) in
+      let size = branch_size i by e in
+      subst (λ z. OneEnds (off + size_of i) (way_of code n f (record { at = off; instr = i }) (Some z))) (sym same)
+      (subst (λ t. OneEnds (off + size_of i) (if t then way off i by ∷ [] else [])) (sym lt) (inl (omega (arith, size))))
+    where
+      some_same : Some x ≡ Some by → x ≡ by
+      some_same h = cc
+
+  -- the branch's own is one of them
+  pub branch_ends : (at : ℕ) (is : List Instr) (off : ℕ) (i : Instr) (by : ℤ) → IsIn at is off i → displacement i ≡ Some by → nat_lt (moved (off + size_of i) by) (length f.bytes) ≡ true → OneEnds (off + size_of i) (ways_of code n f (found_from at is))
+  branch_ends at [] off i by h e lt = absurd h
+  branch_ends at (j ∷ js) off i by (inl h) e lt =
+      one_left (off + size_of i) (way_of code n f (record { at = at; instr = j }) (displacement j)) (ways_of code n f (found_from (at + size_of j) js))
+      (subst (λ a. OneEnds (off + size_of i) (way_of code n f (record { at = a; instr = j }) (displacement j))) h.0
+      (subst (λ q. OneEnds (off + size_of i) (way_of code n f (record { at = off; instr = q }) (displacement q))) h.1 (way_ends off i by (displacement i) e refl lt)))
+  branch_ends at (j ∷ js) off i by (inr h) e lt =
+      one_right (off + size_of i) (way_of code n f (record { at = at; instr = j }) (displacement j)) (ways_of code n f (found_from (at + size_of j) js)) (branch_ends (at + size_of j) js off i by h e lt)
+
+-- the ways of branches end with instructions
+pub branch_ways_end : (code : CodeAt → ℕ) (n : ℕ) (f : Func) (is : List Instr) → Each (IsWay is) (ways_of code n f (found is))
+branch_ways_end code n f is =
+    ways_each code n f (IsWay is) 0 is (λ off i by h e. let size = branch_size i by e in record { off = off; instr = i; is_in = h; ends = omega (arith, size); long = size })
+
+module _ (is : List Instr) (off : ℕ) (i : Instr) (there : IsIn 0 is off i) where
+  -- a way that ends where an instruction does is that of the instruction
+  pub same_end : (off2 : ℕ) (j : Instr) → IsIn 0 is off2 j → off2 + size_of j ≡ off + size_of i → (off ≡ off2) × (i ≡ j)
+  same_end off2 j h e =
+      let some = some_bytes i in
+      let some2 = some_bytes j in
+      elim (apart 0 is off i off2 j there h) [
+        | inl same ↦ same
+        | inr x ↦ elim x [
+          | inl le ↦ absurd (omega (arith, le, e, some2))
+          | inr le ↦ absurd (omega (arith, le, e, some))
+        ]
+      ]
+
+  -- the bytes of a way lie before or behind an instruction that does not end with them
+  aside : (w : Way) → IsWay is w → (w.at + 4 ≡ off + size_of i → ⊥) → (w.at + 4 ≤ off) ⊎ (off + size_of i ≤ w.at)
+  aside w y other =
+      let ends : y.off + size_of y.instr ≡ w.at + 4 = y.ends in
+      let large : 4 ≤ size_of y.instr = y.long in
       elim (apart 0 is off i y.off y.instr there y.is_in) [
         | inl same ↦ absurd (other (let size : size_of i ≡ size_of y.instr = ap size_of same.1 in let at : off ≡ y.off = same.0 in omega (arith, ends, size, at)))
         | inr h ↦ elim h [
@@ -111,69 +279,81 @@ module _ (positions : List ℕ) (start : ℕ) (is : List Instr) (slots : ℕ) (o
         ]
       ]
 
-  -- a link that does not end an instruction leaves it, and so one of its size that stands there
-  one_aside : (j : Instr) → size_of j ≡ size_of i → (l : Link) (to from : ℕ) (bs : List ℕ) → fills_zero (found is) l.at ≡ true → (l.at + 4 ≡ off + size_of i → ⊥) → Front (drop off bs) j → Front (drop off (overlaid bs l.at (displacement_bytes to from))) j
-  one_aside j size l to from bs good other h =
-      stays bs (displacement_bytes to from) l.at off j (elim (aside l good other) [
+  -- so it leaves the instruction, and one of its size that stands there
+  one_aside : (j : Instr) → size_of j ≡ size_of i → (w : Way) (to from : ℕ) (bs : List ℕ) → IsWay is w → (w.at + 4 ≡ off + size_of i → ⊥) → Front (drop off bs) j → Front (drop off (overlaid bs w.at (displacement_bytes to from))) j
+  one_aside j size w to from bs good other h =
+      stays bs (displacement_bytes to from) w.at off j (elim (aside w good other) [
         | inl le ↦ inl le
         | inr le ↦ inr (omega (arith, le, size))
       ]) h
 
-  -- the bytes after one link
-  with_link : Link → List ℕ → List ℕ
-  with_link l bs = overlaid bs l.at (displacement_bytes (slot_in positions l.slot) (start + l.at + 4))
+  -- an instruction where no way ends stays
+  pub led_stays : (j : Instr) → size_of j ≡ size_of i → (behind : ℕ → ℕ) (ws : List Way) (bs : List ℕ) → Each (IsWay is) ws → NoneEnds (off + size_of i) ws → Front (drop off bs) j → Front (drop off (led behind ws bs)) j
+  led_stays j size behind [] bs good none h = h
+  led_stays j size behind (w ∷ ws) bs good none h = led_stays j size behind ws _ good.1 none.1 (one_aside j size w w.to (behind w.at) bs good.0 none.0 h)
 
-  -- no link at all, so not the first
-  none_first : (l : Link) (ls : List Link) → link_before (l ∷ ls) (off + size_of i) ≡ None → (nat_eq (l.at + 4) (off + size_of i) ≡ false) × (link_before ls (off + size_of i) ≡ None)
-  none_first l ls e = by_test (nat_eq (l.at + 4) (off + size_of i)) e
+-- a branch where ways end
+module _ (is : List Instr) (off : ℕ) (make : ℤ → Instr) (filled : IsFilled make) (x : ℤ) (there : IsIn 0 is off (make x)) (sized : (by : ℤ) → size_of (make by) ≡ size_of (make x)) (behind : ℕ → ℕ) where
+  -- it is a branch of the kind still
+  pub led_some : (ws : List Way) (bs : List ℕ) (y : ℤ) → Each (IsWay is) ws → Front (drop off bs) (make y) → (z : ℤ) × Front (drop off (led behind ws bs)) (make z)
+  led_some [] bs y good h = (y, h)
+  led_some (w ∷ ws) bs y good h = by_test (nat_eq (w.at + 4) (off + size_of (make x))) refl (λ cs z k. led_some ws cs z good.1 k)
     where
-      by_test : (t : Bool) → (if t then Some l.slot else link_before ls (off + size_of i)) ≡ None → (t ≡ false) × (link_before ls (off + size_of i) ≡ None)
-      by_test true e = absurd (cc)
-      by_test false e = (refl, e)
+      by_test : (t : Bool) → nat_eq (w.at + 4) (off + size_of (make x)) ≡ t → ((cs : List ℕ) (z : ℤ) → Front (drop off cs) (make z) → (v : ℤ) × Front (drop off (led behind ws cs)) (make v)) → (z : ℤ) × Front (drop off (led behind (w ∷ ws) bs)) (make z)
+      by_test true same next =
+          let ends : w.at + 4 ≡ off + size_of (make y) = eqb-true (w.at + 4) (off + size_of (make x)) same ∙ ap (λ s. off + s) (sym (sized y)) in
+          next (overlaid bs w.at (displacement_bytes w.to (behind w.at))) (pos ((w.to + 2 ^ 64 - behind w.at) % 2 ^ 64)) (filled bs (displacement_bytes w.to (behind w.at)) w.at off y (pos ((w.to + 2 ^ 64 - behind w.at) % 2 ^ 64)) ends refl h)
+      by_test false other next =
+          next (overlaid bs w.at (displacement_bytes w.to (behind w.at))) y (one_aside is off (make x) there (make y) (sized y) w w.to (behind w.at) bs good.0 (eqb-false (w.at + 4) (off + size_of (make x)) other) h)
 
-  -- an instruction without a link stays
-  pub unlinked_stays : (j : Instr) → size_of j ≡ size_of i → (before : Option ℕ) (ls : List Link) (bs : List ℕ) → bad_links before (found is) slots ls ≡ [] → link_before ls (off + size_of i) ≡ None → Front (drop off bs) j → Front (drop off (linked positions start ls bs)) j
-  unlinked_stays j size before [] bs e none h = h
-  unlinked_stays j size before (l ∷ ls) bs e none h =
-      let x = good_first before (found is) slots l ls e in
-      let good = good_parts before (found is) slots l x.0 in
-      let other = none_first l ls none in
-      unlinked_stays j size (Some l.at) ls _ x.1 other.1
-      (one_aside j size l (slot_in positions l.slot) (start + l.at + 4) bs good.0 (eqb-false (l.at + 4) (off + size_of i) other.0) h)
+  -- and leads where all of them lead
+  module _ (to : ℕ) (by : ℤ) (way : (at : ℕ) → at + 4 ≡ off + size_of (make x) → displacement_bytes to (behind at) ≡ number32 by) where
+    one_led : (w : Way) (bs : List ℕ) (y : ℤ) → w.at + 4 ≡ off + size_of (make x) → w.to ≡ to → Front (drop off bs) (make y) → Front (drop off (overlaid bs w.at (displacement_bytes w.to (behind w.at)))) (make by)
+    one_led w bs y ends same h =
+        filled bs (displacement_bytes w.to (behind w.at)) w.at off y by (ends ∙ ap (λ s. off + s) (sym (sized y))) (ap (λ t. displacement_bytes t (behind w.at)) same ∙ way w.at ends) h
 
--- a branch with a link leads to its slot
-module _ (positions : List ℕ) (start : ℕ) (is : List Instr) (slots : ℕ) (off : ℕ) (make : ℤ → Instr) (filled : IsFilled make) (sized : (by : ℤ) → size_of (make by) ≡ size_of (make (pos 0))) (there : IsIn 0 is off (make (pos 0))) (k : ℕ) (by : ℤ) (way : displacement_bytes (slot_in positions k) (start + (off + size_of (make (pos 0)))) ≡ number32 by) where
-  -- where the branch ends
-  abbrev end : ℕ
-  end = off + size_of (make (pos 0))
+    led_on : (ws : List Way) (bs : List ℕ) → Each (IsWay is) ws → AllLead (off + size_of (make x)) to ws → Front (drop off bs) (make by) → Front (drop off (led behind ws bs)) (make by)
+    led_on [] bs good all h = h
+    led_on (w ∷ ws) bs good all h = led_on ws (overlaid bs w.at (displacement_bytes w.to (behind w.at))) good.1 all.1 (by_test (nat_eq (w.at + 4) (off + size_of (make x))) refl)
+      where
+        by_test : (t : Bool) → nat_eq (w.at + 4) (off + size_of (make x)) ≡ t → Front (drop off (overlaid bs w.at (displacement_bytes w.to (behind w.at)))) (make by)
+        by_test true same = let ends = eqb-true (w.at + 4) (off + size_of (make x)) same in one_led w bs by ends (all.0 ends) h
+        by_test false other = one_aside is off (make x) there (make by) (sized by) w w.to (behind w.at) bs good.0 (eqb-false (w.at + 4) (off + size_of (make x)) other) h
 
-  -- the links before leave it, its own fills it, and those behind leave it again
-  linked_leads : (before : Option ℕ) (ls : List Link) (bs : List ℕ) → bad_links before (found is) slots ls ≡ [] → link_before ls end ≡ Some k → Front (drop off bs) (make (pos 0)) → Front (drop off (linked positions start ls bs)) (make by)
-  linked_leads before [] bs e f h = absurd (cc)
-  linked_leads before (l ∷ ls) bs e f h = by_test (linked_leads (Some l.at) ls (overlaid bs l.at (displacement_bytes (slot_in positions l.slot) (start + l.at + 4))) (good_first before (found is) slots l ls e).1) (nat_eq (l.at + 4) end) refl f
-    where
-      x : (is_good_link before (found is) slots l ≡ true) × (bad_links (Some l.at) (found is) slots ls ≡ [])
-      x = good_first before (found is) slots l ls e
+    pub led_leads : (ws : List Way) (bs : List ℕ) (y : ℤ) → Each (IsWay is) ws → AllLead (off + size_of (make x)) to ws → OneEnds (off + size_of (make x)) ws → Front (drop off bs) (make y) → Front (drop off (led behind ws bs)) (make by)
+    led_leads [] bs y good all one h = absurd one
+    led_leads (w ∷ ws) bs y good all (inl ends) h = led_on ws (overlaid bs w.at (displacement_bytes w.to (behind w.at))) good.1 all.1 (one_led w bs y ends (all.0 ends) h)
+    led_leads (w ∷ ws) bs y good all (inr more) h = by_test (nat_eq (w.at + 4) (off + size_of (make x))) refl (λ cs z k. led_leads ws cs z good.1 all.1 more k)
+      where
+        by_test : (t : Bool) → nat_eq (w.at + 4) (off + size_of (make x)) ≡ t → ((cs : List ℕ) (z : ℤ) → Front (drop off cs) (make z) → Front (drop off (led behind ws cs)) (make by)) → Front (drop off (led behind (w ∷ ws) bs)) (make by)
+        by_test true same next = let ends = eqb-true (w.at + 4) (off + size_of (make x)) same in next (overlaid bs w.at (displacement_bytes w.to (behind w.at))) by (one_led w bs y ends (all.0 ends) h)
+        by_test false other next = next (overlaid bs w.at (displacement_bytes w.to (behind w.at))) y (one_aside is off (make x) there (make y) (sized y) w w.to (behind w.at) bs good.0 (eqb-false (w.at + 4) (off + size_of (make x)) other) h)
 
-      by_test : (link_before ls end ≡ Some k → Front (drop off (overlaid bs l.at (displacement_bytes (slot_in positions l.slot) (start + l.at + 4)))) (make (pos 0)) → Front (drop off (linked positions start (l ∷ ls) bs)) (make by)) → (t : Bool) → nat_eq (l.at + 4) end ≡ t → (if t then Some l.slot else link_before ls end) ≡ Some k → Front (drop off (linked positions start (l ∷ ls) bs)) (make by)
-      by_test later true same f =
-          let this : l.slot ≡ k = cc in
-          let ends : l.at + 4 ≡ end = eqb-true (l.at + 4) end same in
-          let from : start + l.at + 4 ≡ start + end = omega arith in
-          let d : displacement_bytes (slot_in positions l.slot) (start + l.at + 4) ≡ number32 by = ap (λ s. displacement_bytes (slot_in positions s) (start + l.at + 4)) this ∙ ap (displacement_bytes (slot_in positions k)) from ∙ way in
-          unlinked_stays positions start is slots off (make (pos 0)) there (make by) (sized by) (Some l.at) ls _ x.1
-          (ap (link_before ls) (sym ends) ∙ no_later (found is) slots l.at l.at ls (omega arith) x.1)
-          (filled bs (displacement_bytes (slot_in positions l.slot) (start + l.at + 4)) l.at off by ends d h)
-      by_test later false same f =
-          later f
-          (one_aside positions start is slots off (make (pos 0)) there (make (pos 0)) refl l (slot_in positions l.slot) (start + l.at + 4) bs (good_parts before (found is) slots l x.0).0 (eqb-false (l.at + 4) end same) h)
+-- some ways, and then others
+pub led_both : (behind : ℕ → ℕ) (vs ws : List Way) (bs : List ℕ) → led behind (vs ++ ws) bs ≡ led behind ws (led behind vs bs)
+led_both behind [] ws bs = refl
+led_both behind (v ∷ vs) ws bs = led_both behind vs ws _
 
--- a jump with a link
-pub jump_leads : (positions : List ℕ) (start : ℕ) (is : List Instr) (slots off : ℕ) → IsIn 0 is off (Jmp (pos 0)) → (k : ℕ) (by : ℤ) → displacement_bytes (slot_in positions k) (start + (off + 5)) ≡ number32 by →
-    (ls : List Link) (bs : List ℕ) → bad_links None (found is) slots ls ≡ [] → link_before ls (off + 5) ≡ Some k → Front (drop off bs) (Jmp (pos 0)) → Front (drop off (linked positions start ls bs)) (Jmp by)
-jump_leads positions start is slots off there k by way ls bs e f h = linked_leads positions start is slots off Jmp jump_filled (λ x. refl) there k by way None ls bs e f h
+-- the ways of branches at an instruction all lead where it goes
+pub branches_lead : (code : CodeAt → ℕ) (n : ℕ) (f : Func) (is : List Instr) (off : ℕ) (i : Instr) (by : ℤ) → IsIn 0 is off i → displacement i ≡ Some by → AllLead (off + size_of i) (code (record { function = n; offset = moved (off + size_of i) by })) (ways_of code n f (found is))
+branches_lead code n f is off i by there e =
+    ways_each code n f (λ w. w.at + 4 ≡ off + size_of i → w.to ≡ code (record { function = n; offset = moved (off + size_of i) by })) 0 is
+    (λ off2 j y h g ends.
+    let size = branch_size j y g in
+    let same = same_end is off i there off2 j h (omega (arith, ends, size)) in
+    let end : off2 + size_of j ≡ off + size_of i = omega (arith, ends, size) in
+    let one : y ≡ by = some_same j y same.1 g in
+    ap (λ k. code (record { function = n; offset = moved k y })) end ∙ ap (λ z. code (record { function = n; offset = moved (off + size_of i) z })) one)
+  where
+    some_same : (j : Instr) (y : ℤ) → i ≡ j → displacement j ≡ Some y → y ≡ by
+    some_same j y same g = let both : Some y ≡ Some by = sym g ∙ ap displacement (sym same) ∙ e in cc
 
--- a conditional branch with a link
-pub test_leads : (positions : List ℕ) (start : ℕ) (is : List Instr) (slots off : ℕ) (c : Cond) → IsIn 0 is off (Jcc c (pos 0)) → (k : ℕ) (by : ℤ) → displacement_bytes (slot_in positions k) (start + (off + 6)) ≡ number32 by →
-    (ls : List Link) (bs : List ℕ) → bad_links None (found is) slots ls ≡ [] → link_before ls (off + 6) ≡ Some k → Front (drop off bs) (Jcc c (pos 0)) → Front (drop off (linked positions start ls bs)) (Jcc c by)
-test_leads positions start is slots off c there k by way ls bs e f h = linked_leads positions start is slots off (Jcc c) (test_filled c) (λ x. refl) there k by way None ls bs e f h
+-- and at one that is none there is none
+pub no_branch_ends : (code : CodeAt → ℕ) (n : ℕ) (f : Func) (is : List Instr) (off : ℕ) (i : Instr) → IsIn 0 is off i → displacement i ≡ None → NoneEnds (off + size_of i) (ways_of code n f (found is))
+no_branch_ends code n f is off i there e =
+    ways_each code n f (λ w. w.at + 4 ≡ off + size_of i → ⊥) 0 is
+    (λ off2 j y h g ends.
+    let size = branch_size j y g in
+    let same = same_end is off i there off2 j h (omega (arith, ends, size)) in
+    let both : Some y ≡ None = sym g ∙ ap displacement (sym same.1) ∙ e in
+    absurd (cc))

@@ -26,7 +26,7 @@ use Rattle.obj_core.specs.Layout.{jump, trampoline, code_bytes, trampoline_bytes
 use Rattle.obj_lay.proofs.hidden.Instrs.{Front}
 use Rattle.obj_lay.proofs.hidden.Numbers.{between, between_leads, between_fits, displacement_between}
 use Rattle.obj_lay.proofs.hidden.Executable.{in_slots}
-use Rattle.obj_lay.proofs.hidden.Places.{start, slot_low}
+use Rattle.obj_lay.proofs.hidden.Places.{slot_low}
 use Rattle.obj_lay.proofs.hidden.Trampolines.{slot_there}
 use Rattle.obj_lay.proofs.hidden.Functions.{exec, at_place, near_code}
 
@@ -69,18 +69,17 @@ module _ (o : Object) (w : IsWellFormed o) (seed : ℕ) where
         IsAtTo (exec o w seed) (at_place o w seed (Place.Slot k at)) make (at_place o w seed (Place.Code n off))
     leads make at le n off ok sized fits fill =
         let x = near_code o w seed n off ok in
-        let low_to : 0x40000000 ≤ start o seed n + off = x.low in
-        let high_to : start o seed n + off ≤ 1412000000 = x.high in
+        let low_to : 0x40000000 ≤ address o seed (record { function = n; offset = off }) = x.low in
+        let high_to : address o seed (record { function = n; offset = off }) ≤ 1477000000 = x.high in
         let below = low in
         let bytes =
-        ap (λ to. displacement_bytes to (slot_start o k + (at + 5))) x.given ∙
-        displacement_between (start o seed n + off) (slot_start o k + (at + 5)) (omega (arith, below, le)) (omega (arith, high_to)) (omega (arith, below, le)) in
-        let size = sized (between (start o seed n + off) (slot_start o k + (at + 5))) in
-        let end : slot_start o k + at + size_of (make (between (start o seed n + off) (slot_start o k + (at + 5)))) ≡ slot_start o k + (at + 5) = omega (arith, size) in
+        displacement_between (address o seed (record { function = n; offset = off })) (slot_start o k + (at + 5)) (omega (arith, below, le)) (omega (arith, high_to)) (omega (arith, below, le)) in
+        let size = sized (between (address o seed (record { function = n; offset = off })) (slot_start o k + (at + 5))) in
+        let end : slot_start o k + at + size_of (make (between (address o seed (record { function = n; offset = off })) (slot_start o k + (at + 5)))) ≡ slot_start o k + (at + 5) = omega (arith, size) in
         record {
-          by = between (start o seed n + off) (slot_start o k + (at + 5));
-          here = begins at (make (between (start o seed n + off) (slot_start o k + (at + 5)))) (fits _ (between_fits (start o seed n + off) (slot_start o k + (at + 5)) (omega (arith, high_to)) (omega (arith, below, le, low_to)))) (fill (between (start o seed n + off) (slot_start o k + (at + 5))) bytes);
-          leads = ap (λ a. moved (a % 2 ^ 64) (between (start o seed n + off) (slot_start o k + (at + 5)))) end ∙ between_leads (start o seed n + off) (slot_start o k + (at + 5)) (omega (arith, high_to)) (omega (arith, below, le));
+          by = between (address o seed (record { function = n; offset = off })) (slot_start o k + (at + 5));
+          here = begins at (make (between (address o seed (record { function = n; offset = off })) (slot_start o k + (at + 5)))) (fits _ (between_fits (address o seed (record { function = n; offset = off })) (slot_start o k + (at + 5)) (omega (arith, high_to)) (omega (arith, below, le, low_to)))) (fill (between (address o seed (record { function = n; offset = off })) (slot_start o k + (at + 5))) bytes);
+          leads = ap (λ a. moved (a % 2 ^ 64) (between (address o seed (record { function = n; offset = off })) (slot_start o k + (at + 5)))) end ∙ between_leads (address o seed (record { function = n; offset = off })) (slot_start o k + (at + 5)) (omega (arith, high_to)) (omega (arith, below, le));
         }
 
   module _ (k : ℕ) where

@@ -25,20 +25,20 @@ use Rattle.obj_core.specs.Layout.{layout}
 use Rattle.obj_lay.proofs.hidden.Images.{layout_agrees}
 
 -- takes room for nothing, puts 7 and the number of the exit into registers, and goes to the slot of the exit
-abbrev main_cut : List Instr
-main_cut = AluImm ImmOp.Sub Wide.W64 Rsp (pos 0) ∷ MovImm32 Rdi 7 ∷ MovImm32 Rax 60 ∷ Jmp (pos 0) ∷ Ud2 ∷ []
+abbrev main_instrs : List Instr
+main_instrs = AluImm ImmOp.Sub Wide.W64 Rsp (pos 0) ∷ MovImm32 Rdi 7 ∷ MovImm32 Rax 60 ∷ Jmp (pos 0) ∷ Ud2 ∷ []
 
 -- goes to the slot of the first function
-abbrev start_cut : List Instr
-start_cut = Jmp (pos 0) ∷ []
+abbrev start_instrs : List Instr
+start_instrs = Jmp (pos 0) ∷ []
 
 -- their bytes, with the links to the slots
 abbrev main : Func
-main = record { kind = FuncKind.Plain; bytes = spelled main_cut; links = record { at = 18; slot = 2 } ∷ [] }
+main = record { kind = FuncKind.Plain; bytes = spelled main_instrs; links = record { at = 18; slot = 2 } ∷ []; cuts = [] }
 
 -- the same
 abbrev start : Func
-start = record { kind = FuncKind.Plain; bytes = spelled start_cut; links = record { at = 1; slot = 1 } ∷ [] }
+start = record { kind = FuncKind.Plain; bytes = spelled start_instrs; links = record { at = 1; slot = 1 } ∷ []; cuts = [] }
 
 -- the entry, the slot of the first function, and the exit
 abbrev seven : Object
@@ -63,11 +63,11 @@ small (b ∷ bs) e = let x = and_parts _ _ e in (ltb-true b 256 x.0, small bs x.
 
 -- numbers in range
 main_is : IsFunc main
-main_is = record { bytes = small (spelled main_cut) refl; links = (record { at = omega arith; slot = omega arith }, tt); length_fits = omega arith; links_fit = omega arith }
+main_is = record { bytes = small (spelled main_instrs) refl; links = (record { at = omega arith; slot = omega arith }, tt); cuts = tt; length_fits = omega arith; links_fit = omega arith; cuts_fit = omega arith }
 
 -- in both functions
 start_is : IsFunc start
-start_is = record { bytes = small (spelled start_cut) refl; links = (record { at = omega arith; slot = omega arith }, tt); length_fits = omega arith; links_fit = omega arith }
+start_is = record { bytes = small (spelled start_instrs) refl; links = (record { at = omega arith; slot = omega arith }, tt); cuts = tt; length_fits = omega arith; links_fit = omega arith; cuts_fit = omega arith }
 
 -- and in the object
 seven_is : IsObject seven
@@ -86,14 +86,14 @@ seven_is = record {
 
 -- sizes
 seven_few : AreFew seven
-seven_few = record { some_function = omega arith; functions = omega arith; some_slot = omega arith; slots = omega arith; code = omega arith; data_bytes = omega arith }
+seven_few = record { some_function = omega arith; functions = omega arith; pieces = omega arith; some_slot = omega arith; slots = omega arith; code = omega arith; data_bytes = omega arith }
 
--- all eight rules
+-- all nine rules
 seven_well : IsWellFormed seven
 seven_well = record {
   object = seven_is;
   few = seven_few;
-  disassemblies = main_cut ∷ start_cut ∷ [];
+  disassemblies = main_instrs ∷ start_instrs ∷ [];
   disassembled = (record { instructions = (omega arith, (omega arith, (omega arith, (omega arith, (tt, tt))))); whole = refl }, (record { instructions = (omega arith, tt); whole = refl }, tt));
   kept = refl;
 }

@@ -88,15 +88,15 @@ module _ (o : Object) (well : IsWellFormed o) where
     abbrev Stands : Func → ℕ → ℕ → Instr → Type 0
     Stands = CodeStands exec place (is_step_place o well.disassemblies) o
 
-    -- neighbours that are places
-    falls : (n off size : ℕ) → IsPlace (Place.Code n off) → IsPlace (Place.Code n (off + size)) → FallsThrough exec place (is_step_place o well.disassemblies) o n off size
-    falls n off size here next = record { next = next; behind = laid.neighbours n off size here next }
+    -- what an instruction is run past to
+    abbrev Falls : ℕ → ℕ → ℕ → Type 0
+    Falls = FallsThrough exec place (is_step_place o well.disassemblies) o
 
     module _ (f : Func) (n off : ℕ) (instrs : List Instr) (d : slice_get well.disassemblies n ≡ Some instrs) (here : IsPlace (Place.Code n off)) (says : (e : ℕ) → LinkSays (length o.slots) f.links e (link_before f.links e)) where
       -- each kind of instruction
-      stands : (i : Instr) → is_slots_own i ≡ false → (is_linked f.links (off + size_of i) || goes_well (found instrs) (off + size_of i) (displacement i)) ≡ true → (is_end i ≡ false → IsPlace (Place.Code n (off + size_of i))) → CodeBytes exec place o f n off i → Stands f n off i
+      stands : (i : Instr) → is_slots_own i ≡ false → (is_linked f.links (off + size_of i) || goes_well (found instrs) (off + size_of i) (displacement i)) ≡ true → (is_end i ≡ false → Falls n off (size_of i)) → CodeBytes exec place o f n off i → Stands f n off i
       stands (Jcc c by) own branch next h =
-          (record { there = target_is n instrs d f.links (off + 6) by (link_before f.links (off + 6)) (says (off + 6)) branch; branch = h }, falls n off 6 here (next refl))
+          (record { there = target_is n instrs d f.links (off + 6) by (link_before f.links (off + 6)) (says (off + 6)) branch; branch = h }, next refl)
       stands (Jmp by) own branch next h = record { there = target_is n instrs d f.links (off + 5) by (link_before f.links (off + 5)) (says (off + 5)) branch; branch = h }
       stands (Call by) own branch next h = absurd (cc)
       stands CallR11 own branch next h = absurd (cc)
@@ -105,7 +105,7 @@ module _ (o : Object) (well : IsWellFormed o) where
       stands JmpR11 own branch next h = h
       stands Ud2 own branch next h = h
       stands Int3 own branch next h = h
-      stands i own branch next h = (h, falls n off (size_of i) here (next refl))
+      stands i own branch next h = (h, next refl)
 
     abbrev CodeHere : ℕ → ℕ → Type 0
     CodeHere n off = (s : HasInstr o n off) × Stands s.func n off s.instr
@@ -123,7 +123,8 @@ module _ (o : Object) (well : IsWellFormed o) where
         let branch = branch_goes c.func.links (found instrs) p.before p.instr p.after 0 off p.offset (subst (λ r. bad_branches c.func.links (found instrs) (found r) ≡ []) p.split keeps.branches) in
         let ends = subst (λ r. open_end (found r) ≡ []) p.split keeps.ends in
         let next : is_end p.instr ≡ false → IsPlace (Place.Code n (off + size_of p.instr)) = λ e. ap (λ y. is_code_place y (off + size_of p.instr)) d ∙ ap (λ r. starts_at (found r) (off + size_of p.instr)) p.split ∙ next_start p.before p.instr p.after off p.offset (goes_on p.before p.instr p.after 0 ends e) in
-        (s, stands c.func n off instrs d here (link_says None (found instrs) (length o.slots) c.func.links keeps.links) p.instr own branch next (laid.code n off here s))
+        let falls : is_end p.instr ≡ false → Falls n off (size_of p.instr) = λ e. record { next = next e; behind = laid.neighbours n off here s e (next e) } in
+        (s, stands c.func n off instrs d here (link_says None (found instrs) (length o.slots) c.func.links keeps.links) p.instr own branch falls (laid.code n off here s))
 
     abbrev At : ℕ → ℕ → Slot → Type 0
     At = SlotStands exec place (is_step_place o well.disassemblies) o

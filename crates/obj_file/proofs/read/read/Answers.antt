@@ -1,6 +1,6 @@
 use Rattle.obj_file.specs.Faults.{NamesFault}
 use Rattle.obj_file.proofs.Primitive.{at_exit}
-use Rattle.obj_file.proofs.NoObject.{explained, longer}
+use Rattle.obj_file.proofs.NoObject.{explained, longer, exactly}
 use Rattle.obj_file.proofs.read.read.Goals as goal
 
 pub returns-in_err-part-clause-fault : goal.returns-in_err-part-clause-fault
@@ -11,4 +11,9 @@ returns-in_err-part-clause-fault c =
 pub returns-then-part-bytes-clause-fault : goal.returns-then-part-bytes-clause-fault
 returns-then-part-bytes-clause-fault c =
     let part = c.in_ok-part in
-    longer c.args.bytes.now part.part.end part.part.value part.ensures.object part.ensures.read c.if-part-bytes.true
+    longer c.args.bytes.now part.part.end part.part.value part.ensures.holds c.if-part-bytes.true
+
+pub returns-clause-spelling : goal.returns-clause-spelling
+returns-clause-spelling c =
+    let part = c.in_ok-part in
+    exactly c.args.bytes.now part.part.end part.part.value part.ensures.holds c.if-part-bytes.false

@@ -11,17 +11,17 @@ pub returns-in_err-functions-clause-fault : goal.returns-in_err-functions-clause
 returns-in_err-functions-clause-fault c =
     let bytes = c.args.bytes.now in
     let at = c.args.at in
-    at_exit _ _ (Fault CountedText bytes at) c.from_residual.ensures.1
-    (fault_number full AfterFunctions bytes at _ full_limit good_after_functions c.in_err-functions.ensures.fault)
+    at_exit _ _ (Fault (CountedText c.args.format) bytes at) c.from_residual.ensures.1
+    (fault_number full (AfterFunctions c.args.format) bytes at _ full_limit (good_after_functions c.args.format) c.in_err-functions.ensures.fault)
 
 pub returns-in_err-slots-clause-fault : goal.returns-in_err-slots-clause-fault
 returns-in_err-slots-clause-fault c =
     let bytes = c.args.bytes.now in
     let at = c.args.at in
     let f = c.in_ok-functions in
-    let step1 = fault_number full (AfterSlots f.functions) bytes (at + 4) _ full_limit (good_after_slots f.functions) c.in_err-slots.ensures.fault in
-    at_exit _ _ (Fault CountedText bytes at) c.from_residual-in_err-slots.ensures.1
-    (fault_after full AfterFunctions bytes at (at + 4) f.functions _ full_limit f.ensures.small f.ensures.read step1)
+    let step1 = fault_number full (AfterSlots c.args.format f.functions) bytes (at + 4) _ full_limit (good_after_slots c.args.format f.functions) c.in_err-slots.ensures.fault in
+    at_exit _ _ (Fault (CountedText c.args.format) bytes at) c.from_residual-in_err-slots.ensures.1
+    (fault_after full (AfterFunctions c.args.format) bytes at (at + 4) f.functions _ full_limit f.ensures.small f.ensures.read step1)
 
 pub returns-in_err-ro-clause-fault : goal.returns-in_err-ro-clause-fault
 returns-in_err-ro-clause-fault c =
@@ -30,10 +30,10 @@ returns-in_err-ro-clause-fault c =
     let f = c.in_ok-functions in
     let s = c.in_ok-slots in
     let to1 = spans_to bytes (at + 4) (at + 4 + 4) (at + 8) (field s.slots) (omega arith) s.ensures.read in
-    let step2 = fault_number full (AfterRo f.functions s.slots) bytes (at + 8) _ full_limit (good_after_ro f.functions s.slots) c.in_err-ro.ensures.fault in
-    let step1 = fault_after full (AfterSlots f.functions) bytes (at + 4) (at + 8) s.slots _ full_limit s.ensures.small to1 step2 in
-    at_exit _ _ (Fault CountedText bytes at) c.from_residual-in_err-ro.ensures.1
-    (fault_after full AfterFunctions bytes at (at + 4) f.functions _ full_limit f.ensures.small f.ensures.read step1)
+    let step2 = fault_number full (AfterRo c.args.format f.functions s.slots) bytes (at + 8) _ full_limit (good_after_ro c.args.format f.functions s.slots) c.in_err-ro.ensures.fault in
+    let step1 = fault_after full (AfterSlots c.args.format f.functions) bytes (at + 4) (at + 8) s.slots _ full_limit s.ensures.small to1 step2 in
+    at_exit _ _ (Fault (CountedText c.args.format) bytes at) c.from_residual-in_err-ro.ensures.1
+    (fault_after full (AfterFunctions c.args.format) bytes at (at + 4) f.functions _ full_limit f.ensures.small f.ensures.read step1)
 
 pub returns-in_err-rw-clause-fault : goal.returns-in_err-rw-clause-fault
 returns-in_err-rw-clause-fault c =
@@ -44,11 +44,11 @@ returns-in_err-rw-clause-fault c =
     let r = c.in_ok-ro in
     let to1 = spans_to bytes (at + 4) (at + 4 + 4) (at + 8) (field s.slots) (omega arith) s.ensures.read in
     let to2 = spans_to bytes (at + 8) (at + 8 + 4) (at + 12) (field r.ro) (omega arith) r.ensures.read in
-    let step3 = fault_number full (BodyText f.functions s.slots r.ro) bytes (at + 12) _ full_limit (good_body f.functions s.slots r.ro) c.in_err-rw.ensures.fault in
-    let step2 = fault_after full (AfterRo f.functions s.slots) bytes (at + 8) (at + 12) r.ro _ full_limit r.ensures.small to2 step3 in
-    let step1 = fault_after full (AfterSlots f.functions) bytes (at + 4) (at + 8) s.slots _ full_limit s.ensures.small to1 step2 in
-    at_exit _ _ (Fault CountedText bytes at) c.from_residual-in_err-rw.ensures.1
-    (fault_after full AfterFunctions bytes at (at + 4) f.functions _ full_limit f.ensures.small f.ensures.read step1)
+    let step3 = fault_number full (BodyText c.args.format f.functions s.slots r.ro) bytes (at + 12) _ full_limit (good_body c.args.format f.functions s.slots r.ro) c.in_err-rw.ensures.fault in
+    let step2 = fault_after full (AfterRo c.args.format f.functions s.slots) bytes (at + 8) (at + 12) r.ro _ full_limit r.ensures.small to2 step3 in
+    let step1 = fault_after full (AfterSlots c.args.format f.functions) bytes (at + 4) (at + 8) s.slots _ full_limit s.ensures.small to1 step2 in
+    at_exit _ _ (Fault (CountedText c.args.format) bytes at) c.from_residual-in_err-rw.ensures.1
+    (fault_after full (AfterFunctions c.args.format) bytes at (at + 4) f.functions _ full_limit f.ensures.small f.ensures.read step1)
 
 pub returns-in_err-body-clause-fault : goal.returns-in_err-body-clause-fault
 returns-in_err-body-clause-fault c =
@@ -62,8 +62,8 @@ returns-in_err-body-clause-fault c =
     let to2 = spans_to bytes (at + 8) (at + 8 + 4) (at + 12) (field r.ro) (omega arith) r.ensures.read in
     let to3 = spans_to bytes (at + 12) (at + 12 + 4) (at + 16) (field w.rw) (omega arith) w.ensures.read in
     let step4 = c.in_err-body.ensures.fault in
-    let step3 = fault_after full (BodyText f.functions s.slots r.ro) bytes (at + 12) (at + 16) w.rw _ full_limit w.ensures.small to3 step4 in
-    let step2 = fault_after full (AfterRo f.functions s.slots) bytes (at + 8) (at + 12) r.ro _ full_limit r.ensures.small to2 step3 in
-    let step1 = fault_after full (AfterSlots f.functions) bytes (at + 4) (at + 8) s.slots _ full_limit s.ensures.small to1 step2 in
-    at_exit _ _ (Fault CountedText bytes at) c.from_residual-in_err-body.ensures.1
-    (fault_after full AfterFunctions bytes at (at + 4) f.functions _ full_limit f.ensures.small f.ensures.read step1)
+    let step3 = fault_after full (BodyText c.args.format f.functions s.slots r.ro) bytes (at + 12) (at + 16) w.rw _ full_limit w.ensures.small to3 step4 in
+    let step2 = fault_after full (AfterRo c.args.format f.functions s.slots) bytes (at + 8) (at + 12) r.ro _ full_limit r.ensures.small to2 step3 in
+    let step1 = fault_after full (AfterSlots c.args.format f.functions) bytes (at + 4) (at + 8) s.slots _ full_limit s.ensures.small to1 step2 in
+    at_exit _ _ (Fault (CountedText c.args.format) bytes at) c.from_residual-in_err-body.ensures.1
+    (fault_after full (AfterFunctions c.args.format) bytes at (at + 4) f.functions _ full_limit f.ensures.small f.ensures.read step1)

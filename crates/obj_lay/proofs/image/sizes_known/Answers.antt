@@ -1,5 +1,8 @@
-use Rattle.obj_core.proofs.Sizes.{few_slots, little_code}
+use Rattle.obj_core.proofs.Sizes.{few_functions, few_slots, little_code}
 use Rattle.obj_lay.proofs.image.sizes_known.Goals as goal
+
+pub returns-clause-functions : goal.returns-clause-functions
+returns-clause-functions c = few_functions c.args.o.now c.requires
 
 pub returns-clause-slots : goal.returns-clause-slots
 returns-clause-slots c = few_slots c.args.o.now c.requires
