@@ -1,12 +1,13 @@
 use Rattle.std.proofs.Common.{◌≡◌}
+use Rattle.xom_machine.specs.Whole.{over}
 use Rattle.xom_machine.specs.Standing.{streams_told}
 use Rattle.xom_machine.specs.Calls.{Took}
-use Rattle.xom_machine.proofs.machine.Machine.run.Given as goal
+use Rattle.xom_machine.proofs.context.Context.run.Given as goal
 
 -- the steps so far are those of the definition, and no call has failed
 abbrev pub invariant-loop : goal.invariant-loop
 invariant-loop g l = record {
-  took : Took l.counter l.fn.self l.self
+  took : Took l.counter (over l.fn.self l.fn.memory) (over l.self l.memory)
       (streams_told (g.I.Source.told l.fn.input) (g.O.Sink.told l.fn.sink))
       (streams_told (g.I.Source.told l.input) (g.O.Sink.told l.sink));
   source : (g.I.Source.told l.input).faults ≡ (g.I.Source.told l.fn.input).faults;

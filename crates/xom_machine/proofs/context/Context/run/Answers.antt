@@ -1,7 +1,7 @@
 use Rattle.std.proofs.Common.{refl, ap, ◌∙◌, not, arith}
 use Rattle.std.proofs.lemmas.Result.{err_from_is_err_and}
 use Rattle.xom_machine.proofs.Steps.{took_none, took_rest, run_more, run_cut}
-use Rattle.xom_machine.proofs.machine.Machine.run.Goals as goal
+use Rattle.xom_machine.proofs.context.Context.run.Goals as goal
 
 pub loop-init : goal.loop-init
 loop-init g c = record { took = took_none _ _; source = refl; sink = refl }

@@ -1,5 +1,5 @@
 use Rattle.xom_machine.proofs.Steps.{step_took, step_stands, step_kept}
-use Rattle.xom_machine.proofs.machine.Machine.step.Goals as goal
+use Rattle.xom_machine.proofs.context.Context.step.Goals as goal
 
 pub returns-clause-did : goal.returns-clause-did
 returns-clause-did g c = step_took _ _ _ _ _ c.advance.ensures.ran
