@@ -1,5 +1,5 @@
 -- Where a machine goes on after what an instruction does to registers and flags.
-use Rattle.std.specs.Prelude.{◌≡◌, ℕ, ◌<◌, ◌≤◌, Some}
+use Rattle.std.specs.Prelude.{ℕ, ◌<◌, ◌≤◌, Some}
 use Rattle.behavior.specs.Ending.{Divide, Invalid, Breakpoint, NoFlag}
 use Rattle.rd_num.specs.Number.{le_bytes}
 use Rattle.x86_core.specs.declared.reg.Reg.TheVariants.{Rsp, R11}

@@ -2,3 +2,4 @@ pub mod Whole
 pub mod Standing
 pub mod Changes
 pub mod Calls
+pub mod Silent

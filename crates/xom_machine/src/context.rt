@@ -8,7 +8,7 @@ ghost use Rattle.xom_machine.specs.Whole.{over};
 ghost use Rattle.xom_machine.specs.Standing.{state_of, streams_told};
 ghost use Rattle.xom_machine.specs.Calls.{Took, Charged, Kept, CutOff, Ran};
 
-use crate::step::has_stopped;
+use crate::step::Stop;
 use rd_io::{RunFault, Sink, Source};
 use x86_core::flags::{Flag, Flags};
 use x86_core::image::MachOutcome;
@@ -107,12 +107,16 @@ impl Context {
         ensures charged { Charged (I.told input.old) (I.told input.new) (O.told sink.old)
             (O.told sink.new) result }
     {
-        for _ in 0..n {
-            if has_stopped(self.outcome) {
-                return Ok(self.outcome);
+        let mut left = n;
+        loop {
+            let sprint = self.sprint(memory, left);
+            left -= sprint.taken;
+            match sprint.stop {
+                Stop::Done => return Ok(self.outcome),
+                Stop::NoMemory => return Err(RunFault::NoMemory),
+                Stop::Kernel(after) => self.system_call(memory, after, input, sink)?,
             }
-            self.advance(memory, input, sink)?;
+            left -= 1;
         }
-        Ok(self.outcome)
     }
 }
