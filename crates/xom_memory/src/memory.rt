@@ -294,7 +294,7 @@ fn lasting<'a>(parts: &'a [Part], at: u64) -> Option<&'a [u8]>
 }
 
 // The word that so many bytes at an address spell, where a segment or the stack may be read there.
-#[inline]
+#[inline(always)]
 #[tactic(auto, using(crate::proofs::Allowed::read_length, crate::proofs::Behind::read_front, crate::proofs::Behind::read_back))]
 fn load<const N: usize>(parts: &[Part], stack: &Stack, at: u64) -> Option<u64>
     requires some { 0 < N }
@@ -310,7 +310,7 @@ fn load<const N: usize>(parts: &[Part], stack: &Stack, at: u64) -> Option<u64>
 }
 
 // Writes so many low bytes of a word.
-#[inline]
+#[inline(always)]
 fn store<const N: usize>(
     parts: &mut [Part],
     stack: &mut Stack,
@@ -406,7 +406,7 @@ fn prepare_at(parts: &[Part], stack: &mut Stack, at: u64, len: usize) -> Result<
 
 // Writes bytes where a segment or the stack may be written and covers their range.
 #[tactic(auto, using(crate::proofs::Behind::write_front, crate::proofs::Behind::write_back, crate::proofs::Behind::write_none))]
-#[inline]
+#[inline(always)]
 fn put_at(parts: &mut [Part], stack: &mut Stack, at: u64, bytes: &[u8]) -> Result<(), WriteFault>
     requires { 0 < length bytes.now }
     ensures written { let all = parts.old ++ segment stack_start stack.old 6 ∷ [] in Written result
@@ -482,7 +482,7 @@ fn copies(alloc: Global, segments: &[Segment]) -> Result<Vec<Part>, NoMemory>
 }
 
 // The bytes of a range, where one of the segments may be read and covers it.
-#[inline]
+#[inline(always)]
 fn readable<'a>(parts: &'a [Part], at: u64, len: usize) -> Option<&'a [u8]>
     ensures { MatchOption result (read_at parts.now at len ≡ None)
         (λ b. read_at parts.now at len ≡ Some b.now) }
@@ -521,7 +521,7 @@ fn is_any_writable(parts: &[Part], at: u64, len: usize) -> bool
 }
 
 // The index of the first segment that may be written and covers a range.
-#[inline]
+#[inline(always)]
 fn writable_place(parts: &[Part], at: u64, len: usize) -> Option<usize>
     ensures { result ≡ place_of parts.now at len }
 {
@@ -534,7 +534,7 @@ fn writable_place(parts: &[Part], at: u64, len: usize) -> Option<usize>
 }
 
 // Writes bytes where one of the segments may be written and covers their range.
-#[inline]
+#[inline(always)]
 #[tactic(auto, using(crate::proofs::Places::placed_holds, crate::proofs::Places::write_placed, crate::proofs::Places::write_unplaced, crate::proofs::Places::place_within))]
 fn write_in(parts: &mut [Part], at: u64, bytes: &[u8]) -> bool
     ensures wrote { Wrote result (write_at parts.old at bytes.now) parts.old parts.new }

@@ -94,7 +94,7 @@ pub fn read(pages: &[Option<Page>], count: usize, from: usize, out: &mut [u8])
 }
 
 // The word that so many bytes of a page spell; it is 0 where the page isn't made.
-#[inline]
+#[inline(always)]
 #[tactic(auto, using(crate::proofs::Laid::made_part, crate::proofs::Laid::unmade_part, crate::proofs::Words::le_number_zeros))]
 fn page_word<const N: usize>(pages: &[Option<Page>], k: usize, offset: usize) -> u64
     requires within { offset + N ≤ 4096 }
@@ -108,7 +108,7 @@ fn page_word<const N: usize>(pages: &[Option<Page>], k: usize, offset: usize) ->
 }
 
 /// The word that so many bytes from an index on spell.
-#[inline]
+#[inline(always)]
 #[tactic(auto, using(crate::proofs::Laid::read_laid))]
 pub fn word<const N: usize>(pages: &[Option<Page>], count: usize, from: usize) -> u64
     requires within { from + N ≤ 4096 * count }
@@ -140,7 +140,7 @@ fn straddling<const N: usize>(pages: &[Option<Page>], count: usize, from: usize)
 }
 
 /// Puts bytes that lie in one page that is made, and answers whether they do; else nothing changes.
-#[inline]
+#[inline(always)]
 #[tactic(auto, using(crate::proofs::Laid::put_laid))]
 pub fn put_once(pages: &mut [Option<Page>], count: usize, from: usize, bytes: &[u8]) -> bool
     requires within { from + length bytes.now ≤ 4096 * count }
@@ -229,7 +229,7 @@ pub fn prepare(
 }
 
 // Puts bytes in a page that is made.
-#[inline]
+#[inline(always)]
 #[tactic(auto, using(crate::proofs::Laid::put_page))]
 fn put_page(page: &mut Option<Page>, offset: usize, bytes: &[u8])
     requires made { is_some page.old ≡ true }

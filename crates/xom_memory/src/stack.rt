@@ -101,7 +101,7 @@ impl Stack {
     }
 
     /// The word that so many bytes spell, in a range that is in the stack. Takes no memory.
-    #[inline]
+    #[inline(always)]
     #[tactic(auto, using(crate::proofs::Laid::length_laid))]
     pub fn word<const N: usize>(&self, at: u64) -> u64
         requires within { IsTrue (covers (segment stack_start self.now 6) at N) }
@@ -125,7 +125,7 @@ impl Stack {
     }
 
     /// Puts bytes in the place of others, in a range that is in the stack. Its pages are made first.
-    #[inline]
+    #[inline(always)]
     #[tactic(auto, using(crate::proofs::Laid::length_laid))]
     pub fn write(&mut self, at: u64, bytes: &[u8]) -> Result<(), NoMemory>
         requires within { IsTrue (covers (segment stack_start self.old 6) at (length bytes.now)) }
