@@ -13,6 +13,7 @@ import tempfile
 import time
 
 import evaluating
+import machine
 import reading
 import verifier
 
@@ -134,7 +135,7 @@ def main():
         bench.big_objects()
         bench.machine()
     print()
-    return verifier.main() or reading.main() or evaluating.main()
+    return verifier.main() or reading.main() or evaluating.main() or machine.main()
 
 
 if __name__ == "__main__":

@@ -88,8 +88,8 @@ def per_second(work, loop, few, many, command):
     return count * (many - few) / (costs[1] - costs[0]) / 1e6
 
 
-def main():
-    command = sys.argv[1:] or [BUILT, "run"]
+def main(command=None):
+    command = command or [BUILT, "run"]
     if not os.path.exists(command[0]):
         print("left out: the program is not built")
         return 0
@@ -107,4 +107,4 @@ def main():
 
 
 if __name__ == "__main__":
-    sys.exit(main())
+    sys.exit(main(sys.argv[1:]))
