@@ -84,7 +84,8 @@ impl Context {
         input: &mut I,
         sink: &mut O,
     ) -> Result<(), RunFault>
-        ensures ran { Ran (served (request_of self.old.regs) after after) (over self.old memory.old) (over self.new memory.new)
+        ensures ran { Ran (served (request_of self.old.regs) after after)
+            (over self.old memory.old) (over self.new memory.new)
             (streams_told (I.told input.old) (O.told sink.old))
             (streams_told (I.told input.new) (O.told sink.new)) result }
         ensures charged { Charged (I.told input.old) (I.told input.new) (O.told sink.old)
@@ -122,7 +123,8 @@ impl Context {
         requires room { count ≤ N }
         requires small { N < 2 ^ 63 }
         ensures ran { (source : SourceTold) →
-            Ran (served (Prints count) after after) (over self.old memory.now) (over self.new memory.now)
+            Ran (served (Prints count) after after)
+            (over self.old memory.now) (over self.new memory.now)
             (streams_told source (O.told sink.old))
             (streams_told source (O.told sink.new)) result }
         ensures charged { (source : SourceTold) →
@@ -151,7 +153,8 @@ impl Context {
         requires read { read_at memory.now (word self.old.regs Rsi) (length bytes.now) ≡
             Some bytes.now }
         ensures ran { (source : SourceTold) →
-            Ran (served (Prints (length bytes.now)) after after) (over self.old memory.now) (over self.new memory.now)
+            Ran (served (Prints (length bytes.now)) after after)
+            (over self.old memory.now) (over self.new memory.now)
             (streams_told source (O.told sink.old))
             (streams_told source (O.told sink.new)) result }
         ensures charged { (source : SourceTold) →
@@ -175,7 +178,8 @@ impl Context {
         after: u64,
         input: &mut I,
     ) -> Result<(), RunFault>
-        ensures ran { (sink : SinkTold) → Ran (served Takes after after) (over self.old memory.old) (over self.new memory.new)
+        ensures ran { (sink : SinkTold) → Ran (served Takes after after)
+            (over self.old memory.old) (over self.new memory.new)
             (streams_told (I.told input.old) sink) (streams_told (I.told input.new) sink) result }
         ensures charged { (sink : SinkTold) →
             Charged (I.told input.old) (I.told input.new) sink sink result }
