@@ -13,6 +13,7 @@ import tempfile
 import time
 
 import evaluating
+import machine
 import passes
 import reading
 import verifier
@@ -148,7 +149,7 @@ def main():
         bench.big_objects()
         bench.machine()
     print()
-    return verifier.main() or reading.main() or passes.main() or evaluating.main()
+    return verifier.main() or reading.main() or passes.main() or evaluating.main() or machine.main()
 
 
 if __name__ == "__main__":

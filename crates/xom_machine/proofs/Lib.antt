@@ -1,4 +1,4 @@
-pub mod Words
 pub mod Served
 pub mod Acts
 pub mod Steps
+pub mod Changed

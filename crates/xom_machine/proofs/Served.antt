@@ -11,9 +11,15 @@ use Rattle.x86_core.specs.Memory.{writes, is_allowed, one_covers, read_at, write
 use Rattle.x86_core.specs.Step.{State, answered, bad_address, after_print, after_take, next_byte, served}
 use Rattle.x86_core.specs.Step as request
 use Rattle.xom_memory.proofs.Allowed.{write_refused, write_allowed}
+use Rattle.xom_machine.specs.declared.context.Context.{Context}
 use Rattle.xom_machine.specs.declared.machine.Machine.{Machine}
+use Rattle.xom_machine.specs.Whole.{over}
 use Rattle.xom_machine.specs.Standing.{state_of, StreamsTold, streams, Stands}
 use Rattle.xom_machine.specs.Calls.{Did, Ran, Kept, Becomes, GotPart, AsksIn, piece_of}
+
+-- a context and a memory that are the same are the same machine
+pub whole_same : (c c2 : Context) (s s2 : List Segment) → c ≡ c2 → s ≡ s2 → over c s ≡ over c2 s2
+whole_same c c2 s s2 e f = ap (λ (x : Context). over x s) e ∙ ap (over c2) f
 
 -- what the machine does alone leaves the outside as it is
 pub silent : (f : State ℕ → State ℕ) (m m2 : Machine) (a : StreamsTold) → Becomes f m m2 → Did f m m2 a a

@@ -40,7 +40,7 @@ pub took_one : (m m2 : Machine) (a b : StreamsTold) → Did machine_step m m2 a 
 took_one m m2 a b d = took_more 0 m m m2 a a b (took_none m a) d
 
 -- steps of a state that rests lead nowhere
-stays : (s : State ℕ) (n : ℕ) → machine_step s ≡ s → iter machine_step n s ≡ s
+pub stays : (s : State ℕ) (n : ℕ) → machine_step s ≡ s → iter machine_step n s ≡ s
 stays s zero e = refl
 stays s (suc n) e = ap (iter machine_step n) e ∙ stays s n e
 

@@ -1,12 +1,13 @@
 -- Where a machine goes on after what an instruction does to registers and flags.
-use Rattle.std.specs.Prelude.{◌≡◌, ℕ, ◌<◌, ◌≤◌, List, Option, Some}
+use Rattle.std.specs.Prelude.{ℕ, ◌<◌, ◌≤◌, Some}
 use Rattle.behavior.specs.Ending.{Divide, Invalid, Breakpoint, NoFlag}
-use Rattle.rd_num.specs.Number.{le_bytes, le_number}
+use Rattle.rd_num.specs.Number.{le_bytes}
 use Rattle.x86_core.specs.declared.reg.Reg.TheVariants.{Rsp, R11}
 use Rattle.x86_core.specs.declared.effect.Next.{Next}
 use Rattle.x86_core.specs.declared.effect.Next.TheVariants as next
 use Rattle.x86_core.specs.declared.effect.Change.{Change}
 use Rattle.x86_core.specs.Registers.{word}
+use Rattle.x86_core.specs.Effect.{plain}
 use Rattle.x86_core.specs.Arithmetic.{moved}
 use Rattle.x86_core.specs.Memory.{read_at, write_at}
 use Rattle.x86_core.specs.Step.{State, by_access, below, called, returned, request_of, served}
@@ -49,8 +50,6 @@ PrintsSome (Prints count) = (0 < count) × (count ≤ 4096)
 PrintsSome Takes = Unit {0}
 PrintsSome Unknown = Unit {0}
 
--- bytes that were read spell a word
-pub record Spells (bytes : Option (List ℕ)) (word : ℕ) : Type 0 where
-  pub read : List ℕ
-  pub is : bytes ≡ Some read
-  pub spelled : word ≡ le_number read
+-- where an instruction leads whose change of registers and flags is done
+abbrev pub led : Next → ℕ → State ℕ → State ℕ
+led n after s = moved_on n (plain s.regs s.flags) after s

@@ -1,3 +1,5 @@
+pub mod Whole
 pub mod Standing
 pub mod Changes
 pub mod Calls
+pub mod Silent

@@ -9,16 +9,17 @@ ghost use Rattle.x86_core.specs.declared.reg.Reg.TheVariants.{Rsi};
 ghost use Rattle.x86_core.specs.Registers.{word};
 ghost use Rattle.x86_core.specs.Memory.{read_at};
 ghost use Rattle.x86_core.specs.Step.{Prints, Takes, request_of, answered, flag_number, served};
+ghost use Rattle.xom_machine.specs.Whole.{over};
 ghost use Rattle.xom_machine.specs.Standing.{streams_told};
 ghost use Rattle.xom_machine.specs.Changes.{asked_for, PrintsSome};
 ghost use Rattle.xom_machine.specs.Calls.{Ran, Charged};
 
-use crate::machine::Machine;
+use crate::context::Context;
 use rd_io::{PutFail, RunFault, Sink, Source};
 use x86_core::flags::{Flag, Flags};
 use x86_core::image::MachOutcome;
 use x86_core::reg::{Reg, Regs};
-use xom_memory::memory::TakeFault;
+use xom_memory::memory::{Memory, TakeFault};
 
 /// The answer to an address that may not be used: -14.
 const BAD_ADDRESS: u64 = u64::MAX - 13;
@@ -72,17 +73,19 @@ fn packed(flags: &Flags) -> u64
     514 + bit(flags.c) + 64 * bit(flags.z) + 128 * bit(flags.s) + 2048 * bit(flags.o)
 }
 
-impl Machine {
+impl Context {
     /// Does what the registers ask of the kernel, with the place behind the system call.
     ///
     /// After an error the machine is as it was.
     pub(crate) fn system_call<I: Source, O: Sink>(
         &mut self,
+        memory: &mut Memory,
         after: u64,
         input: &mut I,
         sink: &mut O,
     ) -> Result<(), RunFault>
-        ensures ran { Ran (served (request_of self.old.regs) after after) self.old self.new
+        ensures ran { Ran (served (request_of self.old.regs) after after)
+            (over self.old memory.old) (over self.new memory.new)
             (streams_told (I.told input.old) (O.told sink.old))
             (streams_told (I.told input.new) (O.told sink.new)) result }
         ensures charged { Charged (I.told input.old) (I.told input.new) (O.told sink.old)
@@ -97,8 +100,10 @@ impl Machine {
                 self.answer(0, after);
                 Ok(())
             }
-            Request::Prints(count) => { self.print::<O, MOST_PRINTED>(count as usize, after, sink) }
-            Request::Takes => self.take(after, input),
+            Request::Prints(count) => {
+                self.print::<O, MOST_PRINTED>(memory, count as usize, after, sink)
+            }
+            Request::Takes => self.take(memory, after, input),
             Request::Unknown => {
                 self.outcome = MachOutcome::BadCall;
                 Ok(())
@@ -109,6 +114,7 @@ impl Machine {
     // Prints the bytes that `rsi` points to, in one piece, by way of a room for so many.
     fn print<O: Sink, const N: usize>(
         &mut self,
+        memory: &Memory,
         count: usize,
         after: u64,
         sink: &mut O,
@@ -117,7 +123,8 @@ impl Machine {
         requires room { count ≤ N }
         requires small { N < 2 ^ 63 }
         ensures ran { (source : SourceTold) →
-            Ran (served (Prints count) after after) self.old self.new
+            Ran (served (Prints count) after after)
+            (over self.old memory.now) (over self.new memory.now)
             (streams_told source (O.told sink.old))
             (streams_told source (O.told sink.new)) result }
         ensures charged { (source : SourceTold) →
@@ -125,8 +132,8 @@ impl Machine {
     {
         let mut room = [0; N];
         let bytes = &mut room[..count];
-        match self.memory.read_into(self.regs.get(Reg::Rsi), bytes) {
-            Ok(()) => self.put(bytes, after, sink),
+        match memory.read_into(self.regs.get(Reg::Rsi), bytes) {
+            Ok(()) => self.put(memory, bytes, after, sink),
             Err(_) => {
                 self.answer(BAD_ADDRESS, after);
                 Ok(())
@@ -135,17 +142,25 @@ impl Machine {
     }
 
     // Puts the bytes that `rsi` points to.
-    fn put<O: Sink>(&mut self, bytes: &[u8], after: u64, sink: &mut O) -> Result<(), RunFault>
+    fn put<O: Sink>(
+        &mut self,
+        memory: &Memory,
+        bytes: &[u8],
+        after: u64,
+        sink: &mut O,
+    ) -> Result<(), RunFault>
         requires some { 0 < length bytes.now }
-        requires read { read_at self.old.memory (word self.old.regs Rsi) (length bytes.now) ≡
+        requires read { read_at memory.now (word self.old.regs Rsi) (length bytes.now) ≡
             Some bytes.now }
         ensures ran { (source : SourceTold) →
-            Ran (served (Prints (length bytes.now)) after after) self.old self.new
+            Ran (served (Prints (length bytes.now)) after after)
+            (over self.old memory.now) (over self.new memory.now)
             (streams_told source (O.told sink.old))
             (streams_told source (O.told sink.new)) result }
         ensures charged { (source : SourceTold) →
             Charged source source (O.told sink.old) (O.told sink.new) result }
     {
+        let _ = memory;
         match sink.put(bytes) {
             Ok(()) => {
                 self.answer(bytes.len() as u64, after);
@@ -157,13 +172,19 @@ impl Machine {
     }
 
     // Takes a byte to where `rsi` points. The source is asked last.
-    fn take<I: Source>(&mut self, after: u64, input: &mut I) -> Result<(), RunFault>
-        ensures ran { (sink : SinkTold) → Ran (served Takes after after) self.old self.new
+    fn take<I: Source>(
+        &mut self,
+        memory: &mut Memory,
+        after: u64,
+        input: &mut I,
+    ) -> Result<(), RunFault>
+        ensures ran { (sink : SinkTold) → Ran (served Takes after after)
+            (over self.old memory.old) (over self.new memory.new)
             (streams_told (I.told input.old) sink) (streams_told (I.told input.new) sink) result }
         ensures charged { (sink : SinkTold) →
             Charged (I.told input.old) (I.told input.new) sink sink result }
     {
-        match self.memory.take(self.regs.get(Reg::Rsi), input) {
+        match memory.take(self.regs.get(Reg::Rsi), input) {
             Ok(Some(_byte)) => {
                 self.answer(1, after);
                 Ok(())

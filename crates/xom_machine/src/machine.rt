@@ -3,26 +3,32 @@
 ghost use Rattle.std.specs.Prelude.{◌≡◌, ℕ, List, [], IfOk, OnOk, OnErr, IfErr};
 ghost use Rattle.x86_core.specs.Machine.{machine_start, machine_step};
 ghost use Rattle.xom_machine.specs.Standing.{state_of, streams_told};
-ghost use Rattle.xom_machine.specs.Calls.{Took, Charged, Kept, CutOff, Ran};
+ghost use Rattle.xom_machine.specs.Calls.{Took, Charged, Kept, CutOff};
 
-use crate::step::has_stopped;
+use crate::context::Context;
 use rd_io::{RunFault, Sink, Source};
 use rd_num::width::NoMemory;
 use std::alloc::Global;
-use x86_core::flags::{Flag, Flags};
+use std::marker::Model;
+use x86_core::flags::Flags;
 use x86_core::image::{Image, MachOutcome, STACK_END};
-use x86_core::reg::{Reg, Regs};
+use x86_core::reg::Regs;
 use xom_memory::memory::Memory;
 
 /// A machine: its memory, its registers and flags, where the next instruction stands, and whether
 /// it goes on.
 #[derive(Drop)]
 pub struct Machine {
-    pub(crate) memory: Memory,
-    pub(crate) regs: Regs,
-    pub(crate) flags: Flags,
-    pub(crate) next: u64,
-    pub(crate) outcome: MachOutcome,
+    memory: Memory,
+    context: Context,
+}
+
+impl Model for Machine {
+    ghost use Rattle.xom_machine.specs.Whole.{Whole, over};
+
+    ghost Value = { Whole };
+
+    ghost view = { λ m. over m.context m.memory };
 }
 
 impl Machine {
@@ -33,42 +39,29 @@ impl Machine {
             machine_start image.now input) }
     {
         let memory = Memory::load(alloc, image)?;
-        let mut regs = Regs::new();
-        regs.set(Reg::Rsp, STACK_END);
-        let flags = Flags {
-            c: Flag::Zero,
-            z: Flag::Zero,
-            s: Flag::Zero,
-            o: Flag::Zero,
-        };
-        Ok(Machine {
-            memory,
-            regs,
-            flags,
-            next: image.entry,
-            outcome: MachOutcome::Going,
-        })
+        let context = Context::start(image.entry, STACK_END, 0);
+        Ok(Machine { memory, context })
     }
 
     /// How the machine stands. Takes no memory.
     pub fn outcome(&self) -> MachOutcome
         ensures { result ≡ self.now.outcome }
     {
-        self.outcome
+        self.context.outcome()
     }
 
     /// The words of the registers. Takes no memory.
     pub fn regs(&self) -> &Regs
         ensures { result.now ≡ self.now.regs }
     {
-        &self.regs
+        self.context.regs()
     }
 
     /// The flags. Takes no memory.
     pub fn flags(&self) -> &Flags
         ensures { result.now ≡ self.now.flags }
     {
-        &self.flags
+        self.context.flags()
     }
 
     /// The segments and the stack. Takes no memory.
@@ -95,7 +88,7 @@ impl Machine {
         ensures charged { Charged (I.told input.old) (I.told input.new) (O.told sink.old)
             (O.told sink.new) result }
     {
-        self.advance(input, sink)
+        self.context.step(&mut self.memory, input, sink)
     }
 
     /// Takes `n` steps and answers how the machine stands then.
@@ -118,12 +111,6 @@ impl Machine {
         ensures charged { Charged (I.told input.old) (I.told input.new) (O.told sink.old)
             (O.told sink.new) result }
     {
-        for _ in 0..n {
-            if has_stopped(self.outcome) {
-                return Ok(self.outcome);
-            }
-            self.advance(input, sink)?;
-        }
-        Ok(self.outcome)
+        self.context.run(&mut self.memory, input, sink, n)
     }
 }

@@ -6,3 +6,5 @@ pub mod Whole
 pub mod Laid
 pub mod Taken
 pub mod Cut
+pub mod Lasting
+pub mod Words

@@ -1,5 +1,5 @@
 -- Bytes in pages of 4,096, the last page first: what pages hold, and what a write leaves.
-use Rattle.std.specs.Prelude.{ℕ, zero, suc, ◌+◌, ◌-◌, ◌*◌, ◌/◌, Bool, List, [], ◌∷◌, ◌++◌, length, take, drop, replicate, slice_index_or, Option, None, Some}
+use Rattle.std.specs.Prelude.{◌≡◌, ℕ, zero, suc, ◌+◌, ◌-◌, ◌*◌, ◌/◌, Bool, true, false, List, [], ◌∷◌, ◌++◌, length, take, drop, replicate, slice_index_or, Option, None, Some}
 use Rattle.std.specs.Option.{is_some}
 use Rattle.x86_core.specs.Data.{stack_start, stack_end}
 
@@ -36,3 +36,8 @@ stack_pages = (stack_end - stack_start) / 4096
 -- the index in the list of the page that has the byte with an index
 abbrev pub page_of : ℕ → ℕ → ℕ
 page_of n at = n - 1 - at / 4096
+
+-- bytes were put, or everything is as it was
+abbrev pub PutOnce : Bool → ℕ → List ℕ → List ℕ → List ℕ → Type 0
+PutOnce true at bytes old new = new ≡ put_at old at bytes
+PutOnce false at bytes old new = new ≡ old

@@ -48,6 +48,7 @@ impl Page {
     }
 
     /// All bytes.
+    #[inline]
     pub fn bytes(&self) -> &[u8]
         ensures value { result.now ≡ self.now }
         ensures count { length self.now ≡ 4096 }
@@ -56,6 +57,7 @@ impl Page {
     }
 
     /// Puts bytes in the place of others.
+    #[inline]
     pub fn put(&mut self, offset: usize, bytes: &[u8])
         requires { offset + length bytes.now ≤ 4096 }
         ensures value { self.new ≡ put_at self.old offset bytes.now }

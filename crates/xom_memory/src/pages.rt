@@ -6,9 +6,11 @@
 ghost use Rattle.std.specs.Prelude.{◌≡◌, ℕ, ◌+◌, ◌-◌, ◌*◌, ◌/◌, ◌^◌, ◌<◌, ◌≤◌, true, IsTrue, OnOk, OnErr, IfOk, MatchOption, None, Some, length, take, drop, slice_index_or};
 ghost use Rattle.std.specs.Option.{is_some};
 ghost use Rattle.xom_memory.specs.Access.{page_in};
-ghost use Rattle.xom_memory.specs.Pages.{zeros, put_at, page_bytes, page_at, is_made, laid, page_of};
+ghost use Rattle.rd_num.specs.Number.{le_number};
+ghost use Rattle.xom_memory.specs.Pages.{zeros, put_at, page_bytes, page_at, is_made, laid, page_of, PutOnce};
 
 use crate::page::{PAGE_BYTES, Page};
+use crate::word::word_of;
 use rd_num::width::NoMemory;
 use std::alloc::Global;
 
@@ -91,6 +93,70 @@ pub fn read(pages: &[Option<Page>], count: usize, from: usize, out: &mut [u8])
     }
 }
 
+// The word that so many bytes of a page spell; it is 0 where the page isn't made.
+#[inline(always)]
+#[tactic(auto, using(crate::proofs::Laid::made_part, crate::proofs::Laid::unmade_part, crate::proofs::Words::le_number_zeros))]
+fn page_word<const N: usize>(pages: &[Option<Page>], k: usize, offset: usize) -> u64
+    requires within { offset + N ≤ 4096 }
+    requires few { N ≤ 8 }
+    ensures { result ≡ le_number (take N (drop offset (page_bytes (page_at pages.now k)))) }
+{
+    match pages.get(k) {
+        Some(Some(page)) => word_of::<N>(&page.bytes()[offset..offset + N]),
+        _ => 0,
+    }
+}
+
+/// The word that so many bytes from an index on spell.
+#[inline(always)]
+#[tactic(auto, using(crate::proofs::Laid::read_laid))]
+pub fn word<const N: usize>(pages: &[Option<Page>], count: usize, from: usize) -> u64
+    requires within { from + N ≤ 4096 * count }
+    requires small { count < 2 ^ 40 }
+    requires some { 0 < N }
+    requires few { N ≤ 8 }
+    ensures { result ≡ le_number (take N (drop from (laid count pages.now))) }
+{
+    let offset = from % PAGE_BYTES;
+    if N <= PAGE_BYTES - offset {
+        page_word::<N>(pages, count - 1 - from / PAGE_BYTES, offset)
+    } else {
+        straddling::<N>(pages, count, from)
+    }
+}
+
+// The same where the bytes may be in two pages.
+#[inline(never)]
+#[tactic(auto, using(crate::proofs::Words::take_known))]
+fn straddling<const N: usize>(pages: &[Option<Page>], count: usize, from: usize) -> u64
+    requires within { from + N ≤ 4096 * count }
+    requires small { count < 2 ^ 40 }
+    requires few { N ≤ 8 }
+    ensures { result ≡ le_number (take N (drop from (laid count pages.now))) }
+{
+    let mut room = [0; 8];
+    read(pages, count, from, &mut room[..N]);
+    word_of::<N>(&room[..N])
+}
+
+/// Puts bytes that lie in one page that is made, and answers whether they do; else nothing changes.
+#[inline(always)]
+#[tactic(auto, using(crate::proofs::Laid::put_laid))]
+pub fn put_once(pages: &mut [Option<Page>], count: usize, from: usize, bytes: &[u8]) -> bool
+    requires within { from + length bytes.now ≤ 4096 * count }
+    requires small { count < 2 ^ 40 }
+    requires some { 0 < length bytes.now }
+    ensures { PutOnce result from bytes.now (laid count pages.old) (laid count pages.new) }
+{
+    let offset = from % PAGE_BYTES;
+    let k = count - 1 - from / PAGE_BYTES;
+    if bytes.len() > PAGE_BYTES - offset || k >= pages.len() || pages[k].is_none() {
+        return false;
+    }
+    put_page(&mut pages[k], offset, bytes);
+    true
+}
+
 // Makes a page, unless it is made.
 #[tactic(auto, using(crate::proofs::Laid::new_page))]
 fn make(alloc: Global, page: &mut Option<Page>) -> Result<(), NoMemory>
@@ -163,6 +229,7 @@ pub fn prepare(
 }
 
 // Puts bytes in a page that is made.
+#[inline(always)]
 #[tactic(auto, using(crate::proofs::Laid::put_page))]
 fn put_page(page: &mut Option<Page>, offset: usize, bytes: &[u8])
     requires made { is_some page.old ≡ true }

@@ -12,6 +12,7 @@ use std::marker::Model;
 use x86_core::image::{Rights, Segment};
 
 /// Whether `len` bytes from the address `at` on are among the `size` bytes from `start` on.
+#[inline]
 pub(crate) fn is_within(start: u64, size: usize, at: u64, len: usize) -> bool
     ensures { result ≡ (nat_le start at && nat_le (at + len) (start + size)) }
 {
@@ -99,6 +100,7 @@ impl Part {
     }
 
     /// What may be done with the bytes.
+    #[inline]
     pub fn rights(&self) -> Rights
         ensures { result ≡ self.now.rights }
     {
@@ -106,6 +108,7 @@ impl Part {
     }
 
     /// Whether the whole range of `len` bytes from the address `at` on is in the segment.
+    #[inline]
     pub fn covers(&self, at: u64, len: usize) -> bool
         ensures { result ≡ covers self.now at len }
     {
@@ -113,6 +116,7 @@ impl Part {
     }
 
     /// The bytes of a range that is in the segment.
+    #[inline]
     pub fn range(&self, at: u64, len: usize) -> &[u8]
         requires { IsTrue (covers self.now at len) }
         ensures { result.now ≡ take len (drop (at - self.now.start) self.now.bytes) }
@@ -133,6 +137,7 @@ impl Part {
     }
 
     /// Puts bytes in the place of others, in a range that is in the segment.
+    #[inline]
     pub fn put(&mut self, at: u64, bytes: &[u8])
         requires { IsTrue (covers self.old at (length bytes.now)) }
         ensures { self.new ≡ with_bytes self.old at bytes.now }

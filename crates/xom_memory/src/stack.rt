@@ -2,7 +2,8 @@
 //!
 //! It is kept in pages, so that it takes memory for the pages that were written to and no others.
 
-ghost use Rattle.std.specs.Prelude.{◌≡◌, ◌-◌, ◌+◌, ◌*◌, ◌^◌, ◌<◌, ◌++◌, IfOk, IsTrue, MatchResult, take, drop, length, replicate};
+ghost use Rattle.std.specs.Prelude.{◌≡◌, ◌-◌, ◌+◌, ◌*◌, ◌^◌, ◌<◌, ◌≤◌, ◌++◌, IfOk, IsTrue, MatchResult, take, drop, length, replicate};
+ghost use Rattle.rd_num.specs.Number.{le_number};
 ghost use Rattle.x86_core.specs.Memory.{covers};
 ghost use Rattle.x86_core.specs.Data.{stack_bytes, stack_start, segment};
 ghost use Rattle.xom_memory.specs.Access.{outline_of, lent};
@@ -82,6 +83,7 @@ impl Stack {
     }
 
     /// Whether the whole range of `len` bytes from the address `at` on is in the stack.
+    #[inline]
     pub fn covers(&self, at: u64, len: usize) -> bool
         ensures { result ≡ covers (segment stack_start self.now 6) at len }
     {
@@ -98,6 +100,19 @@ impl Stack {
         pages::read(self.pages.as_slice(), STACK_PAGES, from, out);
     }
 
+    /// The word that so many bytes spell, in a range that is in the stack. Takes no memory.
+    #[inline(always)]
+    #[tactic(auto, using(crate::proofs::Laid::length_laid))]
+    pub fn word<const N: usize>(&self, at: u64) -> u64
+        requires within { IsTrue (covers (segment stack_start self.now 6) at N) }
+        requires some { 0 < N }
+        requires few { N ≤ 8 }
+        ensures { result ≡ le_number (take N (drop (at - stack_start) self.now)) }
+    {
+        let from = (at - STACK_START) as usize;
+        pages::word::<N>(self.pages.as_slice(), STACK_PAGES, from)
+    }
+
     /// Makes the pages of a range that is in the stack; its bytes stay as they are.
     #[tactic(auto, using(crate::proofs::Laid::length_laid))]
     pub fn prepare(&mut self, at: u64, len: usize) -> Result<(), NoMemory>
@@ -110,6 +125,7 @@ impl Stack {
     }
 
     /// Puts bytes in the place of others, in a range that is in the stack. Its pages are made first.
+    #[inline(always)]
     #[tactic(auto, using(crate::proofs::Laid::length_laid))]
     pub fn write(&mut self, at: u64, bytes: &[u8]) -> Result<(), NoMemory>
         requires within { IsTrue (covers (segment stack_start self.old 6) at (length bytes.now)) }
@@ -119,6 +135,9 @@ impl Stack {
             (λ _. self.new ≡ self.old) }
     {
         let from = (at - STACK_START) as usize;
+        if pages::put_once(self.pages.as_mut_slice(), STACK_PAGES, from, bytes) {
+            return Ok(());
+        }
         pages::prepare(self.alloc, &mut self.pages, STACK_PAGES, from, bytes.len())?;
         pages::put(self.pages.as_mut_slice(), STACK_PAGES, from, bytes);
         Ok(())

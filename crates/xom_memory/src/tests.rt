@@ -7,6 +7,7 @@ use rd_num::list::List;
 use rd_num::width::NoMemory;
 use std::alloc::Global;
 use x86_core::image::{Image, Rights, STACK_END, STACK_START, Segment};
+use x86_core::instr::{Decoded, Instr, Size};
 
 /// A segment of these bytes.
 fn segment(alloc: Global, start: u64, bytes: &[u8], bits: u8) -> Result<Segment, NoMemory> {
@@ -137,4 +138,68 @@ fn segments_are_told_in_order(rt: HostRuntime) {
         };
         assert_eq!(rt; told, *want, "segment {i}");
     }
+}
+
+#[test]
+fn words_are_read_and_written(rt: HostRuntime) {
+    let Ok(mut memory) = loaded(rt.alloc()) else {
+        panic!(rt; "no memory");
+    };
+    let written: [(u64, Size, Result<(), WriteFault>); 4] = [
+        (0x20004, Size::W16, Ok(())),
+        (0x20004, Size::W32, Err(WriteFault::Refused)),
+        (STACK_END - 8, Size::W64, Ok(())),
+        (STACK_END - 4100, Size::W64, Ok(())),
+    ];
+    for (at, size, want) in written {
+        assert_eq!(rt;
+            memory.store_word(at, size, 0x8877_6655_4433_2211),
+            want,
+            "at {at}"
+        );
+    }
+    let read: [(u64, Size, Option<u64>); 6] = [
+        (0x20000, Size::W32, Some(0x0403_0201)),
+        (0x20005, Size::W8, Some(0x22)),
+        (0x20004, Size::W64, None),
+        (0x10000, Size::W8, None),
+        (STACK_END - 8, Size::W64, Some(0x8877_6655_4433_2211)),
+        (STACK_END - 4098, Size::W32, Some(0x6655_4433)),
+    ];
+    for (at, size, want) in read {
+        assert_eq!(rt; memory.load_word(at, size), want, "at {at}");
+    }
+}
+
+/// Whether this one instruction stands at an address, one byte long.
+fn stands(memory: &mut Memory, at: u64, instr: Instr) -> bool {
+    memory.instruction(at) == Decoded::One { instr, len: 1 }
+}
+
+#[test]
+fn code_that_is_written_is_decoded_anew(rt: HostRuntime) {
+    let alloc = rt.alloc();
+    let mut segments = List::new(alloc);
+    let (Ok(hidden), Ok(open)) = (
+        segment(alloc, 0x10000, &[0x90], 1),
+        segment(alloc, 0x20000, &[0x90], 7),
+    ) else {
+        panic!(rt; "no memory");
+    };
+    let (Ok(()), Ok(())) = (segments.add(hidden), segments.add(open)) else {
+        panic!(rt; "no memory");
+    };
+    let image = Image {
+        entry: 0x10000,
+        segments,
+    };
+    let Ok(mut memory) = Memory::load(alloc, &image) else {
+        panic!(rt; "no memory");
+    };
+    assert!(rt; stands(&mut memory, 0x10000, Instr::Nop));
+    assert!(rt; stands(&mut memory, 0x20000, Instr::Nop));
+    assert_eq!(rt; memory.write_from(0x20000, &[0xCC]), Ok(()));
+    assert!(rt; stands(&mut memory, 0x10000, Instr::Nop));
+    assert!(rt; stands(&mut memory, 0x20000, Instr::Int3));
+    assert!(rt; memory.instruction(0x30000) == Decoded::Short);
 }
