@@ -19,3 +19,4 @@ pub mod Strays
 pub mod Worked
 pub mod WorkedSaved
 pub mod SmallWell
+pub mod Bounds

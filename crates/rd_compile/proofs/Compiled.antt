@@ -39,6 +39,7 @@ compiled_narrow n slot_seed reg_seed o slot_fits reg_fits e m h =
       reg_seed_kept = refl;
       functions = refl;
       plain = (refl, (refl, (refl, (refl, (refl, (refl, (refl, tt)))))));
+      uncut = (refl, (refl, (refl, (refl, (refl, (refl, (refl, tt)))))));
       preserves = narrow_preserves slot_seed reg_seed x.program n f.few x.resolved;
     } in
     let made : IsCompiledNarrow (module_of x.program) slot_seed reg_seed (narrow_object slot_seed reg_seed n) = record {

@@ -8,21 +8,22 @@ use Rattle.ir_core.specs.Run.{source_run}
 use Rattle.obj_core.specs.declared.object.Object.{Object}
 use Rattle.obj_core.specs.declared.object.Func.{Func}
 use Rattle.obj_core.specs.declared.object.FuncKind.{FuncKind}
-use Rattle.obj_core.specs.Object.{Each}
+use Rattle.obj_core.specs.Object.{Each, IsUncut}
 use Rattle.obj_core.specs.WellFormed.{IsWellFormed}
 use Rattle.obj_core.specs.SymbolicMachine.{symbolic_behavior}
 
 abbrev pub IsPlain : Func → Type 0
 IsPlain f = f.kind ≡ FuncKind.Plain
 
--- a well-formed object with both seeds, a function for each function of the module and six more, all of them plain,
--- which prints, takes and ends as the module means wherever that is defined
+-- a well-formed object with both seeds, a function for each function of the module and six more, all of them plain and
+-- none of them cut, which prints, takes and ends as the module means wherever that is defined
 pub record IsCompiledFrom (m : Module) (slot_seed reg_seed : ℕ) (o : Object) : Type 0 where
   pub well_formed : IsWellFormed o
   pub slot_seed_kept : o.slot_seed ≡ slot_seed
   pub reg_seed_kept : o.reg_seed ≡ reg_seed
   pub functions : length o.functions ≡ length m.functions + 6
   pub plain : Each IsPlain o.functions
+  pub uncut : Each IsUncut o.functions
   pub preserves : Preserves (source_run m) (symbolic_behavior o)
 
 -- an object that is compiled from a narrow module; the module is never left, it comes to an end on every input, and the object
