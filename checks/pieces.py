@@ -12,6 +12,7 @@ import struct
 import subprocess
 import sys
 import tempfile
+from concurrent.futures import ThreadPoolExecutor
 
 from objects import CALL, ENTRY, INDIRECT, JUMP, PLAIN, RBX, SYSTEM, Object, cut_places, drawn, if_not, instructions_of, pair, set_word, shuffled, small_object, some_object
 from processor import RAX, RDX, RSP, at
@@ -134,19 +135,24 @@ def stranger():
 
 class Pieces:
     def __init__(self, program, work):
-        self.program, self.failed = program, 0
-        self.object, self.image = os.path.join(work, "object"), os.path.join(work, "image")
+        self.program, self.work, self.failed = program, work, 0
+        self.object = os.path.join(work, "object")
+        self.native = (platform.system(), platform.machine()) == ("Linux", "x86_64")
 
     def fail(self, text):
         self.failed += 1
         print(text)
 
     def lay(self, seed):
-        with open(self.image, "wb") as file:
+        """The image's file for a layout seed."""
+        path = os.path.join(self.work, f"image-{seed}")
+        with open(path, "wb") as file:
             subprocess.run([self.program, "lay", self.object, "--layout-seed", str(seed)], stdout=file, check=False)
+        os.chmod(path, 0o755)
+        return path
 
-    def said(self, command, steps):
-        ran = subprocess.run([self.program, command, self.image, "--steps", str(steps)], stdin=subprocess.DEVNULL, stdout=subprocess.PIPE, stderr=subprocess.PIPE, check=False)
+    def said(self, command, image, steps):
+        ran = subprocess.run([self.program, command, image, "--steps", str(steps)], stdin=subprocess.DEVNULL, stdout=subprocess.PIPE, stderr=subprocess.PIPE, check=False)
         return ran.stdout, ran.stderr
 
     def take(self, o):
@@ -156,34 +162,40 @@ class Pieces:
     def exact(self, o, seed):
         """The image is the one that the second layout gives."""
         self.take(o)
-        self.lay(seed)
-        with open(self.image, "rb") as file:
+        path = self.lay(seed)
+        with open(path, "rb") as file:
             data = file.read()
+        os.remove(path)
         if len(data) < 64 or loaded(data) != segments(o, seed):
             self.fail(f"another layout for seed {seed} of {o.file().hex()}")
 
+    def one(self, seed, shown):
+        """What is wrong with a layout, if anything is."""
+        image, steps = self.lay(seed), seed % len(shown)
+        try:
+            if self.said("show", image, steps)[0] != shown[steps]:
+                return f"seed {seed} shows another text after {steps} steps"
+            if seed % 50:
+                return None
+            if self.said("run", image, STEPS) != (b"ABC", b"ended 3\n"):
+                return f"seed {seed} runs to another end"
+            process = subprocess.run([image], stdin=subprocess.DEVNULL, stdout=subprocess.PIPE, check=False) if self.native else None
+            return None if process is None or (process.stdout, process.returncode) == (b"ABC", 3) else f"seed {seed} ends in another way as a process"
+        finally:
+            os.remove(image)
+
     def lockstep(self, o):
         self.take(o)
-        self.lay(0)
-        shown = []
+        first, shown = self.lay(0), []
         while not shown or b"outcome going" in shown[-1]:
-            shown.append(self.said("show", len(shown))[0])
+            shown.append(self.said("show", first, len(shown))[0])
             if len(shown) > STEPS:
                 self.fail("no stop")
                 return
-        native = (platform.system(), platform.machine()) == ("Linux", "x86_64")
-        for seed in range(1, LAYOUTS):
-            self.lay(seed)
-            steps = seed % len(shown)
-            if self.said("show", steps)[0] != shown[steps]:
-                self.fail(f"seed {seed} shows another text after {steps} steps")
-            if seed % 50 == 0:
-                if self.said("run", STEPS) != (b"ABC", b"ended 3\n"):
-                    self.fail(f"seed {seed} runs to another end")
-                os.chmod(self.image, 0o755)
-                process = subprocess.run([self.image], stdin=subprocess.DEVNULL, stdout=subprocess.PIPE, check=False) if native else None
-                if process and (process.stdout, process.returncode) != (b"ABC", 3):
-                    self.fail(f"seed {seed} ends in another way as a process")
+        with ThreadPoolExecutor(os.cpu_count()) as pool:
+            for text in pool.map(lambda seed: self.one(seed, shown), range(1, LAYOUTS)):
+                if text:
+                    self.fail(text)
         print(f"{len(o.functions)} functions in {sum(1 + len(f[3]) for f in o.functions)} pieces: {LAYOUTS} layouts, {len(shown)} steps")
 
 

@@ -1,4 +1,4 @@
--- A small object that is well formed: each of its layouts ends as the object does.
+-- A small object that is well formed, of three pieces: each of its layouts ends as the object does.
 use Rattle.std.proofs.Common.{◌≡◌, ◌≢◌, ℕ, Bool, true, ◌&&◌, List, [], ◌∷◌, refl, sym, ◌∙◌, ap, subst, arith}
 use Rattle.std.specs.Prelude.{nat_lt, pos}
 use Rattle.std.proofs.lemmas.Bool.{ltb-true, and_parts}
@@ -32,9 +32,9 @@ main_instrs = AluImm ImmOp.Sub Wide.W64 Rsp (pos 0) ∷ MovImm32 Rdi 7 ∷ MovIm
 abbrev start_instrs : List Instr
 start_instrs = Jmp (pos 0) ∷ []
 
--- their bytes, with the links to the slots
+-- their bytes, with the links to the slots; the first is cut behind its jump
 abbrev main : Func
-main = record { kind = FuncKind.Plain; bytes = spelled main_instrs; links = record { at = 18; slot = 2 } ∷ []; cuts = [] }
+main = record { kind = FuncKind.Plain; bytes = spelled main_instrs; links = record { at = 18; slot = 2 } ∷ []; cuts = 22 ∷ [] }
 
 -- the same
 abbrev start : Func
@@ -63,7 +63,7 @@ small (b ∷ bs) e = let x = and_parts _ _ e in (ltb-true b 256 x.0, small bs x.
 
 -- numbers in range
 main_is : IsFunc main
-main_is = record { bytes = small (spelled main_instrs) refl; links = (record { at = omega arith; slot = omega arith }, tt); cuts = tt; length_fits = omega arith; links_fit = omega arith; cuts_fit = omega arith }
+main_is = record { bytes = small (spelled main_instrs) refl; links = (record { at = omega arith; slot = omega arith }, tt); cuts = (omega arith, tt); length_fits = omega arith; links_fit = omega arith; cuts_fit = omega arith }
 
 -- in both functions
 start_is : IsFunc start
