@@ -36,23 +36,23 @@ pub fn pieces_of(alloc: Global, functions: &[Func]) -> Result<List<Piece>, NoMem
     Ok(all)
 }
 
-/// Puts the pieces of a function, whose number comes with it, at the end.
-fn put_pieces(all: &mut List<Piece>, number: u32, function: &Func) -> Result<(), NoMemory>
-    requires { length function.now.bytes ≤ most_code }
-    ensures { OnOk result (all.new ≡ all.old ++ pieces_in_function number function.now) }
+/// Puts the pieces of a function at the end.
+fn put_pieces(all: &mut List<Piece>, function: u32, cut: &Func) -> Result<(), NoMemory>
+    requires { length cut.now.bytes ≤ most_code }
+    ensures { OnOk result (all.new ≡ all.old ++ pieces_in_function function cut.now) }
 {
     let mut from = 0;
-    for to in function.cuts.as_slice() {
+    for to in cut.cuts.as_slice() {
         all.add(Piece {
-            function: number,
+            function,
             from,
             to: *to,
         })?;
         from = *to;
     }
     all.add(Piece {
-        function: number,
+        function,
         from,
-        to: function.bytes.len() as u32,
+        to: cut.bytes.len() as u32,
     })
 }
