@@ -1,0 +1,5 @@
+pub mod Words
+pub mod Effects
+pub mod Bytes
+pub mod Rows
+pub mod Guarding
