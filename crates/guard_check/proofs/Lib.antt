@@ -3,3 +3,6 @@ pub mod Effects
 pub mod Bytes
 pub mod Rows
 pub mod Guarding
+pub mod Kept
+pub mod Places
+pub mod Runs

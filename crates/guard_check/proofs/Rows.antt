@@ -63,13 +63,13 @@ none_passes test behind (b ∷ bs) i after at off e h =
     none_passes test (b ∷ behind) bs i after (at + size_of b) off (behind_first b bs at off e) (none_here (test behind at b) at _ h).1
 
 -- a number is in a list
-pub data IsIn (n : ℕ) : List ℕ → Type 0 where
-  Here : (ms : List ℕ) → IsIn n (n ∷ ms)
-  There : (m : ℕ) (ms : List ℕ) → IsIn n ms → IsIn n (m ∷ ms)
+abbrev pub IsIn : ℕ → List ℕ → Type 0
+IsIn n [] = ⊥
+IsIn n (m ∷ ms) = (n ≡ m) ⊎ IsIn n ms
 
 -- an instruction that passes is found
 with_others : (t : Bool) (n m : ℕ) (ms : List ℕ) → IsIn n ms → IsIn n (if t then m ∷ ms else ms)
-with_others true n m ms h = There m ms h
+with_others true n m ms h = inr h
 with_others false n m ms h = h
 
 pub passing_is_in : (test : List Instr → ℕ → Instr → Bool) (behind before : List Instr) (i : Instr) (after : List Instr) (at off : ℕ) → off ≡ at + length (spelled before) → test (turned before behind) off i ≡ true → IsIn off (offsets_where test behind at (before ++ i ∷ after))
@@ -77,7 +77,7 @@ passing_is_in test behind [] i after at off e h =
     let same : off ≡ at = omega (arith, e) in
     let passes : test behind at i ≡ true = subst (λ n. test behind n i ≡ true) same h in
     subst (λ n. IsIn n (offsets_where test behind at (i ∷ after))) (sym same)
-    (subst (λ t. IsIn at (if t then at ∷ offsets_where test (i ∷ behind) (at + size_of i) after else offsets_where test (i ∷ behind) (at + size_of i) after)) (sym passes) (Here _))
+    (subst (λ t. IsIn at (if t then at ∷ offsets_where test (i ∷ behind) (at + size_of i) after else offsets_where test (i ∷ behind) (at + size_of i) after)) (sym passes) (inl refl))
 passing_is_in test behind (b ∷ bs) i after at off e h =
     with_others (test behind at b) off at _ (passing_is_in test (b ∷ behind) bs i after (at + size_of b) off (behind_first b bs at off e) h)
 
