@@ -2,6 +2,8 @@
 use Rattle.std.proofs.Common.{◌≡◌, ◌≢◌, ℕ, zero, suc, ◌+◌, ◌*◌, ◌-◌, ◌^◌, ◌<◌, ◌≤◌, ◌⊎◌, inl, inr, Bool, true, false, ◌&&◌, if◌then◌else◌, List, [], ◌∷◌, ◌++◌, length, drop, Option, Some, None, refl, sym, ◌∙◌, ap, subst, lit≤, arith}
 use Rattle.std.specs.Prelude.{min, nat_eq, slice_get, slice_index, replicate, pos, negsuc}
 use Rattle.std.proofs.lemmas.List.{drop_at}
+use Rattle.std.proofs.Math.Logic.{∥∥₁_elim}
+use Rattle.std.proofs.Props.{props}
 use Rattle.rd_num.specs.Number.{le_bytes, le_number}
 use Rattle.behavior.specs.Ending.{Ending, Going, Ended, Divide, NoFlag, BadCall, PageFault, Strayed, if_going}
 use Rattle.behavior.specs.Moment.{AreBytes}
@@ -30,10 +32,10 @@ use Rattle.obj_core.specs.declared.object.Object.{Object}
 use Rattle.obj_core.specs.declared.object.Slot.{Slot}
 use Rattle.obj_core.specs.declared.object.Place.{Place}
 use Rattle.obj_core.specs.Landing.{LandsAt}
-use Rattle.obj_core.specs.WellFormed.{IsWellFormed, is_entry}
+use Rattle.obj_core.specs.WellFormed.{Violation, IsWellFormed, is_entry}
 use Rattle.obj_core.specs.SymbolicMachine.{symbolic_fetch, symbolic_land, symbolic_step, symbolic_start, symbolic_run}
 use Rattle.obj_core.proofs.Landing.{slots_land}
-use Rattle.guard_check.specs.Form.{is_indirect, guard_violation, HasGuardForm}
+use Rattle.guard_check.specs.Form.{is_indirect, guard_violation, HasGuardForm, IsFirstUnguarded}
 use Rattle.guard_check.specs.Straight.{IsLanding, WriteBytes, NeverStrays, AwaitsWord, KeepsWords}
 use Rattle.guard_check.proofs.Words.{AreWords, words_with, index_other}
 use Rattle.guard_check.proofs.Effects.{effect_words, moved_small}
@@ -270,3 +272,15 @@ keeps_words o well form input acts b w a =
     let kept = form_kept o well form in
     let s = run_is_straight o well kept input acts b w in
     awaits_landing o well kept _ _ _ s.words s.sound a
+
+-- what is only known to be well formed and guarded does not stray either
+pub straight_of : (o : Object) → ∥ IsWellFormed o ∥₁ → ∥ HasGuardForm o ∥₁ → NeverStrays o
+straight_of o well form input acts b w e = ∥∥₁_elim well (hlevel props) (λ x. ∥∥₁_elim form (hlevel props) (λ y. never_strays o x y input acts b w e))
+
+-- an object that breaks a rule is not guarded
+pub not_both : (o : Object) (v : Violation) → IsFirstUnguarded o v → HasGuardForm o → ⊥
+not_both o v first form =
+    let same : guard_violation o form.disassemblies ≡ guard_violation o first.disassemblies = ap (guard_violation o) (one_disassembly o.functions form.disassemblies first.disassemblies form.disassembled first.disassembled) in
+    let kept = form.kept in
+    let found = first.first in
+    absurd (cc)

@@ -5,8 +5,8 @@
 //! its memory between two steps: the word stands in a register by then. Addresses count bytes.
 
 ghost use Rattle.obj_core.specs.declared.object.Object.{Object as Program};
-ghost use Rattle.obj_core.specs.WellFormed.{IsWellFormed};
-ghost use Rattle.guard_check.specs.Form.{HasGuardForm};
+ghost use Rattle.obj_core.specs.WellFormed.{Violation, IsWellFormed};
+ghost use Rattle.guard_check.specs.Form.{HasGuardForm, IsFirstUnguarded};
 ghost use Rattle.guard_check.specs.Straight.{KeepsWords, NeverStrays};
 
 /// Wherever a run goes on by the word in r11, the word is a slot's address, plus 0 or 5.
@@ -17,4 +17,9 @@ pub fn words_lead_to_slots()
 /// No run strays, for every input and every list of steps and writes.
 pub fn guarded_never_strays()
     ensures { (o : Program) → IsWellFormed o → HasGuardForm o → NeverStrays o }
+{}
+
+/// An object in which a rule of guards fails first somewhere is not guarded.
+pub fn unguarded_have_no_form()
+    ensures { (o : Program) (v : Violation) → IsFirstUnguarded o v → HasGuardForm o → ⊥ }
 {}

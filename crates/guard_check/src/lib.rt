@@ -4,4 +4,5 @@
 //! may not lead into it; `law` says what follows for every run, under writes by somebody who looks on.
 #![tactic(auto)]
 
+pub mod guarded;
 pub mod law;
