@@ -1,10 +1,10 @@
 -- Memory that holds bytes, and the words that are read from it.
-use Rattle.std.proofs.Common.{◌≡◌, ℕ, zero, suc, ◌+◌, ◌-◌, ◌*◌, ◌/◌, ◌%◌, ◌^◌, ◌<◌, ◌≤◌, Bool, true, false, ◌&&◌, if◌then◌else◌, List, [], ◌∷◌, ◌++◌, length, take, drop, Option, Some, None, lit≤, arith}
+use Rattle.std.proofs.Common.{ℕ, zero, suc, ◌+◌, ◌-◌, ◌*◌, ◌/◌, ◌^◌, ◌<◌, ◌≤◌, Bool, true, false, ◌&&◌, if◌then◌else◌, List, [], ◌∷◌, ◌++◌, length, take, drop, Option, Some, None, lit≤, arith}
 use Rattle.rd_num.specs.Number.{le_bytes, le_number}
 use Rattle.behavior.specs.Moment.{AreBytes}
 use Rattle.x86_core.specs.declared.image.Segment.{Segment}
 use Rattle.x86_core.specs.Memory.{reads, writes, covers, read_at, write_at, with_bytes, behind}
-use Rattle.x86_core.specs.Data.{stack, stack_bytes, data_segments, unless_empty, segment}
+use Rattle.x86_core.specs.Data.{stack_bytes, data_segments, unless_empty, segment}
 use Rattle.std.specs.Prelude.{replicate}
 use Rattle.obj_core.specs.Object.{Each, IsByte}
 

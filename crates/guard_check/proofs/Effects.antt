@@ -1,7 +1,7 @@
 -- No instruction makes a word of more than 64 bits.
-use Rattle.std.proofs.Common.{◌≡◌, ℕ, zero, suc, ◌+◌, ◌-◌, ◌*◌, ◌/◌, ◌%◌, ◌^◌, ◌<◌, ◌≤◌, Bool, true, false, if◌then◌else◌, List, Option, Some, None, refl, sym, ◌∙◌, ap, subst, lit≤, arith}
+use Rattle.std.proofs.Common.{◌≡◌, ℕ, zero, suc, ◌+◌, ◌-◌, ◌*◌, ◌/◌, ◌%◌, ◌^◌, ◌<◌, ◌≤◌, Bool, true, false, if◌then◌else◌, List, Option, Some, None, refl, subst, lit≤, arith}
 use Rattle.std.specs.Prelude.{nat_eq, nat_lt, ℤ, pos, negsuc}
-use Rattle.std.proofs.lemmas.Bool.{ltb-true, leb-true}
+use Rattle.std.proofs.lemmas.Bool.{ltb-true}
 use Rattle.std.proofs.lemmas.Nat.{and_le_l, or_lt, xor_lt}
 use Rattle.x86_core.specs.declared.reg.Reg.{Reg}
 use Rattle.x86_core.specs.declared.reg.Reg.TheVariants.{Rax, Rcx, Rdx, Rsp}
@@ -9,7 +9,6 @@ use Rattle.x86_core.specs.declared.flags.Flags.{Flags}
 use Rattle.x86_core.specs.declared.instr.Wide.{Wide}
 use Rattle.x86_core.specs.declared.instr.Size.{Size}
 use Rattle.x86_core.specs.declared.instr.HighSize.{HighSize}
-use Rattle.x86_core.specs.declared.instr.Mem.{Mem}
 use Rattle.x86_core.specs.declared.instr.AluOp.{AluOp}
 use Rattle.x86_core.specs.declared.instr.AluOp.TheVariants.{Add, Or, And, Sub, Xor, Cmp, Test}
 use Rattle.x86_core.specs.declared.instr.ShiftOp.{ShiftOp}
@@ -19,11 +18,10 @@ use Rattle.x86_core.specs.declared.instr.WidenKind.TheVariants.{Zero8, Zero16, S
 use Rattle.x86_core.specs.declared.instr.Instr.{Instr}
 use Rattle.x86_core.specs.declared.instr.Instr.TheVariants.{Mov, MovImm64, MovImm32, Alu, AluImm, Imul, Shift, Div, High, Widen, Load, Store, Lea, Push, Pop, SetCond, Cmov, Jcc, Jmp, Call, Ret, CallR11, JmpR11, Syscall, Ud2, Int3, Nop}
 use Rattle.x86_core.specs.declared.divide.Division.{Division}
-use Rattle.x86_core.specs.declared.effect.Next.{Next}
 use Rattle.x86_core.specs.Registers.{word, with_word}
-use Rattle.x86_core.specs.Arithmetic.{wide_bits, size_bits, low, is_negative, differ, kept, moved, constant, alu_result, is_written, same_op, shift_count, shifted, magnitude, with_sign, has_room, unsigned_division, signed_division, division, sign_fill, sign_extended, widened, holds}
+use Rattle.x86_core.specs.Arithmetic.{wide_bits, size_bits, low, is_negative, differ, kept, moved, constant, alu_result, is_written, same_op, shift_count, shifted, magnitude, with_sign, has_room, division, sign_fill, widened, holds}
 use Rattle.x86_core.specs.Encoding.{IsInstr}
-use Rattle.x86_core.specs.Effect.{effect_of, alu_effect, dividend, with_division, divided, high_effect, address_of, with_stack, set_effect, cmov_effect, jcc_effect}
+use Rattle.x86_core.specs.Effect.{effect_of, dividend, with_division, divided, high_effect, with_stack, set_effect, cmov_effect, jcc_effect}
 use Rattle.guard_check.proofs.Words.{AreWords, word_small, words_with}
 
 -- one of two numbers below a third

@@ -1,13 +1,12 @@
 -- Where an instruction lies beside a guard, and what is known of the registers at each place of a guard.
-use Rattle.std.proofs.Common.{◌≡◌, ℕ, zero, suc, ◌+◌, ◌-◌, ◌*◌, ◌/◌, ◌%◌, ◌^◌, ◌<◌, ◌≤◌, ◌⊎◌, inl, inr, Bool, true, false, if◌then◌else◌, List, [], ◌∷◌, ◌++◌, length, Option, Some, None, refl, sym, ◌∙◌, ap, subst, arith, append_assoc, length-append}
+use Rattle.std.proofs.Common.{◌≡◌, ℕ, zero, suc, ◌+◌, ◌-◌, ◌*◌, ◌/◌, ◌%◌, ◌^◌, ◌<◌, ◌≤◌, ◌⊎◌, inl, inr, Bool, true, false, List, [], ◌∷◌, ◌++◌, length, Some, refl, sym, ◌∙◌, ap, arith, length-append}
 use Rattle.std.specs.Prelude.{bit_and, nat_eq, nat_lt, slice_index, slice_index_or, pos}
-use Rattle.std.proofs.lemmas.Bool.{eqb-true, ltb-true, leb-false}
+use Rattle.std.proofs.lemmas.Bool.{eqb-true}
 use Rattle.std.proofs.lemmas.List.{append-nil}
 use Rattle.std.proofs.lemmas.Nat.{and_mask}
 use Rattle.rd_draw.specs.Draw.{keystream_word}
 use Rattle.rd_draw.proofs.Permuted.{shuffled_long, shuffled_holds}
 use Rattle.x86_core.specs.declared.reg.Reg.TheVariants.{R10, R11}
-use Rattle.x86_core.specs.declared.flags.Flag.{Flag}
 use Rattle.x86_core.specs.declared.flags.Flags.{Flags}
 use Rattle.x86_core.specs.declared.instr.Wide.{Wide}
 use Rattle.x86_core.specs.declared.instr.ImmOp.{ImmOp}
@@ -20,9 +19,8 @@ use Rattle.x86_core.specs.Encoding.{encoding}
 use Rattle.x86_core.specs.Effect.{effect_of}
 use Rattle.obj_core.specs.declared.object.Object.{Object}
 use Rattle.obj_core.specs.declared.object.Place.{Place}
-use Rattle.obj_core.specs.Slots.{slot_base, slot_purpose, positions, slot_start}
+use Rattle.obj_core.specs.Slots.{slot_base, slot_purpose, positions}
 use Rattle.obj_core.specs.Disassembly.{spelled, size_of}
-use Rattle.obj_core.specs.Landing.{LandsAt}
 use Rattle.obj_core.proofs.Spelling.{length-spelled-append}
 use Rattle.guard_check.specs.Guard.{guard}
 use Rattle.guard_check.specs.Straight.{IsLanding}
@@ -106,7 +104,6 @@ located slots pre x post before i after e = by_cut (compared pre before (guard s
     by_cut : Compared pre before (guard slots ++ x ∷ post) (i ∷ after) → Where slots (length (spelled pre)) (length (spelled before)) i
     by_cut (Longer s f g) = longer s f g
     by_cut (Shorter s f g) = inner slots x post (length (spelled pre)) (length (spelled before)) i after s g (ap (λ (r : List Instr). length (spelled r)) f ∙ length-spelled-append pre s)
-
 
 -- r10 holds r11 counted from the first slot
 abbrev pub IsCounted : List ℕ → Type 0
@@ -280,7 +277,6 @@ none_51 o a off regs flags h = record {
   rest_compared = λ e. absurd (omega (arith, e, h));
   passed = λ e. absurd (omega (arith, e, h));
 }
-
 
 -- a place of a list, whatever stands for what is missing
 any_default : (xs : List ℕ) (k d e : ℕ) → k < length xs → slice_index_or xs k d ≡ slice_index_or xs k e

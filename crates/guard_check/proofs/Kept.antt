@@ -1,5 +1,5 @@
 -- What the rules say of one function, of one of its instructions, and of one slot.
-use Rattle.std.proofs.Common.{◌≡◌, ℕ, zero, suc, ◌+◌, ◌-◌, ◌*◌, ◌^◌, ◌<◌, ◌≤◌, Bool, true, false, not, ◌||◌, ◌&&◌, if◌then◌else◌, List, [], ◌∷◌, ◌++◌, length, drop, Option, Some, None, refl, sym, ◌∙◌, ap, subst, arith, append_assoc, length-append}
+use Rattle.std.proofs.Common.{◌≡◌, ℕ, zero, suc, ◌+◌, ◌^◌, ◌<◌, ◌≤◌, Bool, true, false, ◌||◌, if◌then◌else◌, List, [], ◌∷◌, ◌++◌, length, drop, Option, Some, None, refl, sym, ◌∙◌, ap, subst, arith, append_assoc, length-append}
 use Rattle.std.specs.Prelude.{nat_eq, slice_get, slice_index}
 use Rattle.std.proofs.lemmas.List.{drop_at}
 use Rattle.std.proofs.lemmas.List.Sums.{sum-map}
@@ -19,12 +19,12 @@ use Rattle.obj_core.specs.Object.{Each}
 use Rattle.obj_core.specs.Slots.{slot_purpose, positions, slot_start}
 use Rattle.obj_core.specs.Disassembly.{IsDisassembly, AreDisassemblies, Found, found, found_from, starts_at, spelled, size_of}
 use Rattle.obj_core.specs.SymbolicMachine.{link_before}
-use Rattle.obj_core.specs.WellFormed.{Violation, OfSlot, AreFew, IsWellFormed, or_else, at_least_offset, in_functions, in_slots, is_slots_own, forbidden_in, displacement, is_linked, goes_well, bad_branches, is_end, open_end, agrees_with, is_entry, is_good_slot, zero_unless, is_saved_well, bad_links, bad_cut, violation}
+use Rattle.obj_core.specs.WellFormed.{Violation, OfSlot, AreFew, IsWellFormed, or_else, at_least_offset, in_functions, in_slots, is_slots_own, forbidden_in, displacement, is_linked, goes_well, bad_branches, is_end, open_end, agrees_with, is_entry, is_good_slot, bad_links}
 use Rattle.obj_core.proofs.Kept.{one_empty, other_empty}
 use Rattle.obj_core.proofs.Sizes.{code_len}
-use Rattle.obj_core.proofs.Fronts.{front_of, front_small}
+use Rattle.obj_core.proofs.Fronts.{front_small}
 use Rattle.obj_core.proofs.Spelling.{length-spelled-append}
-use Rattle.guard_check.specs.Form.{offsets_where, refused_in, unguarded_in, breaking_in, is_good_way, guard_violation}
+use Rattle.guard_check.specs.Form.{refused_in, unguarded_in, breaking_in, is_good_way, guard_violation}
 use Rattle.guard_check.proofs.Rows.{is_in_start, behind_first}
 
 -- where neither of two fails, each holds

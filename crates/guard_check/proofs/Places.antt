@@ -1,13 +1,12 @@
 -- What is known of a run at each place of a guarded object, and that what is fetched there keeps it.
-use Rattle.std.proofs.Common.{◌≡◌, ℕ, zero, suc, ◌+◌, ◌-◌, ◌*◌, ◌%◌, ◌^◌, ◌<◌, ◌≤◌, ◌⊎◌, inl, inr, Bool, true, false, not, ◌||◌, ◌&&◌, if◌then◌else◌, List, [], ◌∷◌, ◌++◌, length, drop, Option, Some, None, refl, sym, ◌∙◌, ap, subst, arith, append_assoc, append-nil, length-append}
-use Rattle.std.specs.Prelude.{nat_eq, nat_lt, nat_le, slice_get, ℤ, pos, negsuc}
+use Rattle.std.proofs.Common.{◌≡◌, ℕ, zero, suc, ◌+◌, ◌*◌, ◌%◌, ◌^◌, ◌<◌, ◌≤◌, ◌⊎◌, inl, inr, Bool, true, false, not, ◌||◌, ◌&&◌, if◌then◌else◌, List, [], ◌∷◌, ◌++◌, length, drop, Option, Some, None, refl, sym, ◌∙◌, ap, subst, arith, append_assoc}
+use Rattle.std.specs.Prelude.{nat_eq, nat_lt, nat_le, slice_get, ℤ, pos}
 use Rattle.std.specs.List.{list_all}
-use Rattle.std.proofs.lemmas.Bool.{eqb-true, ltb-true, ltb-false, leb-true, leb-false, and_parts, or_cases, lt-ltb, le-leb}
+use Rattle.std.proofs.lemmas.Bool.{eqb-true, ltb-true, ltb-false, leb-true, leb-false, and_parts, or_cases}
 use Rattle.std.proofs.lemmas.List.{drop_at}
-use Rattle.behavior.specs.Ending.{Ending, Strayed, NoForm, Invalid, Breakpoint}
+use Rattle.behavior.specs.Ending.{Strayed}
 use Rattle.x86_core.specs.declared.reg.Reg.{Reg}
 use Rattle.x86_core.specs.declared.reg.Reg.TheVariants.{R10, R11}
-use Rattle.x86_core.specs.declared.flags.Flag.{Flag}
 use Rattle.x86_core.specs.declared.flags.Flags.{Flags}
 use Rattle.x86_core.specs.declared.instr.Wide.{Wide}
 use Rattle.x86_core.specs.declared.instr.ImmOp.{ImmOp}
@@ -16,7 +15,7 @@ use Rattle.x86_core.specs.declared.instr.Instr.{Instr}
 use Rattle.x86_core.specs.declared.instr.Instr.TheVariants.{Mov, AluImm, Jcc, Jmp, Call, Ret, CallR11, JmpR11, Syscall, Ud2, Int3, Nop}
 use Rattle.x86_core.specs.declared.effect.Access.TheVariants.{Nothing}
 use Rattle.x86_core.specs.Registers.{word}
-use Rattle.x86_core.specs.Arithmetic.{moved, holds, known as known_flag, flag_if}
+use Rattle.x86_core.specs.Arithmetic.{moved, holds, known as known_flag}
 use Rattle.x86_core.specs.Encoding.{encoding, IsInstr}
 use Rattle.x86_core.specs.declared.instr.Decoded.TheVariants.{One}
 use Rattle.x86_core.specs.Decoding.{decode}
@@ -37,13 +36,13 @@ use Rattle.obj_core.specs.SymbolicMachine.{link_before, target, at_code, in_slot
 use Rattle.obj_core.proofs.Kept.{function_keeps, slot_keeps}
 use Rattle.obj_core.proofs.Spelling.{spelled-append, length-spelled-append, each_right, each_left}
 use Rattle.obj_core.proofs.Stands.{Stand, stand, fetched}
-use Rattle.guard_check.specs.Guard.{guard, guard_size, is_inside, is_of_guard, turned, follows_guard}
-use Rattle.guard_check.specs.Form.{offsets_where, offsets_in, is_indirect, leads_indirect, is_guarded, guarded_places, is_refused, refused_in, unguarded_in, keeps_out, breaks_in, breaking_in, comes_outside, is_good_back, is_good_way, guard_violation}
+use Rattle.guard_check.specs.Guard.{guard, is_inside, is_of_guard, turned, follows_guard}
+use Rattle.guard_check.specs.Form.{offsets_where, is_indirect, leads_indirect, is_guarded, guarded_places, is_refused, keeps_out, breaks_in, comes_outside, is_good_back, is_good_way, guard_violation}
 use Rattle.guard_check.specs.Straight.{IsLanding, GoesByWord}
 use Rattle.guard_check.proofs.Words.{AreWords}
-use Rattle.guard_check.proofs.Rows.{SplitsAt, start_splits, none_passes, passing_is_in, IsIn, begins_with, each_turned, ends_with}
-use Rattle.guard_check.proofs.Guarding.{Where, Before, Copies, Subtracts, Compares, Branches, Stops as Halts, Masks, Passes, ComparesRest, PassesRest, StopsRest, Behind, located, IsCounted, IsRest, Facts, outside, only_copied, only_counted, only_compared, only_within, only_masked, only_rest, only_rest_compared, only_passed, none_23, none_51, lands, flag_says, copies, subtracts, compares, masks, compares_rest, rest_is_0, rest_is_5}
-use Rattle.guard_check.proofs.Kept.{KeepsGuards, function_guarded, way_guarded, none_of_slots, branch_goes, goes_on, next_start, no_link, HasFunction, function_of, starts_in, function_starts, function_short, slot_low}
+use Rattle.guard_check.proofs.Rows.{start_splits, none_passes, passing_is_in, IsIn, begins_with, each_turned, ends_with}
+use Rattle.guard_check.proofs.Guarding.{Where, Before, Copies, Subtracts, Compares, Branches, Stops as Halts, Masks, Passes, ComparesRest, PassesRest, StopsRest, Behind, located, Facts, outside, only_copied, only_counted, only_compared, only_within, only_masked, only_rest, only_rest_compared, only_passed, none_23, none_51, lands, flag_says, copies, subtracts, compares, masks, compares_rest, rest_is_0, rest_is_5}
+use Rattle.guard_check.proofs.Kept.{KeepsGuards, function_guarded, way_guarded, none_of_slots, branch_goes, goes_on, next_start, no_link, function_of, starts_in, function_starts, function_short, slot_low}
 
 -- at a place of a function: an instruction starts there, and of each guard what holds at that offset
 pub record SoundCode (o : Object) (disassemblies : List (List Instr)) (n off : ℕ) (regs : List ℕ) (flags : Flags) : Type 0 where

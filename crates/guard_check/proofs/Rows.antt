@@ -1,16 +1,14 @@
 -- Rows of instructions: where they start, where a test holds, and how a guard lies in one.
-use Rattle.std.proofs.Common.{◌≡◌, ℕ, zero, suc, ◌+◌, ◌<◌, ◌≤◌, ◌⊎◌, inl, inr, Bool, true, false, ◌||◌, ◌&&◌, if◌then◌else◌, List, [], ◌∷◌, ◌++◌, length, refl, sym, ◌∙◌, ap, subst, arith, append_assoc, length-append}
+use Rattle.std.proofs.Common.{◌≡◌, ℕ, ◌+◌, ◌⊎◌, inl, inr, Bool, true, false, ◌||◌, if◌then◌else◌, List, [], ◌∷◌, ◌++◌, length, refl, sym, ◌∙◌, ap, subst, arith, append_assoc, length-append}
 use Rattle.std.specs.Prelude.{nat_eq}
 use Rattle.std.proofs.lemmas.Bool.{eqb-true, eq-eqb, or_right, and_parts}
 use Rattle.std.proofs.lemmas.List.{append-nil}
-use Rattle.std.specs.Cmp.Lexicographic.{pointwise}
 use Rattle.x86_core.specs.declared.instr.Instr.{Instr}
 use Rattle.x86_core.specs.Encoding.{encoding, IsInstr}
 use Rattle.x86_core.proofs.Laws.{encodings_differ}
 use Rattle.obj_core.specs.Object.{Each}
 use Rattle.obj_core.specs.Saved.{same_bytes}
 use Rattle.obj_core.specs.Disassembly.{found_from, starts_at, spelled, size_of}
-use Rattle.obj_core.proofs.Spelling.{length-spelled-append, each_append}
 use Rattle.guard_check.specs.Guard.{is_same, turned, begins}
 use Rattle.guard_check.specs.Form.{offsets_where}
 

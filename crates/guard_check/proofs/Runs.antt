@@ -1,7 +1,6 @@
 -- A step of a guarded object's run keeps what is known at its places, so no run strays.
-use Rattle.std.proofs.Common.{◌≡◌, ◌≢◌, ℕ, zero, suc, ◌+◌, ◌*◌, ◌-◌, ◌^◌, ◌<◌, ◌≤◌, ◌⊎◌, inl, inr, Bool, true, false, ◌&&◌, if◌then◌else◌, List, [], ◌∷◌, ◌++◌, length, drop, Option, Some, None, refl, sym, ◌∙◌, ap, subst, lit≤, arith}
-use Rattle.std.specs.Prelude.{min, nat_eq, slice_get, slice_index, replicate, pos, negsuc}
-use Rattle.std.proofs.lemmas.List.{drop_at}
+use Rattle.std.proofs.Common.{◌≡◌, ℕ, zero, suc, ◌^◌, ◌<◌, ◌≤◌, inl, inr, Bool, true, false, ◌&&◌, if◌then◌else◌, List, [], ◌∷◌, Option, Some, None, refl, sym, ap, subst, lit≤, arith}
+use Rattle.std.specs.Prelude.{min, nat_eq, slice_get, slice_index, replicate, negsuc}
 use Rattle.std.proofs.Math.Logic.{∥∥₁_elim}
 use Rattle.std.proofs.Props.{props}
 use Rattle.rd_num.specs.Number.{le_bytes, le_number}
@@ -13,7 +12,6 @@ use Rattle.x86_core.specs.declared.flags.Flag.{Flag}
 use Rattle.x86_core.specs.declared.flags.Flag.TheVariants.{Zero, One, Unknown}
 use Rattle.x86_core.specs.declared.flags.Flags.{Flags}
 use Rattle.x86_core.specs.declared.instr.Size.{Size}
-use Rattle.x86_core.specs.declared.instr.Instr.{Instr}
 use Rattle.x86_core.specs.declared.image.Segment.{Segment}
 use Rattle.x86_core.specs.declared.effect.Access.{Access}
 use Rattle.x86_core.specs.declared.effect.Access.TheVariants.{Nothing, Read, Write}
@@ -21,13 +19,11 @@ use Rattle.x86_core.specs.declared.effect.Next.{Next}
 use Rattle.x86_core.specs.declared.effect.Next.TheVariants as next
 use Rattle.x86_core.specs.declared.effect.Change.{Change}
 use Rattle.x86_core.specs.Registers.{word, with_word}
-use Rattle.x86_core.specs.Arithmetic.{holds, moved}
-use Rattle.x86_core.specs.Encoding.{encoding, IsInstr}
-use Rattle.x86_core.specs.Decoding.{decode}
+use Rattle.x86_core.specs.Arithmetic.{holds}
 use Rattle.x86_core.specs.Effect.{effect_of}
 use Rattle.x86_core.specs.Memory.{read_at, write_at}
 use Rattle.x86_core.specs.Step.{State, Fetched, Stops, Plain, Goes, Tests, Calls, Returns, Follows, CallsWord, Systems, size_bytes, after_read, after_write, by_access, by_change, tested, landed, below, called, called_word, flag_number, answered, bad_address, after_print, after_take, next_byte, Request, Exits, Idles, Prints, Takes, Unknowns, request_of, served, act}
-use Rattle.x86_core.specs.Run.{Act, Step, Write as Writes, wrote, acted, run_over}
+use Rattle.x86_core.specs.Run.{Act, Step, Write as Writes, wrote, run_over}
 use Rattle.obj_core.specs.declared.object.Object.{Object}
 use Rattle.obj_core.specs.declared.object.Slot.{Slot}
 use Rattle.obj_core.specs.declared.object.Place.{Place}
@@ -41,7 +37,7 @@ use Rattle.guard_check.proofs.Words.{AreWords, words_with, index_other}
 use Rattle.guard_check.proofs.Effects.{effect_words, moved_small}
 use Rattle.guard_check.proofs.Bytes.{HoldBytes, ReadBytes, read_bytes, StillBytes, write_bytes, number_bytes, word_bounded, start_bytes}
 use Rattle.guard_check.proofs.Kept.{one_disassembly, first_is_entry}
-use Rattle.guard_check.proofs.Places.{Sound, SoundCode, Freely, Keeps, place_keeps, word_lands}
+use Rattle.guard_check.proofs.Places.{Sound, Freely, Keeps, place_keeps, word_lands}
 
 -- the bytes of a size are at most eight
 size_most : (size : Size) → size_bytes size ≤ 8

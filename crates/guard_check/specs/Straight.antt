@@ -1,12 +1,11 @@
 -- What a guarded object keeps in each run, under writes by somebody who looks on: words of r11 lead to slots, and no run strays.
-use Rattle.std.specs.Prelude.{◌≡◌, ◌≢◌, ℕ, ◌+◌, ◌<◌, Bool, true, List, [], ◌∷◌, Option, Some, None, slice_get}
+use Rattle.std.specs.Prelude.{◌≡◌, ◌≢◌, ℕ, ◌+◌, ◌<◌, true, List, [], ◌∷◌, Some, slice_get}
 use Rattle.behavior.specs.Ending.{Strayed}
 use Rattle.behavior.specs.Moment.{AreBytes}
 use Rattle.x86_core.specs.declared.reg.Reg.TheVariants.{R11}
 use Rattle.x86_core.specs.declared.instr.Instr.{Instr}
 use Rattle.x86_core.specs.Registers.{word}
 use Rattle.x86_core.specs.Encoding.{encoding, IsInstr}
-use Rattle.x86_core.specs.Step.{State}
 use Rattle.x86_core.specs.Run.{Act, Step, Write}
 use Rattle.std.specs.Prelude.{◌++◌, drop}
 use Rattle.obj_core.specs.declared.object.Object.{Object}
