@@ -6,3 +6,4 @@ pub mod Guarding
 pub mod Kept
 pub mod Places
 pub mod Runs
+pub mod Worked

@@ -154,7 +154,7 @@ unfolding effect_of
 nop_regs regs flags = refl
 
 -- the instructions of a guard are in range
-each_guard : (slots : ℕ) → slots ≤ 1048576 → Each IsInstr (guard slots)
+pub each_guard : (slots : ℕ) → slots ≤ 1048576 → Each IsInstr (guard slots)
 each_guard slots few =
     let low : 16 * slots < 2 ^ 31 = omega (arith, few) in
     (tt, (omega arith, (low, (omega arith, (tt, (omega arith, (omega arith, (omega arith, (omega arith, (tt, tt))))))))))
