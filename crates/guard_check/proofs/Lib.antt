@@ -1,0 +1,9 @@
+pub mod Words
+pub mod Effects
+pub mod Bytes
+pub mod Rows
+pub mod Guarding
+pub mod Kept
+pub mod Places
+pub mod Runs
+pub mod Worked

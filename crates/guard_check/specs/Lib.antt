@@ -1,0 +1,3 @@
+pub mod Guard
+pub mod Form
+pub mod Straight

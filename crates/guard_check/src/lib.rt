@@ -1,0 +1,8 @@
+//! Guarded objects: each word is tested before a run goes there, so no run strays.
+//!
+//! `specs/Guard.antt` is the test, ten instructions; `specs/Form.antt` says where it must stand and what
+//! may not lead into it; `law` says what follows for every run, under writes by somebody who looks on.
+#![tactic(auto)]
+
+pub mod guarded;
+pub mod law;
