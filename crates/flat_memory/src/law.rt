@@ -20,64 +20,65 @@ ghost use Rattle.flat_memory.specs.Accesses.{SettingFits, Loads, Changes, IsPoin
 
 /// What objects allow to be loaded, flat memory gives as a word.
 pub fn loads()
-    ensures { (g : Setting) (calls : List CallMemory) (m : Memory) (at : Addresses) (bytes : Bytes) →
-        SettingFits g → Bridges g calls m at bytes → (kind : Kind) (v u : Value) →
+    ensures { (g : Setting) (cs : List CallMemory) (m : Memory) (at : Addresses) (bytes : Bytes) →
+        SettingFits g → Bridges g cs m at bytes → (kind : Kind) (v u : Value) →
         load_at m kind v ≡ Ok u →
-        Loads g m at kind u (word_at (flat_in g calls bytes) (word_of at v) (kind_size kind)) }
+        Loads g m at kind u (word_at (flat_in g cs bytes) (word_of at v) (kind_size kind)) }
 {}
 
 /// What may be stored in an object, its word may be stored in flat memory.
 pub fn stores()
-    ensures { (g : Setting) (calls : List CallMemory) (m : Memory) (at : Addresses) (bytes : Bytes) →
-        SettingFits g → Bridges g calls m at bytes → (v p : Value) (m2 : Memory) →
+    ensures { (g : Setting) (cs : List CallMemory) (m : Memory) (at : Addresses) (bytes : Bytes) →
+        SettingFits g → Bridges g cs m at bytes → (v p : Value) (m2 : Memory) →
         IsKnown (length m) g.taken v → store_at m v p ≡ Ok m2 →
-        Changes g calls m m2 at (with_word_at (flat_in g calls bytes) (word_of at p)
+        Changes g cs m m2 at (with_word_at (flat_in g cs bytes) (word_of at p)
         (length (cells_of v)) (word_of at v)) }
 {}
 
 /// A copy of bytes, pieces of pointers and unset bytes among them.
 pub fn copies()
-    ensures { (g : Setting) (calls : List CallMemory) (m : Memory) (at : Addresses) (bytes : Bytes) →
-        SettingFits g → Bridges g calls m at bytes → (to from : Value) (count : ℕ) (m2 : Memory) →
+    ensures { (g : Setting) (cs : List CallMemory) (m : Memory) (at : Addresses) (bytes : Bytes) →
+        SettingFits g → Bridges g cs m at bytes → (to from : Value) (count : ℕ) (m2 : Memory) →
         objects.copied m to from count ≡ Ok m2 →
-        Changes g calls m m2 at (flat.copied (flat_in g calls bytes) (word_of at to) (word_of at from)
+        Changes g cs m m2 at (flat.copied (flat_in g cs bytes) (word_of at to) (word_of at from)
         count) }
 {}
 
 /// A fill of bytes with a number.
 pub fn fills()
-    ensures { (g : Setting) (calls : List CallMemory) (m : Memory) (at : Addresses) (bytes : Bytes) →
-        SettingFits g → Bridges g calls m at bytes → (p : Value) (byte count : ℕ) (m2 : Memory) →
+    ensures { (g : Setting) (cs : List CallMemory) (m : Memory) (at : Addresses) (bytes : Bytes) →
+        SettingFits g → Bridges g cs m at bytes → (p : Value) (byte count : ℕ) (m2 : Memory) →
         objects.filled m p byte count ≡ Ok m2 →
-        Changes g calls m m2 at (flat.filled (flat_in g calls bytes) (word_of at p) byte count) }
+        Changes g cs m m2 at (flat.filled (flat_in g cs bytes) (word_of at p) byte count) }
 {}
 
 /// What a comparison of pointers says is what the comparison of their words says.
 pub fn compares()
-    ensures { (g : Setting) (calls : List CallMemory) (m : Memory) (at : Addresses) (bytes : Bytes) →
-        SettingFits g → Bridges g calls m at bytes → (pred : Pred) (u v : Value) (r : Bool) →
+    ensures { (g : Setting) (cs : List CallMemory) (m : Memory) (at : Addresses) (bytes : Bytes) →
+        SettingFits g → Bridges g cs m at bytes → (pred : Pred) (u v : Value) (r : Bool) →
         IsPointer (length m) g.taken u → IsPointer (length m) g.taken v →
         pointers_compared pred m u v ≡ Ok r → compared pred W64 (word_of at u) (word_of at v) ≡ r }
 {}
 
 /// A pointer that moves, and its word.
 pub fn moves()
-    ensures { (g : Setting) (calls : List CallMemory) (m : Memory) (at : Addresses) (bytes : Bytes) →
-        SettingFits g → Bridges g calls m at bytes → (by : ℕ) (v u : Value) →
+    ensures { (g : Setting) (cs : List CallMemory) (m : Memory) (at : Addresses) (bytes : Bytes) →
+        SettingFits g → Bridges g cs m at bytes → (by : ℕ) (v u : Value) →
         IsPointer (length m) g.taken v → moved_pointer by v ≡ Ok u → Moves g m at by v u }
 {}
 
 /// What a tie says of globals and functions, and of where live objects lie.
 pub fn names()
-    ensures { (g : Setting) (calls : List CallMemory) (m : Memory) (at : Addresses) (bytes : Bytes) →
-        SettingFits g → Bridges g calls m at bytes →
-        Names g (flat_in g calls bytes).spans m at }
+    ensures { (g : Setting) (cs : List CallMemory) (m : Memory) (at : Addresses) (bytes : Bytes) →
+        SettingFits g → Bridges g cs m at bytes →
+        Names g (flat_in g cs bytes).spans m at }
 {}
 
 /// An alloca makes an object at free addresses in its call's own memory, whose bytes may be any.
 pub fn allocates()
-    ensures tied { (g : Setting) (c : CallMemory) (cs : List CallMemory) (m : Memory) (at : Addresses)
-        (bytes : Bytes) → Bridges g (c ∷ cs) m at bytes → (p size : ℕ) → AreFree g m at p size →
+    ensures tied { (g : Setting) (c : CallMemory) (cs : List CallMemory) (m : Memory)
+        (at : Addresses) (bytes : Bytes) → Bridges g (c ∷ cs) m at bytes → (p size : ℕ) →
+        AreFree g m at p size →
         covers p size c.own ≡ true → c.own.writable ≡ true →
         Bridges g (record c { objects = length m ∷ c.objects } ∷ cs) (with_alloca m size)
         (with_address at p) bytes }
@@ -90,14 +91,16 @@ pub fn allocates()
 /// A call begins whose own memory is where no live object is, as where nothing may be used yet;
 /// nothing is known of its bytes.
 pub fn enters()
-    ensures tied { (g : Setting) (cs : List CallMemory) (m : Memory) (at : Addresses) (bytes : Bytes) →
+    ensures tied { (g : Setting) (cs : List CallMemory) (m : Memory) (at : Addresses)
+        (bytes : Bytes) →
         Bridges g cs m at bytes → (own : Span) → ((i d e : ℕ) (x : Object0) → Lives m i x →
         d < x.size → e < own.size → address_of at i + d ≢ own.start + e) →
         Bridges g (record { own = own; objects = [] } ∷ cs) m at
         (forgotten bytes own.start own.size) }
-    ensures off { (g : Setting) (calls : List CallMemory) (m : Memory) (at : Addresses) (bytes : Bytes) →
-        SettingFits g → Bridges g calls m at bytes → (start count : ℕ) →
-        IsOff start count (flat_in g calls bytes).spans → (i d e : ℕ) (x : Object0) → Lives m i x →
+    ensures off { (g : Setting) (cs : List CallMemory) (m : Memory) (at : Addresses)
+        (bytes : Bytes) →
+        SettingFits g → Bridges g cs m at bytes → (start count : ℕ) →
+        IsOff start count (flat_in g cs bytes).spans → (i d e : ℕ) (x : Object0) → Lives m i x →
         d < x.size → e < count → address_of at i + d ≢ start + e }
 {}
 
