@@ -11,6 +11,7 @@ use ir_parse::parse::parse;
 use low_core::moves::Body;
 use rd_io::Files;
 use rd_io::real::DiskFiles;
+use rd_num::bytes::bytes_known;
 use std::alloc::Global;
 use std::env;
 use std::process::ExitCode;
@@ -19,7 +20,10 @@ use std::process::ExitCode;
 const MOST: u64 = 8_388_608;
 
 /// The valid module of a text.
-fn valid_of(alloc: Global, text: &[u8]) -> Option<Valid> {
+fn valid_of(alloc: Global, text: &[u8]) -> Option<Valid>
+    requires { length text.now ≤ 8388608 }
+{
+    bytes_known(text);
     let tokens = lex(alloc, text).ok()?;
     let whole = parse(alloc, &tokens, text.len() as u64).ok()?;
     check(alloc, whole).ok()

@@ -5,8 +5,12 @@ use ir_core::valid::Valid;
 use ir_lex::lex;
 use ir_parse::parse::parse;
 use low_core::moves::Body;
+use rd_num::bytes::bytes_known;
 use std::alloc::Global;
 use std::test::Fail;
+
+/// The most bytes of a text.
+const LIMIT: usize = 8_388_608;
 
 /// Modules, and the chunks of the first function: its blocks, with a chunk for each two blocks that an
 /// edge to phis leads between; and then besides with those of compare trees.
@@ -67,6 +71,10 @@ const CHUNKS: [(&[u8], usize, usize); 9] = [
 
 /// The module of a text, if it is valid.
 fn valid_of(alloc: Global, text: &[u8]) -> Option<Valid> {
+    if text.len() > LIMIT {
+        return None;
+    }
+    bytes_known(text);
     let tokens = lex(alloc, text).ok()?;
     let whole = parse(alloc, &tokens, text.len() as u64).ok()?;
     check(alloc, whole).ok()

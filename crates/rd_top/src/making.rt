@@ -45,7 +45,6 @@ pub fn object_bytes(
 }
 
 /// The bytes of the image of a module's object.
-#[tactic(auto, using(crate::proofs::Made::image_made))]
 pub fn image_bytes(
     alloc: Global,
     module: &Narrow,
@@ -56,8 +55,9 @@ pub fn image_bytes(
     requires { IsOfProgram «module».now }
     ensures { IfOk result (IsImageFor «module».now slot_seed reg_seed layout_seed) }
 {
-    let object = compile(alloc, module, slot_seed, reg_seed)?;
-    laid_bytes(alloc, &object, layout_seed)
+    let checked = compile(alloc, module, slot_seed, reg_seed)?;
+    let bytes = laid_bytes(alloc, &checked, layout_seed)?;
+    Ok(bytes)
 }
 
 /// The bytes of the image of an object.
