@@ -4,7 +4,11 @@
 //! or memory is wanting.
 #![tactic(auto)]
 
+ghost use Rattle.std.specs.Prelude.{◌≤◌, length, IfSome};
+ghost use Rattle.ir_core.specs.Built.{IsBuilt};
+
 use ir_check::check;
+use ir_core::module::Module;
 use ir_core::valid::Valid;
 use ir_lex::lex;
 use ir_parse::parse::parse;
@@ -19,13 +23,26 @@ use std::process::ExitCode;
 /// The most bytes of a text.
 const MOST: u64 = 8_388_608;
 
+/// The module of a text, as the grammar builds it.
+fn module_of(alloc: Global, text: &[u8]) -> Option<Module>
+    requires { length text.now ≤ 8388608 }
+    ensures { IfSome result IsBuilt }
+{
+    bytes_known(text);
+    let Ok(tokens) = lex(alloc, text) else {
+        return None;
+    };
+    match parse(alloc, &tokens, text.len() as u64) {
+        Ok(module) => Some(module),
+        Err(_) => None,
+    }
+}
+
 /// The valid module of a text.
 fn valid_of(alloc: Global, text: &[u8]) -> Option<Valid>
     requires { length text.now ≤ 8388608 }
 {
-    bytes_known(text);
-    let tokens = lex(alloc, text).ok()?;
-    let whole = parse(alloc, &tokens, text.len() as u64).ok()?;
+    let whole = module_of(alloc, text)?;
     check(alloc, whole).ok()
 }
 

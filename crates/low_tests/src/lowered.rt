@@ -1,6 +1,10 @@
 //! Phis and switches taken out of valid modules: how many chunks the first function comes to.
 
+ghost use Rattle.std.specs.Prelude.{◌≤◌, length, IfSome};
+ghost use Rattle.ir_core.specs.Built.{IsBuilt};
+
 use ir_check::check;
+use ir_core::module::Module;
 use ir_core::valid::Valid;
 use ir_lex::lex;
 use ir_parse::parse::parse;
@@ -69,14 +73,27 @@ const CHUNKS: [(&[u8], usize, usize); 9] = [
     (b"define i32 @main() { ret i32 7 }", 1, 1),
 ];
 
+/// The module of a text, as the grammar builds it.
+fn module_of(alloc: Global, text: &[u8]) -> Option<Module>
+    requires { length text.now ≤ 8388608 }
+    ensures { IfSome result IsBuilt }
+{
+    bytes_known(text);
+    let Ok(tokens) = lex(alloc, text) else {
+        return None;
+    };
+    match parse(alloc, &tokens, text.len() as u64) {
+        Ok(module) => Some(module),
+        Err(_) => None,
+    }
+}
+
 /// The module of a text, if it is valid.
 fn valid_of(alloc: Global, text: &[u8]) -> Option<Valid> {
     if text.len() > LIMIT {
         return None;
     }
-    bytes_known(text);
-    let tokens = lex(alloc, text).ok()?;
-    let whole = parse(alloc, &tokens, text.len() as u64).ok()?;
+    let whole = module_of(alloc, text)?;
     check(alloc, whole).ok()
 }
 
