@@ -3,7 +3,7 @@
 use crate::fault::{GuardFault, GuardSpot};
 use crate::guard::{GUARD_LENGTH, next_count};
 use crate::instr_at::{InstrAt, instr_at};
-use crate::places::{is_guarded, is_inside, is_linked, leads_indirect};
+use crate::inside::{is_guarded, is_inside, is_linked, leads_indirect};
 use obj_core::object::{CodeAt, Func, Object, Slot};
 use x86_core::instr::Instr;
 

@@ -8,8 +8,8 @@ mod check;
 pub mod fault;
 mod guard;
 pub mod guarded;
+mod inside;
 mod instr_at;
 pub mod law;
-mod places;
 #[cfg(test)]
 mod tests;
