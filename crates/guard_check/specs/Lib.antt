@@ -1,3 +1,4 @@
 pub mod Guard
 pub mod Form
 pub mod Straight
+pub mod Checking
