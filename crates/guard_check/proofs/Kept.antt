@@ -21,7 +21,7 @@ use Rattle.obj_core.specs.Disassembly.{IsDisassembly, AreDisassemblies, Found, f
 use Rattle.obj_core.specs.SymbolicMachine.{link_before}
 use Rattle.obj_core.specs.WellFormed.{Violation, OfSlot, AreFew, IsWellFormed, or_else, at_least_offset, in_functions, in_slots, is_slots_own, forbidden_in, displacement, is_linked, goes_well, bad_branches, is_end, open_end, agrees_with, is_entry, is_good_slot, bad_links}
 use Rattle.obj_core.proofs.Kept.{one_empty, other_empty}
-use Rattle.obj_core.proofs.Sizes.{code_len}
+use Rattle.obj_core.proofs.Fronts.{code_len}
 use Rattle.obj_core.proofs.Fronts.{front_small}
 use Rattle.obj_core.proofs.Spelling.{length-spelled-append}
 use Rattle.guard_check.specs.Form.{refused_in, unguarded_in, breaking_in, is_good_way, guard_violation}

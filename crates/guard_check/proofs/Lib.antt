@@ -7,3 +7,7 @@ pub mod Kept
 pub mod Places
 pub mod Runs
 pub mod Worked
+mod Counted
+mod Linked
+mod Walked
+mod Ahead

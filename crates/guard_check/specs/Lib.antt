@@ -2,3 +2,4 @@ pub mod Guard
 pub mod Form
 pub mod Straight
 pub mod Checking
+pub mod Counting

@@ -1,0 +1,10 @@
+use Rattle.std.proofs.Common.{sym, subst, None}
+use Rattle.std.specs.List.Sorted.{IsNonDecreasingBy}
+use Rattle.obj_core.specs.Disassembly.{found}
+use Rattle.guard_check.specs.Checking.{disassembly_of}
+use Rattle.guard_check.proofs.Linked.{link_end, links_rise}
+use Rattle.guard_check.proofs.inside.slot_before.Goals as goal
+
+-- the links of a known function rise
+pub slot_of_link-requires : goal.slot_of_link-requires
+slot_of_link-requires c = subst (IsNonDecreasingBy link_end) (sym c.as_slice.ensures) (links_rise None _ _ c.args.function.now.links c.requires.links)
