@@ -70,7 +70,7 @@ at_split slots f bytes off but e k s =
     let row = s.instr ∷ s.after in
     let whole : bytes ≡ spelled s.before ++ spelled row = e ∙ sym k.disassembly.whole ∙ ap spelled s.split ∙ spelled-append s.before row in
     let long : length bytes ≡ length (spelled s.before) + length (spelled row) = ap length whole ∙ length-append (spelled s.before) (spelled row) in
-    let o : off ≡ length (spelled s.before) = s.offset in
+    let o : off ≡ length (spelled s.before) = omega (arith, s.offset) in
     record {
       behind = turned s.before [];
       row = row;
@@ -125,3 +125,16 @@ module _ (slots : List Slot) (f : Func) (bytes : List ℕ) (off at : ℕ) (but :
             sym (keeps_here (guards slots f h.behind at here.instr) (is_but but at) one _ refl) ∙
             sym (ap (λ r. keeps_off (offsets_where (guards slots f) h.behind at r) off but) s.split) ∙ h.told;
       }
+
+pub neither_but : (a b : Bool) → b ≡ true → (a && not b) ≡ false
+neither_but true true h = refl
+neither_but true false h = absurd (cc)
+neither_but false b h = refl
+
+pub neither_guarded : (a b : Bool) → a ≡ false → (a && not b) ≡ false
+neither_guarded true b h = absurd (cc)
+neither_guarded false b h = refl
+
+pub twice_not : (b : Bool) → not (not b) ≡ b
+twice_not true = refl
+twice_not false = refl

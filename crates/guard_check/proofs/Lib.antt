@@ -11,3 +11,4 @@ mod Counted
 mod Linked
 mod Walked
 mod Ahead
+mod Knowing
