@@ -12,3 +12,4 @@ mod Linked
 mod Walked
 mod Ahead
 mod Knowing
+mod Wellness

@@ -64,7 +64,9 @@ fn first_of_checked(o: &Checked) -> Option<GuardFault>
 
 /// The first rule that fails, where it fails first.
 pub fn first_fault(o: &Object) -> Option<GuardFault>
-    requires { ∥ IsWellFormed o.now ∥₁ }
+    requires known { AreKnown (length o.now.slots) o.now.functions }
+    requires few { AreFew o.now }
+    requires ways { list_all (comes_well (disassemblies_of o.now.functions)) o.now.slots ≡ true }
     ensures { as_violation result ≡ guard_violation o.now (disassemblies_of o.now.functions) }
 {
     if let Some(fault) = first_in_functions(CodeRule::Refused, o) {
@@ -87,9 +89,10 @@ fn first_in_functions(rule: CodeRule, o: &Object) -> Option<GuardFault>
         (λ n f instrs. failing rule o.now.slots f instrs) 0 o.now.functions
         (disassemblies_of o.now.functions) }
 {
+    let slots = o.slots.as_slice();
     let functions = o.functions.as_slice();
     for (n, function) in functions.iter().enumerate() {
-        if let Some(offset) = first_in_function(rule, o.slots.as_slice(), function) {
+        if let Some(offset) = first_in_function(rule, slots, function) {
             return Some(GuardFault::Rule {
                 rule: number(rule),
                 spot: GuardSpot::Function(n as u32),
