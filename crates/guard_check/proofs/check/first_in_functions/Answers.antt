@@ -1,4 +1,4 @@
-use Rattle.std.proofs.Common.{◌≡◌, ◌+◌, ℕ, length, drop, refl, ap, sym, ◌∙◌, subst, arith, List, Option, Some}
+use Rattle.std.proofs.Common.{◌≡◌, ◌≤◌, ◌+◌, ℕ, length, drop, refl, ap, sym, ◌∙◌, subst, arith, List, Option, Some}
 use Rattle.std.specs.Prelude.{slice_get}
 use Rattle.x86_core.specs.declared.instr.Instr.{Instr}
 use Rattle.obj_core.specs.declared.object.Func.{Func}
@@ -46,3 +46,15 @@ loop-n-preserved c =
     let step = first_more rule c.args.rule slots n fs f (omega arith) c.index-functions-n.is in
     let first = sym c.in_default.is ∙ c.first_in_function.ensures.first ∙ ap (λ (ss : List Slot). first_of (failing c.args.rule ss f (disassembly_of f.bytes))) c.as_slice-slots.ensures in
     ap (λ (o : Option ℕ). or_else (at_function rule n o) rest) first ∙ sym step ∙ c.loop-n.invariant
+
+-- an offset lies inside the function's bytes
+pub overflow_cast-result-in-Some : goal.overflow_cast-result-in-Some
+overflow_cast-result-in-Some c =
+    let fs = c.as_slice-functions.result.now in
+    let f = c.index-functions-n.result in
+    let got : slice_get fs c.loop-n.n ≡ Some f = get_some fs c.loop-n.n f (omega arith) c.index-functions-n.is in
+    let known = subst (λ (gs : List Func). AreKnown (length c.args.o.now.slots) gs) (sym c.as_slice-functions.ensures) c.requires.known in
+    let one : IsKnown (length c.args.o.now.slots) f = known_at (length c.args.o.now.slots) fs c.loop-n.n f known got in
+    let few : length f.bytes ≤ 67108864 = one.few in
+    let inside : c.in-Some.offset ≤ length f.bytes = c.first_in_function.ensures.few c.in-Some.offset c.in-Some.is in
+    omega (arith, few, inside)
