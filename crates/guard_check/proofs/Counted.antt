@@ -74,15 +74,15 @@ module _ (slots c k : ℕ) (i : Instr) (low : k < 10) where
       let both = and_parts _ _ h in
       elim (or_cases (nat_eq k 0) (nat_eq c k) both.1) [
         | inl z ↦
-          let none : k ≡ 0 = eqb-true k 0 z in
-          let s : is_same (nth slots 0) i ≡ true = ap (λ n. is_same (nth slots n) i) (sym none) ∙ both.0 in
-          let one : chosen t u ≡ 1 = at_first t u e f s in
-          eq-eqb (chosen t u) (suc k) (omega (arith, none, one))
+            let none : k ≡ 0 = eqb-true k 0 z in
+            let s : is_same (nth slots 0) i ≡ true = ap (λ n. is_same (nth slots n) i) (sym none) ∙ both.0 in
+            let one : chosen t u ≡ 1 = at_first t u e f s in
+            eq-eqb (chosen t u) (suc k) (omega (arith, none, one))
         | inr z ↦
-          let same : c ≡ k = eqb-true c k z in
-          let s : is_same (nth slots c) i ≡ true = ap (λ n. is_same (nth slots n) i) same ∙ both.0 in
-          let on : t ≡ true = counts_on t e (omega (arith, same, low)) s in
-          eq-eqb (chosen t u) (suc k) (ap (λ b. chosen b u) on ∙ (omega (arith, same)))
+            let same : c ≡ k = eqb-true c k z in
+            let s : is_same (nth slots c) i ≡ true = ap (λ n. is_same (nth slots n) i) same ∙ both.0 in
+            let on : t ≡ true = counts_on t e (omega (arith, same, low)) s in
+            eq-eqb (chosen t u) (suc k) (ap (λ b. chosen b u) on ∙ (omega (arith, same)))
       ]
 
   came_from : (t u : Bool) → (nat_lt c 10 && is_same (nth slots c) i) ≡ t → is_same (nth slots 0) i ≡ u → nat_eq (chosen t u) (suc k) ≡ true → (is_same (nth slots k) i && (nat_eq k 0 || nat_eq c k)) ≡ true

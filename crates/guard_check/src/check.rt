@@ -12,10 +12,10 @@ ghost use Rattle.std.specs.Prelude.{◌+◌, Some};
 ghost use Rattle.x86_core.specs.Arithmetic.{moved};
 
 use crate::fault::{GuardFault, GuardSpot};
-use crate::guarded::Guarded;
 use crate::guard::{GUARD_LENGTH, next_count};
-use crate::instr_at::{InstrAt, instr_at};
+use crate::guarded::Guarded;
 use crate::inside::{is_guarded, is_inside, is_linked, leads_indirect};
+use crate::instr_at::{InstrAt, instr_at};
 use obj_core::checked::Checked;
 use obj_core::object::{CodeAt, Func, Object, Slot};
 use x86_core::instr::Instr;
@@ -232,9 +232,7 @@ fn is_good_back(o: &Object, back: CodeAt) -> bool
     ensures { result ≡ is_good_back o.now (disassemblies_of o.now.functions) back }
 {
     match o.functions.get(back.function as usize) {
-        Some(function) => {
-            !is_inside(o.slots.as_slice(), function, back.offset as usize, None)
-        }
+        Some(function) => { !is_inside(o.slots.as_slice(), function, back.offset as usize, None) }
         None => true,
     }
 }

@@ -26,11 +26,11 @@ fn slot_of_link(links: &[Link], end: usize) -> Option<u32>
     requires { IsNonDecreasingBy (λ (l : Link). l.at + 4) links.now }
     ensures { result ≡ link_before links.now end }
 {
-    let k = links.partition_point(|link: &Link| -> bool
+    let k = links.partition_point(
+        |link: &Link| -> bool
             ensures { result ≡ nat_lt (link.now.at + 4) end }
-        {
-            (link.at as usize) + 4 < end
-        });
+        { (link.at as usize) + 4 < end },
+    );
     match links.get(k) {
         Some(link) => {
             if link.at as usize + 4 == end {
