@@ -1,7 +1,5 @@
 -- Whether an offset lies inside a guard, told by the instructions from there on.
-use Rattle.std.proofs.Common.{◌≡◌, ℕ, zero, suc, ◌+◌, ◌<◌, ◌≤◌, Bool, true, false, not, ◌||◌, ◌&&◌, if◌then◌else◌, List, [], ◌∷◌, ◌++◌, length, drop, Option, Some, None, refl, sym, ◌∙◌, ap, subst, arith, length-append}
-use Rattle.std.specs.Prelude.{nat_lt, nat_le}
-use Rattle.std.specs.List.{list_all}
+use Rattle.std.proofs.Common.{◌≡◌, ℕ, ◌+◌, ◌<◌, ◌≤◌, Bool, true, false, not, ◌||◌, ◌&&◌, if◌then◌else◌, List, [], ◌∷◌, ◌++◌, length, drop, Option, Some, None, refl, sym, ◌∙◌, ap, subst, arith, length-append}
 use Rattle.std.proofs.lemmas.Bool.Decides.{nat_tests}
 use Rattle.std.proofs.Math.Seq.{drop-append_seam}
 use Rattle.x86_core.specs.declared.instr.Instr.{Instr}
@@ -18,7 +16,7 @@ use Rattle.guard_check.specs.Guard.{is_inside, turned}
 use Rattle.guard_check.specs.Form.{is_guarded, guarded_places, offsets_where}
 use Rattle.guard_check.specs.Checking.{IsKnown, disassembly_of, placed, is_but, keeps_off}
 use Rattle.guard_check.proofs.Rows.{SplitsAt, start_splits}
-use Rattle.guard_check.proofs.Walked.{Rest, Standing, stands, none_stands}
+use Rattle.guard_check.proofs.Walked.{Rest, stands, none_stands}
 
 -- the test of a guarded place
 abbrev pub guards : List Slot → Func → List Instr → ℕ → Instr → Bool

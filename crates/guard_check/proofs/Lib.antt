@@ -13,3 +13,4 @@ mod Walked
 mod Ahead
 mod Knowing
 mod Wellness
+mod Steps

@@ -1,13 +1,10 @@
 -- Walks over the instructions of a known function.
-use Rattle.std.proofs.Common.{◌≡◌, ℕ, zero, suc, ◌+◌, ◌<◌, ◌≤◌, Bool, true, false, not, ◌||◌, ◌&&◌, if◌then◌else◌, List, [], ◌∷◌, ◌++◌, length, drop, Option, Some, None, refl, sym, ◌∙◌, ap, subst, inl, inr, arith, length-append, length-drop}
-use Rattle.std.specs.Prelude.{nat_eq, nat_lt, nat_le}
-use Rattle.std.specs.List.{list_all}
+use Rattle.std.proofs.Common.{◌≡◌, ℕ, ◌+◌, ◌<◌, ◌≤◌, Bool, true, false, ◌||◌, if◌then◌else◌, List, [], ◌∷◌, ◌++◌, length, drop, Some, None, refl, sym, ◌∙◌, ap, subst, arith, length-append, length-drop}
+use Rattle.std.specs.Prelude.{nat_eq}
 use Rattle.std.proofs.lemmas.List.{drop-drop}
 use Rattle.std.proofs.Math.Seq.{drop-append_seam}
-use Rattle.std.proofs.lemmas.Bool.{lt-ltb, ltb-true, or_cases}
-use Rattle.std.proofs.lemmas.Bool.Decides.{nat_tests}
 use Rattle.x86_core.specs.declared.instr.Instr.{Instr}
-use Rattle.x86_core.specs.declared.instr.Decoded.TheVariants.{One, Short, Unknown}
+use Rattle.x86_core.specs.declared.instr.Decoded.TheVariants.{One}
 use Rattle.x86_core.specs.Encoding.{encoding, IsInstr}
 use Rattle.x86_core.specs.Decoding.{decode}
 use Rattle.x86_core.proofs.Back.{decode_back}
@@ -15,18 +12,16 @@ use Rattle.x86_core.proofs.Laws.{some_bytes}
 use Rattle.obj_core.specs.declared.object.Func.{Func}
 use Rattle.obj_core.specs.declared.object.Slot.{Slot}
 use Rattle.obj_core.specs.Object.{Each}
-use Rattle.obj_core.specs.Disassembly.{IsDisassembly, Found, found, found_from, starts_at, spelled, size_of}
+use Rattle.obj_core.specs.Disassembly.{found, found_from, spelled, size_of}
 use Rattle.obj_core.specs.WellFormed.{bad_branches, is_linked, goes_well, displacement}
 use Rattle.obj_core.proofs.Kept.{other_empty}
-use Rattle.obj_core.proofs.Spelling.{spelled-append, each_right}
 use Rattle.guard_check.specs.declared.instr_at.InstrAt.{InstrAt}
 use Rattle.guard_check.specs.declared.check.CodeRule.{CodeRule}
-use Rattle.guard_check.specs.Guard.{is_inside, turned, follows_guard}
-use Rattle.guard_check.specs.Form.{is_guarded, guarded_places, offsets_where, offsets_in}
-use Rattle.guard_check.specs.Checking.{IsKnown, disassembly_of, placed, fails_at, failing, first_of, is_but, keeps_off}
+use Rattle.guard_check.specs.Guard.{follows_guard}
+use Rattle.guard_check.specs.Form.{offsets_where}
+use Rattle.guard_check.specs.Checking.{IsKnown, disassembly_of, placed, fails_at, failing, first_of}
 use Rattle.guard_check.specs.Counting.{next_of, count_of}
 use Rattle.guard_check.proofs.Counted.{count_few}
-use Rattle.guard_check.proofs.Rows.{SplitsAt, start_splits}
 
 -- the instructions from an offset on
 pub record Rest (bytes : List ℕ) (at : ℕ) (row : List Instr) : Type 0 where

@@ -1,5 +1,5 @@
 -- What the checker's parts are told and answer.
-use Rattle.std.specs.Prelude.{◌≡◌, ℕ, zero, suc, ◌+◌, ◌<◌, ◌≤◌, Bool, true, false, not, ◌&&◌, ◌||◌, nat_eq, if◌then◌else◌, List, [], ◌∷◌, length, drop, map, Option, Some, None}
+use Rattle.std.specs.Prelude.{◌≡◌, ℕ, zero, suc, ◌+◌, ◌≤◌, Bool, true, false, not, ◌&&◌, ◌||◌, List, [], ◌∷◌, length, drop, map, Option, Some, None}
 use Rattle.std.specs.List.{list_all}
 use Rattle.x86_core.specs.declared.instr.Instr.{Instr}
 use Rattle.x86_core.specs.declared.instr.Decoded.{Decoded}
@@ -8,13 +8,13 @@ use Rattle.x86_core.specs.Decoding.{decode}
 use Rattle.obj_core.specs.declared.object.Object.{Object}
 use Rattle.obj_core.specs.declared.object.Func.{Func}
 use Rattle.obj_core.specs.declared.object.Slot.{Slot}
-use Rattle.obj_core.specs.Disassembly.{AreDisassemblies, IsDisassembly, found, size_of}
-use Rattle.obj_core.specs.WellFormed.{Spot, Function, OfSlot, Violation, most_code, most_slots, is_start, bad_links, bad_branches, is_linked, goes_well, displacement}
+use Rattle.obj_core.specs.Disassembly.{IsDisassembly, found, size_of}
+use Rattle.obj_core.specs.WellFormed.{Spot, Function, OfSlot, Violation, most_code, most_slots, is_start, bad_links, bad_branches}
 use Rattle.guard_check.specs.declared.instr_at.InstrAt.{InstrAt}
 use Rattle.guard_check.specs.declared.check.CodeRule.{CodeRule}
 use Rattle.guard_check.specs.declared.fault.GuardSpot.{GuardSpot}
 use Rattle.guard_check.specs.declared.fault.GuardFault.{GuardFault}
-use Rattle.guard_check.specs.Guard.{guard, is_same, is_inside, is_of_guard, follows_guard}
+use Rattle.guard_check.specs.Guard.{is_inside, is_of_guard, follows_guard}
 use Rattle.guard_check.specs.Form.{is_guarded, is_refused, guarded_places, breaks_in, offsets_in, HasGuardForm, IsFirstUnguarded}
 
 -- a decoder's answer at an offset

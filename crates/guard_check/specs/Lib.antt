@@ -3,3 +3,4 @@ pub mod Form
 pub mod Straight
 pub mod Checking
 pub mod Counting
+pub mod Steps

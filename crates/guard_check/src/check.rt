@@ -1,15 +1,20 @@
-//! The checker: takes exactly the guarded objects, and hands any other one back with the first rule that fails.
+//! The checker: takes exactly the guarded objects, and hands any other one back with the first rule
+//! that fails.
 
-ghost use Rattle.std.specs.Prelude.{◌≡◌, ◌≤◌, ℕ, true, false, not, ◌||◌, nat_eq, length, List as Row, IfOk, IfErr};
-ghost use Rattle.x86_core.specs.declared.instr.Instr.{Instr as Instruction};
-ghost use Rattle.obj_core.specs.Disassembly.{found, size_of, starts_at};
-ghost use Rattle.obj_core.specs.WellFormed.{AreFew, IsWellFormed, in_functions, in_slots, is_linked, is_start, goes_well, displacement};
-ghost use Rattle.guard_check.specs.Guard.{follows_guard};
-ghost use Rattle.guard_check.specs.Form.{is_refused, is_guarded, guarded_places, breaks_in, is_good_back, is_good_way, guard_violation, HasGuardForm, IsFirstUnguarded};
-ghost use Rattle.guard_check.specs.Checking.{IsKnown, AreKnown, disassembly_of, disassemblies_of, rule_number, fails_at, failing, first_of, comes_well, as_violation, violation_of, Judges};
+ghost use Rattle.std.specs.Prelude.{◌≡◌, ◌≤◌, ◌+◌, ℕ, true, ◌||◌, nat_eq, length, List as Row, Some};
+ghost use Rattle.std.specs.Prelude.{IfOk, IfErr};
 ghost use Rattle.std.specs.List.{list_all};
-ghost use Rattle.std.specs.Prelude.{◌+◌, Some};
+ghost use Rattle.x86_core.specs.declared.instr.Instr.{Instr as Instruction};
 ghost use Rattle.x86_core.specs.Arithmetic.{moved};
+ghost use Rattle.obj_core.specs.Disassembly.{found, size_of};
+ghost use Rattle.obj_core.specs.WellFormed.{AreFew, in_functions, in_slots, is_linked, is_start};
+ghost use Rattle.obj_core.specs.WellFormed.{goes_well, displacement};
+ghost use Rattle.guard_check.specs.Guard.{follows_guard};
+ghost use Rattle.guard_check.specs.Form.{is_refused, guarded_places, breaks_in, guard_violation};
+ghost use Rattle.guard_check.specs.Form.{is_good_back, is_good_way, HasGuardForm, IsFirstUnguarded};
+ghost use Rattle.guard_check.specs.Checking.{IsKnown, AreKnown, Judges, disassembly_of};
+ghost use Rattle.guard_check.specs.Checking.{disassemblies_of, rule_number, fails_at, failing, first_of};
+ghost use Rattle.guard_check.specs.Checking.{comes_well, as_violation, violation_of};
 
 use crate::fault::{GuardFault, GuardSpot};
 use crate::guard::{GUARD_LENGTH, next_count};
@@ -63,7 +68,7 @@ fn first_of_checked(o: &Checked) -> Option<GuardFault>
 }
 
 /// The first rule that fails, where it fails first.
-pub fn first_fault(o: &Object) -> Option<GuardFault>
+fn first_fault(o: &Object) -> Option<GuardFault>
     requires known { AreKnown (length o.now.slots) o.now.functions }
     requires few { AreFew o.now }
     requires ways { list_all (comes_well (disassemblies_of o.now.functions)) o.now.slots ≡ true }

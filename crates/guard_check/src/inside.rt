@@ -4,13 +4,12 @@
 //! before a place lies within 53 bytes, so whether an offset is inside one is told by the instructions
 //! of the 53 bytes behind it.
 
-ghost use Rattle.std.specs.Prelude.{◌≡◌, ◌≤◌, ℕ, true, not, nat_lt, ◌+◌, length, slice_get, Option as Maybe};
+ghost use Rattle.std.specs.Prelude.{◌≡◌, ◌+◌, true, not, nat_lt, length, slice_get};
 ghost use Rattle.std.specs.List.Sorted.{IsNonDecreasingBy};
 ghost use Rattle.obj_core.specs.declared.object.Link.{Link};
 ghost use Rattle.obj_core.specs.WellFormed.{is_linked};
 ghost use Rattle.obj_core.specs.Disassembly.{found, starts_at};
 ghost use Rattle.obj_core.specs.SymbolicMachine.{link_before};
-ghost use Rattle.guard_check.specs.Guard.{is_of_guard};
 ghost use Rattle.guard_check.specs.Form.{is_indirect, leads_indirect, is_guarded, guarded_places};
 ghost use Rattle.guard_check.specs.Checking.{IsKnown, disassembly_of, is_but, keeps_off};
 

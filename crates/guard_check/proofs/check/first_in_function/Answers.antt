@@ -1,6 +1,5 @@
-use Rattle.std.proofs.Common.{arith, ◌≡◌, ◌+◌, ℕ, List, length, refl, sym, ◌∙◌, ap}
+use Rattle.std.proofs.Common.{arith, ◌+◌, ℕ, length, sym, ◌∙◌, ap}
 use Rattle.std.specs.Prelude.{nat_eq}
-use Rattle.x86_core.specs.declared.instr.Instr.{Instr}
 use Rattle.obj_core.specs.Disassembly.{size_of}
 use Rattle.guard_check.proofs.Counted.{follows_by_count}
 use Rattle.guard_check.proofs.Walked.{stands, walk_all, walk_more, walk_fails, walk_none, goes_here, few_counted}

@@ -1,4 +1,4 @@
-use Rattle.std.proofs.Common.{◌≡◌, subst, sym}
+use Rattle.std.proofs.Common.{subst}
 use Rattle.obj_core.specs.declared.object.Object.{Object}
 use Rattle.guard_check.specs.Checking.{Judges}
 use Rattle.guard_check.proofs.Wellness.{are_known, are_few, all_come, judged}

@@ -1,10 +1,10 @@
-use Rattle.std.proofs.Common.{rules, arith, ◌≡◌, ◌∙◌, sym, ap, subst, ℕ, List, Option, Some, length, not, Bool, true}
+use Rattle.std.proofs.Common.{rules, ◌≡◌, ◌∙◌, sym, ap, subst, List, Option, Some, length, not}
 use Rattle.std.specs.Prelude.{slice_get}
 use Rattle.x86_core.specs.declared.instr.Instr.{Instr}
 use Rattle.obj_core.specs.declared.object.Func.{Func}
 use Rattle.obj_core.specs.declared.object.Slot.{Slot}
-use Rattle.guard_check.specs.Form.{comes_outside, guarded_places}
-use Rattle.guard_check.specs.Checking.{IsKnown, disassembly_of, keeps_off}
+use Rattle.guard_check.specs.Form.{comes_outside}
+use Rattle.guard_check.specs.Checking.{IsKnown, disassembly_of}
 use Rattle.guard_check.proofs.Knowing.{known_at, start_at, code_at}
 use Rattle.guard_check.proofs.Ahead.{twice_not}
 use Rattle.guard_check.proofs.check.is_good_back.Goals as goal

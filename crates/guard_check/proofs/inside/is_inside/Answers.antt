@@ -1,4 +1,4 @@
-use Rattle.std.proofs.Common.{rules, arith, ◌≡◌, ◌≤◌, ◌<◌, ◌+◌, Bool, true, false, not, ◌&&◌, refl, sym, ◌∙◌, ap}
+use Rattle.std.proofs.Common.{arith, ◌≡◌, true, false, sym, ◌∙◌}
 use Rattle.guard_check.specs.Form.{is_guarded}
 use Rattle.guard_check.specs.Checking.{is_but}
 use Rattle.guard_check.proofs.Walked.{stands}

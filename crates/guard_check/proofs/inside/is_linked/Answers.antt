@@ -1,4 +1,4 @@
-use Rattle.std.proofs.Common.{◌≡◌, ℕ, Bool, Option, Some, None, refl, ap, ◌∙◌}
+use Rattle.std.proofs.Common.{◌≡◌, ℕ, Option, Some, None, refl, ap, ◌∙◌}
 use Rattle.std.specs.Option.{is_some as has_some}
 use Rattle.guard_check.proofs.Linked.{is_some, linked_is}
 use Rattle.guard_check.proofs.inside.is_linked.Goals as goal

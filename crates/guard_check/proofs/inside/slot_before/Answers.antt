@@ -1,7 +1,5 @@
 use Rattle.std.proofs.Common.{sym, subst, None}
 use Rattle.std.specs.List.Sorted.{IsNonDecreasingBy}
-use Rattle.obj_core.specs.Disassembly.{found}
-use Rattle.guard_check.specs.Checking.{disassembly_of}
 use Rattle.guard_check.proofs.Linked.{link_end, links_rise}
 use Rattle.guard_check.proofs.inside.slot_before.Goals as goal
 

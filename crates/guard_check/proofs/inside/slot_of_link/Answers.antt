@@ -1,8 +1,7 @@
-use Rattle.std.proofs.Common.{rules, ℕ, get_or, arith, ◌≡◌, sym, ◌∙◌, ap, Option, Some, None, if◌then◌else◌, Bool, true, false}
+use Rattle.std.proofs.Common.{rules, get_or, arith, ◌≡◌, sym, ◌∙◌, ap, Option, Some, None, if◌then◌else◌, Bool, true, false}
 use Rattle.std.specs.Prelude.{nat_lt, nat_eq, ◌+◌, slice_get}
 use Rattle.std.proofs.lemmas.List.Sorted.{IsPartitionPoint-from_clause, IsPartitionedBy-ltb}
 use Rattle.obj_core.specs.declared.object.Link.{Link}
-use Rattle.obj_core.specs.SymbolicMachine.{link_before}
 use Rattle.std.proofs.lemmas.Bool.Decides.{nat_tests}
 use Rattle.obj_core.proofs.Pieces.{get_some, get_none}
 use Rattle.std.proofs.lemmas.Bool.{ltb-true, ltb-false}
