@@ -7,3 +7,10 @@ pub mod Kept
 pub mod Places
 pub mod Runs
 pub mod Worked
+mod Counted
+mod Linked
+mod Walked
+mod Ahead
+mod Knowing
+mod Wellness
+mod Steps

@@ -97,7 +97,7 @@ compared (i ∷ p) (j ∷ b) x y e =
     more (Shorter s f g) = let same : i ≡ j = cc in Shorter s (ap (λ k. k ∷ b) (sym same) ∙ ap (λ r. i ∷ r) f) g
 
 -- the same numbers
-same_numbers : (xs ys : List ℕ) → same_bytes xs ys ≡ true → xs ≡ ys
+pub same_numbers : (xs ys : List ℕ) → same_bytes xs ys ≡ true → xs ≡ ys
 same_numbers [] [] h = refl
 same_numbers [] (y ∷ ys) h = absurd (cc)
 same_numbers (x ∷ xs) [] h = absurd (cc)

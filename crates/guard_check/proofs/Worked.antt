@@ -1,16 +1,13 @@
 -- Small objects: a return, a guarded return, and a jump past a guard.
-use Rattle.std.proofs.Common.{◌≡◌, ℕ, List, [], ◌∷◌, ◌++◌, None, Some, refl, arith}
+use Rattle.std.proofs.Common.{◌≡◌, ℕ, List, [], ◌∷◌, ◌++◌, refl, arith}
 use Rattle.std.specs.Prelude.{pos}
 use Rattle.x86_core.specs.declared.reg.Reg.TheVariants.{Rax, R11}
-use Rattle.x86_core.specs.declared.instr.Instr.{Instr}
 use Rattle.x86_core.specs.declared.instr.Instr.TheVariants.{MovImm32, Push, Pop, Ret, Jmp, JmpR11}
 use Rattle.x86_core.specs.Encoding.{IsInstr}
 use Rattle.obj_core.specs.declared.object.Object.{Object}
-use Rattle.obj_core.specs.declared.object.Func.{Func}
 use Rattle.obj_core.specs.declared.object.FuncKind.{FuncKind}
 use Rattle.obj_core.specs.declared.object.Slot.{Slot}
-use Rattle.obj_core.specs.Object.{Each}
-use Rattle.obj_core.specs.Disassembly.{spelled, IsDisassembly}
+use Rattle.obj_core.specs.Disassembly.{spelled}
 use Rattle.obj_core.specs.WellFormed.{Function}
 use Rattle.obj_core.proofs.Spelling.{each_append}
 use Rattle.guard_check.specs.Guard.{guard}

@@ -4,5 +4,10 @@
 //! may not lead into it; `law` says what follows for every run, under writes by somebody who looks on.
 #![tactic(auto)]
 
+pub mod check;
+pub mod fault;
+mod guard;
 pub mod guarded;
+mod inside;
+mod instr_at;
 pub mod law;
