@@ -2,6 +2,7 @@
 //!
 //! `specs/Guard.antt` is the test, ten instructions; `specs/Form.antt` says where it must stand and what
 //! may not lead into it; `law` says what follows for every run, under writes by somebody who looks on.
+//! `check` takes exactly the guarded objects.
 #![tactic(auto)]
 
 pub mod check;
