@@ -22,13 +22,13 @@ def functions_of(path):
     count = struct.unpack_from("<I", data, 24)[0]
     at, functions = 40, []
     for _ in range(count):
-        _, length, links = struct.unpack_from("<III", data, at)
-        code = list(data[at + 12 : at + 12 + length])
-        at += 12 + length
+        _, length, links, cuts = struct.unpack_from("<IIII", data, at)
+        code = list(data[at + 16 : at + 16 + length])
+        at += 16 + length
         for link in range(links):
             place = struct.unpack_from("<I", data, at + 8 * link)[0]
             code[place : place + 4] = [None] * 4
-        at += 8 * links
+        at += 8 * links + 4 * cuts
         functions.append(code)
     return functions
 
