@@ -9,12 +9,12 @@ use Rattle.x86_core.proofs.Laws.{some_bytes}
 use Rattle.obj_core.specs.declared.object.Func.{Func}
 use Rattle.obj_core.specs.declared.object.Slot.{Slot}
 use Rattle.obj_core.specs.Object.{Each}
-use Rattle.obj_core.specs.Disassembly.{found, starts_at, spelled, size_of}
+use Rattle.obj_core.specs.Disassembly.{found, starts_at, spelled, size_of, disassembly_of}
 use Rattle.obj_core.proofs.Spelling.{spelled-append, each_right}
 use Rattle.guard_check.specs.declared.instr_at.InstrAt.{InstrAt}
 use Rattle.guard_check.specs.Guard.{is_inside, turned}
 use Rattle.guard_check.specs.Form.{is_guarded, guarded_places, offsets_where}
-use Rattle.guard_check.specs.Checking.{IsKnown, disassembly_of, placed, is_but, keeps_off}
+use Rattle.guard_check.specs.Checking.{IsKnown, placed, is_but, keeps_off}
 use Rattle.guard_check.proofs.Rows.{SplitsAt, start_splits}
 use Rattle.guard_check.proofs.Walked.{Rest, stands, none_stands}
 

@@ -5,13 +5,13 @@ use Rattle.std.proofs.lemmas.List.{drop_more}
 use Rattle.x86_core.specs.declared.instr.Instr.{Instr}
 use Rattle.obj_core.specs.declared.object.Func.{Func}
 use Rattle.obj_core.specs.declared.object.Slot.{Slot}
-use Rattle.obj_core.specs.Disassembly.{found, starts_at, size_of}
+use Rattle.obj_core.specs.Disassembly.{found, starts_at, size_of, disassembly_of}
 use Rattle.obj_core.specs.WellFormed.{Violation, Function, is_start, or_else, at_least_offset, least_from, in_functions}
 use Rattle.std.specs.List.{list_all}
 use Rattle.std.proofs.lemmas.Bool.{and_parts}
 use Rattle.guard_check.specs.declared.check.CodeRule.{CodeRule}
 use Rattle.guard_check.specs.Form.{offsets_where}
-use Rattle.guard_check.specs.Checking.{IsKnown, AreKnown, disassembly_of, disassemblies_of, fails_at, failing, first_of}
+use Rattle.guard_check.specs.Checking.{IsKnown, AreKnown, disassemblies_of, fails_at, failing, first_of}
 
 pub known_at : (slots : ℕ) (fs : List Func) (n : ℕ) (f : Func) → AreKnown slots fs → slice_get fs n ≡ Some f → IsKnown slots f
 known_at slots [] n f h e = absurd (cc)

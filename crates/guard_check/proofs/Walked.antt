@@ -12,14 +12,14 @@ use Rattle.x86_core.proofs.Laws.{some_bytes}
 use Rattle.obj_core.specs.declared.object.Func.{Func}
 use Rattle.obj_core.specs.declared.object.Slot.{Slot}
 use Rattle.obj_core.specs.Object.{Each}
-use Rattle.obj_core.specs.Disassembly.{found, found_from, spelled, size_of}
+use Rattle.obj_core.specs.Disassembly.{found, found_from, spelled, size_of, disassembly_of}
 use Rattle.obj_core.specs.WellFormed.{bad_branches, is_linked, goes_well, displacement}
 use Rattle.obj_core.proofs.Kept.{other_empty}
 use Rattle.guard_check.specs.declared.instr_at.InstrAt.{InstrAt}
 use Rattle.guard_check.specs.declared.check.CodeRule.{CodeRule}
 use Rattle.guard_check.specs.Guard.{follows_guard}
 use Rattle.guard_check.specs.Form.{offsets_where}
-use Rattle.guard_check.specs.Checking.{IsKnown, disassembly_of, placed, fails_at, failing, first_of}
+use Rattle.guard_check.specs.Checking.{IsKnown, placed, fails_at, failing, first_of}
 use Rattle.guard_check.specs.Counting.{next_of, count_of}
 use Rattle.guard_check.proofs.Counted.{count_few}
 

@@ -18,13 +18,13 @@ use Rattle.obj_core.specs.declared.object.Object.{Object}
 use Rattle.obj_core.specs.declared.object.Func.{Func}
 use Rattle.obj_core.specs.declared.object.Slot.{Slot}
 use Rattle.obj_core.specs.Object.{Each}
-use Rattle.obj_core.specs.Disassembly.{AreDisassemblies, IsDisassembly, found, spelled}
+use Rattle.obj_core.specs.Disassembly.{AreDisassemblies, IsDisassembly, found, spelled, and_behind, first_instrs, disassembly_of}
 use Rattle.obj_core.specs.WellFormed.{IsWellFormed, AreFew, is_good_slot, bad_links, bad_branches}
 use Rattle.obj_core.proofs.Kept.{function_keeps, slot_keeps}
 use Rattle.obj_core.proofs.Inside.{disassembly_at}
 use Rattle.guard_check.specs.declared.fault.GuardFault.{GuardFault}
 use Rattle.guard_check.specs.Form.{guard_violation}
-use Rattle.guard_check.specs.Checking.{IsKnown, AreKnown, and_behind, first_instrs, disassembly_of, disassemblies_of, comes_well, as_violation, Judges}
+use Rattle.guard_check.specs.Checking.{IsKnown, AreKnown, disassemblies_of, comes_well, as_violation, Judges}
 use Rattle.guard_check.proofs.Kept.{function_short}
 
 -- the instructions that bytes begin with are those of their disassembly

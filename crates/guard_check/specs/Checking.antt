@@ -1,14 +1,13 @@
 -- What the checker's parts are told and answer.
-use Rattle.std.specs.Prelude.{◌≡◌, ℕ, zero, suc, ◌+◌, ◌≤◌, Bool, true, false, not, ◌&&◌, ◌||◌, List, [], ◌∷◌, length, drop, map, Option, Some, None}
+use Rattle.std.specs.Prelude.{◌≡◌, ℕ, zero, suc, ◌+◌, ◌≤◌, Bool, true, false, not, ◌&&◌, ◌||◌, List, [], ◌∷◌, length, map, Option, Some, None}
 use Rattle.std.specs.List.{list_all}
 use Rattle.x86_core.specs.declared.instr.Instr.{Instr}
 use Rattle.x86_core.specs.declared.instr.Decoded.{Decoded}
 use Rattle.x86_core.specs.declared.instr.Decoded.TheVariants.{One, Short, Unknown}
-use Rattle.x86_core.specs.Decoding.{decode}
 use Rattle.obj_core.specs.declared.object.Object.{Object}
 use Rattle.obj_core.specs.declared.object.Func.{Func}
 use Rattle.obj_core.specs.declared.object.Slot.{Slot}
-use Rattle.obj_core.specs.Disassembly.{IsDisassembly, found, size_of}
+use Rattle.obj_core.specs.Disassembly.{IsDisassembly, found, size_of, disassembly_of}
 use Rattle.obj_core.specs.WellFormed.{Spot, Function, OfSlot, Violation, most_code, most_slots, is_start, bad_links, bad_branches}
 use Rattle.guard_check.specs.declared.instr_at.InstrAt.{InstrAt}
 use Rattle.guard_check.specs.declared.check.CodeRule.{CodeRule}
@@ -22,21 +21,6 @@ abbrev pub placed : ℕ → Decoded → Option InstrAt
 placed at (One i size) = Some (record { at = at; end = at + size; instr = i })
 placed at Short = None
 placed at Unknown = None
-
--- an instruction, and those that its size leads to
-abbrev pub and_behind : (ℕ → List Instr) → Decoded → List Instr
-and_behind behind (One i size) = i ∷ behind size
-and_behind behind Short = []
-and_behind behind Unknown = []
-
--- the instructions that bytes begin with, at most so many
-abbrev pub first_instrs : ℕ → List ℕ → List Instr
-first_instrs zero bs = []
-first_instrs (suc n) bs = and_behind (λ size. first_instrs n (drop size bs)) (decode bs)
-
--- the instructions that bytes begin with; where bytes have a disassembly, it is this one
-unfoldable pub disassembly_of : List ℕ → List Instr
-disassembly_of bs = first_instrs (length bs) bs
 
 -- the instructions of each function
 abbrev pub disassemblies_of : List Func → List (List Instr)

@@ -6,13 +6,13 @@ ghost use Rattle.std.specs.Prelude.{IfOk, IfErr};
 ghost use Rattle.std.specs.List.{list_all};
 ghost use Rattle.x86_core.specs.declared.instr.Instr.{Instr as Instruction};
 ghost use Rattle.x86_core.specs.Arithmetic.{moved};
-ghost use Rattle.obj_core.specs.Disassembly.{found, size_of};
+ghost use Rattle.obj_core.specs.Disassembly.{found, size_of, disassembly_of};
 ghost use Rattle.obj_core.specs.WellFormed.{AreFew, in_functions, in_slots, is_linked, is_start};
 ghost use Rattle.obj_core.specs.WellFormed.{goes_well, displacement};
 ghost use Rattle.guard_check.specs.Guard.{follows_guard};
 ghost use Rattle.guard_check.specs.Form.{is_refused, guarded_places, breaks_in, guard_violation};
 ghost use Rattle.guard_check.specs.Form.{is_good_back, is_good_way, HasGuardForm, IsFirstUnguarded};
-ghost use Rattle.guard_check.specs.Checking.{IsKnown, AreKnown, Judges, disassembly_of};
+ghost use Rattle.guard_check.specs.Checking.{IsKnown, AreKnown, Judges};
 ghost use Rattle.guard_check.specs.Checking.{disassemblies_of, rule_number, fails_at, failing, first_of};
 ghost use Rattle.guard_check.specs.Checking.{comes_well, as_violation, violation_of};
 

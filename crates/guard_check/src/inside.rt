@@ -8,10 +8,10 @@ ghost use Rattle.std.specs.Prelude.{◌≡◌, ◌+◌, true, not, nat_lt, lengt
 ghost use Rattle.std.specs.List.Sorted.{IsNonDecreasingBy};
 ghost use Rattle.obj_core.specs.declared.object.Link.{Link};
 ghost use Rattle.obj_core.specs.WellFormed.{is_linked};
-ghost use Rattle.obj_core.specs.Disassembly.{found, starts_at};
+ghost use Rattle.obj_core.specs.Disassembly.{found, starts_at, disassembly_of};
 ghost use Rattle.obj_core.specs.SymbolicMachine.{link_before};
 ghost use Rattle.guard_check.specs.Form.{is_indirect, leads_indirect, is_guarded, guarded_places};
-ghost use Rattle.guard_check.specs.Checking.{IsKnown, disassembly_of, is_but, keeps_off};
+ghost use Rattle.guard_check.specs.Checking.{IsKnown, is_but, keeps_off};
 
 use crate::instr_at::{InstrAt, instr_at};
 use obj_core::object::{Func, Link, Slot};

@@ -4,10 +4,9 @@ use Rattle.std.proofs.lemmas.List.{take_more, take-append-drop, drop_more, lengt
 use Rattle.std.proofs.lemmas.List.Sums.{get_or-le-sum_by, sum-map}
 use Rattle.x86_core.specs.declared.instr.Instr.{Instr}
 use Rattle.obj_core.specs.declared.object.Func.{Func}
-use Rattle.obj_core.specs.Disassembly.{IsDisassembly, AreDisassemblies}
+use Rattle.obj_core.specs.Disassembly.{IsDisassembly, AreDisassemblies, disassembly_of}
 use Rattle.obj_core.specs.WellFormed.{IsStuck, IsFirstStuck}
 use Rattle.obj_check.specs.declared.notes.Notes.{Notes}
-use Rattle.obj_check.specs.Instrs.{disassembly_of}
 use Rattle.obj_check.specs.Disassembled.{IsNoted, AreNoted, disassemblies_of}
 
 -- a function is not longer than all of them

@@ -5,7 +5,7 @@ use Rattle.x86_core.specs.declared.instr.Instr.{Instr}
 use Rattle.obj_core.specs.declared.object.Func.{Func}
 use Rattle.obj_core.specs.WellFormed.{Violation, Function, or_else, at_least_offset, least_from, in_functions, is_start}
 use Rattle.obj_check.specs.declared.notes.Notes.{Notes}
-use Rattle.obj_check.specs.Instrs.{disassembly_of}
+use Rattle.obj_core.specs.Disassembly.{disassembly_of}
 use Rattle.obj_check.specs.Disassembled.{IsNoted, AreNoted, disassemblies_of}
 use Rattle.obj_check.specs.Least.{least_with}
 use Rattle.obj_check.specs.Marked.{marked}

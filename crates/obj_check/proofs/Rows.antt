@@ -9,11 +9,11 @@ use Rattle.x86_core.specs.Decoding.{decode}
 use Rattle.x86_core.proofs.Back.{decode_back}
 use Rattle.x86_core.proofs.Laws.{some_bytes}
 use Rattle.obj_core.specs.Object.{Each}
-use Rattle.obj_core.specs.Disassembly.{spelled, IsDisassembly}
+use Rattle.obj_core.specs.Disassembly.{spelled, IsDisassembly, and_behind, first_instrs, disassembly_of}
 use Rattle.obj_core.specs.WellFormed.{IsStuck}
 use Rattle.obj_core.proofs.Spelling.{spelled-append, each_append}
 use Rattle.obj_check.specs.declared.instr_at.InstrAt.{InstrAt}
-use Rattle.obj_check.specs.Instrs.{StandsAt, IsInstrAt, and_behind, first_instrs, disassembly_of}
+use Rattle.obj_check.specs.Instrs.{StandsAt, IsInstrAt}
 
 -- an instruction that bytes begin with stands there
 pub stands_at : (bytes : List ℕ) (at : ℕ) (i : Instr) (n : ℕ) → Begins (drop at bytes) i → n ≡ length (encoding i) → StandsAt bytes at (record { at = at; end = at + n; instr = i })

@@ -5,10 +5,10 @@ use Rattle.x86_core.specs.declared.instr.Instr.{Instr}
 use Rattle.x86_core.specs.Encoding.{encoding, IsInstr}
 use Rattle.obj_core.specs.declared.object.Link.{Link}
 use Rattle.obj_core.specs.Object.{Each}
-use Rattle.obj_core.specs.Disassembly.{Found, found, found_from, size_of, spelled, IsDisassembly}
+use Rattle.obj_core.specs.Disassembly.{Found, found, found_from, size_of, spelled, IsDisassembly, disassembly_of}
 use Rattle.obj_core.specs.WellFormed.{displacement, is_linked, goes_well, bad_branches}
 use Rattle.obj_check.specs.declared.instr_at.InstrAt.{InstrAt}
-use Rattle.obj_check.specs.Instrs.{StandsAt, IsInstrAt, disassembly_of}
+use Rattle.obj_check.specs.Instrs.{StandsAt, IsInstrAt}
 use Rattle.obj_check.specs.Least.{lesser_of, least_with}
 use Rattle.obj_check.proofs.Rows.{nothing_begins}
 use Rattle.obj_check.proofs.Unique.{same_first, same_rest}

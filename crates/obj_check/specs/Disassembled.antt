@@ -2,12 +2,11 @@
 use Rattle.std.specs.Prelude.{ℕ, ◌≤◌, List, [], ◌∷◌, length, map}
 use Rattle.x86_core.specs.declared.instr.Instr.{Instr}
 use Rattle.obj_core.specs.declared.object.Func.{Func}
-use Rattle.obj_core.specs.Disassembly.{IsDisassembly}
+use Rattle.obj_core.specs.Disassembly.{IsDisassembly, disassembly_of}
 use Rattle.obj_core.specs.WellFormed.{IsStuck, IsFirstStuck}
 use Rattle.obj_check.specs.declared.notes.Notes.{Notes}
 use Rattle.obj_check.specs.declared.disassembly.Noted.{Noted}
 use Rattle.obj_check.specs.declared.disassembly.AllNoted.{AllNoted}
-use Rattle.obj_check.specs.Instrs.{disassembly_of}
 use Rattle.obj_check.specs.Noted.{AreNotesOf}
 
 -- bytes are instructions, one at least, and these are noted

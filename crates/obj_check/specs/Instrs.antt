@@ -1,10 +1,7 @@
--- An instruction at its place in a function's bytes, and the instructions that bytes begin with.
-use Rattle.std.specs.Prelude.{◌≡◌, ℕ, zero, suc, ◌+◌, ◌<◌, ◌≤◌, List, [], ◌∷◌, ◌++◌, length, drop, Option, Some, None}
+-- An instruction at its place in a function's bytes.
+use Rattle.std.specs.Prelude.{◌≡◌, ℕ, ◌+◌, ◌<◌, ◌≤◌, List, [], ◌∷◌, ◌++◌, length, drop, Option, Some, None}
 use Rattle.x86_core.specs.declared.instr.Instr.{Instr}
-use Rattle.x86_core.specs.declared.instr.Decoded.{Decoded}
-use Rattle.x86_core.specs.declared.instr.Decoded.TheVariants.{One, Short, Unknown}
 use Rattle.x86_core.specs.Encoding.{encoding, IsInstr}
-use Rattle.x86_core.specs.Decoding.{decode}
 use Rattle.obj_core.specs.Disassembly.{size_of}
 use Rattle.obj_check.specs.declared.instr_at.InstrAt.{InstrAt}
 
@@ -24,18 +21,3 @@ pub record StandsAt (bytes : List ℕ) (at : ℕ) (p : InstrAt) : Type 0 where
 abbrev pub IsInstrAt : List ℕ → ℕ → Option InstrAt → Type 0
 IsInstrAt bytes at None = (i : Instr) → IsInstr i → (more : List ℕ) → drop at bytes ≡ encoding i ++ more → ⊥
 IsInstrAt bytes at (Some p) = StandsAt bytes at p
-
--- an instruction, and those that its size leads to
-abbrev pub and_behind : (ℕ → List Instr) → Decoded → List Instr
-and_behind behind (One i size) = i ∷ behind size
-and_behind behind Short = []
-and_behind behind Unknown = []
-
--- the instructions that bytes begin with, at most so many
-abbrev pub first_instrs : ℕ → List ℕ → List Instr
-first_instrs zero bs = []
-first_instrs (suc n) bs = and_behind (λ size. first_instrs n (drop size bs)) (decode bs)
-
--- the instructions that bytes begin with; where bytes have a disassembly, it is this one
-unfoldable pub disassembly_of : List ℕ → List Instr
-disassembly_of bs = first_instrs (length bs) bs

@@ -7,9 +7,8 @@
 
 ghost use Rattle.std.specs.Prelude.{◌≡◌, ◌++◌, ◌+◌, ◌≤◌, ◌||◌, if◌then◌else◌, None, IfOk, length};
 ghost use Rattle.x86_core.specs.Arithmetic.{moved};
-ghost use Rattle.obj_core.specs.Disassembly.{found};
+ghost use Rattle.obj_core.specs.Disassembly.{found, disassembly_of};
 ghost use Rattle.obj_core.specs.WellFormed.{displacement, is_good_link, bad_links, is_linked, goes_well, bad_branches, most_code};
-ghost use Rattle.obj_check.specs.Instrs.{disassembly_of};
 ghost use Rattle.obj_check.specs.Disassembled.{IsNoted};
 ghost use Rattle.obj_check.specs.Least.{lesser_of, least_with};
 ghost use Rattle.obj_check.specs.Failing.{MarksBelow};

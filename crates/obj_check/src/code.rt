@@ -6,7 +6,7 @@
 
 ghost use Rattle.std.specs.Prelude.{◌≡◌, ◌≤◌, None, IfOk, length};
 ghost use Rattle.obj_core.specs.WellFormed.{AreFew, in_functions, most_code};
-ghost use Rattle.obj_check.specs.Instrs.{disassembly_of};
+ghost use Rattle.obj_core.specs.Disassembly.{disassembly_of};
 ghost use Rattle.obj_check.specs.Disassembled.{IsNoted, AreNoted, disassemblies_of};
 ghost use Rattle.obj_check.specs.Least.{least_with, as_violation};
 ghost use Rattle.obj_check.specs.Failing.{rule_number, failing};

@@ -6,9 +6,8 @@
 //! function's start.
 
 ghost use Rattle.std.specs.Prelude.{◌≡◌, None};
-ghost use Rattle.obj_core.specs.Disassembly.{found};
+ghost use Rattle.obj_core.specs.Disassembly.{found, disassembly_of};
 ghost use Rattle.obj_core.specs.WellFormed.{is_good_cut, bad_cut};
-ghost use Rattle.obj_check.specs.Instrs.{disassembly_of};
 ghost use Rattle.obj_check.specs.Disassembled.{IsNoted};
 ghost use Rattle.obj_check.specs.Least.{least_with};
 

@@ -6,10 +6,9 @@
 //! passes.
 
 ghost use Rattle.std.specs.Prelude.{◌≡◌, ◌++◌, ◌<◌, ◌&&◌, nat_lt, slice_index, IfOk, OnOk, length};
-ghost use Rattle.obj_core.specs.Disassembly.{spelled};
+ghost use Rattle.obj_core.specs.Disassembly.{spelled, disassembly_of};
 ghost use Rattle.obj_core.specs.Saved.{saved_register, five_of, prologue, begins_with, one_if, agree, are_first_colors};
 ghost use Rattle.obj_core.specs.WellFormed.{is_saved_well};
-ghost use Rattle.obj_check.specs.Instrs.{disassembly_of};
 ghost use Rattle.obj_check.specs.Disassembled.{IsNoted};
 ghost use Rattle.obj_check.specs.Orders.{pushes_in, used_in, count_used, are_colored};
 

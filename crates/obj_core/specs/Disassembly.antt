@@ -1,5 +1,5 @@
 -- The disassembly of a function: the one list of instructions that its bytes are.
-use Rattle.std.specs.Prelude.{◌≡◌, ℕ, zero, suc, ◌+◌, ◌-◌, Bool, false, ◌||◌, nat_eq, List, [], ◌∷◌, ◌++◌, length}
+use Rattle.std.specs.Prelude.{◌≡◌, ℕ, zero, suc, ◌+◌, ◌-◌, Bool, false, ◌||◌, nat_eq, List, [], ◌∷◌, ◌++◌, length, drop}
 use Rattle.x86_core.specs.declared.instr.Instr.{Instr}
 use Rattle.x86_core.specs.declared.instr.Decoded.{Decoded}
 use Rattle.x86_core.specs.declared.instr.Decoded.TheVariants.{One, Short, Unknown}
@@ -21,6 +21,21 @@ spelled (i ∷ is) = encoding i ++ spelled is
 pub record IsDisassembly (bytes : List ℕ) (instrs : List Instr) : Type 0 where
   pub instructions : Each IsInstr instrs
   pub whole : spelled instrs ≡ bytes
+
+-- an instruction, and those that its size leads to
+abbrev pub and_behind : (ℕ → List Instr) → Decoded → List Instr
+and_behind behind (One i size) = i ∷ behind size
+and_behind behind Short = []
+and_behind behind Unknown = []
+
+-- the instructions that bytes begin with, at most so many
+abbrev pub first_instrs : ℕ → List ℕ → List Instr
+first_instrs zero bs = []
+first_instrs (suc n) bs = and_behind (λ size. first_instrs n (drop size bs)) (decode bs)
+
+-- the instructions that bytes begin with; where bytes have a disassembly, it is this one
+unfoldable pub disassembly_of : List ℕ → List Instr
+disassembly_of bs = first_instrs (length bs) bs
 
 -- each function's disassembly, none of them empty
 abbrev pub AreDisassemblies : List Func → List (List Instr) → Type 0

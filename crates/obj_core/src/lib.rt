@@ -5,6 +5,7 @@
 //! image for a layout seed. Functions reach other code by slots alone, whose addresses are public:
 //! `SlotAddr`, of which `ReadBuilder` makes readable segments. Those of code are `Hidden`: a `CodePlan`
 //! gives them, and `CodeBuilder` writes them as displacements into segments that may be run alone.
+//! `plan` has what a compiler decides before it writes code.
 #![tactic(auto)]
 
 pub mod address;
@@ -17,6 +18,7 @@ pub mod object;
 mod order;
 mod piece;
 mod placed;
+pub mod plan;
 pub mod readable;
 mod row;
 mod run;

@@ -5,7 +5,8 @@ use Rattle.obj_core.specs.declared.object.Func.{Func}
 use Rattle.obj_core.specs.declared.object.Slot.{Slot}
 use Rattle.obj_core.specs.WellFormed.{Violation, Function, or_else, in_functions}
 use Rattle.obj_core.proofs.Pieces.{get_some}
-use Rattle.guard_check.specs.Checking.{IsKnown, AreKnown, disassembly_of, disassemblies_of, rule_number, failing, first_of}
+use Rattle.guard_check.specs.Checking.{IsKnown, AreKnown, disassemblies_of, rule_number, failing, first_of}
+use Rattle.obj_core.specs.Disassembly.{disassembly_of}
 use Rattle.guard_check.proofs.Knowing.{known_at, at_function, first_more}
 use Rattle.guard_check.proofs.check.first_in_functions.Goals as goal
 

@@ -4,7 +4,8 @@ use Rattle.x86_core.specs.declared.instr.Instr.{Instr}
 use Rattle.obj_core.specs.declared.object.Func.{Func}
 use Rattle.obj_core.specs.declared.object.Slot.{Slot}
 use Rattle.guard_check.specs.Form.{comes_outside}
-use Rattle.guard_check.specs.Checking.{IsKnown, disassembly_of}
+use Rattle.guard_check.specs.Checking.{IsKnown}
+use Rattle.obj_core.specs.Disassembly.{disassembly_of}
 use Rattle.guard_check.proofs.Knowing.{known_at, start_at, code_at}
 use Rattle.guard_check.proofs.Ahead.{twice_not}
 use Rattle.guard_check.proofs.check.is_good_back.Goals as goal

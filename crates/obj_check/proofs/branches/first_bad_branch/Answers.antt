@@ -1,7 +1,6 @@
 use Rattle.std.proofs.Common.{ℕ, Option, None, ap, ◌∙◌}
-use Rattle.obj_core.specs.Disassembly.{found}
+use Rattle.obj_core.specs.Disassembly.{found, disassembly_of}
 use Rattle.obj_core.specs.WellFormed.{bad_links, bad_branches}
-use Rattle.obj_check.specs.Instrs.{disassembly_of}
 use Rattle.obj_check.specs.Least.{least_with}
 use Rattle.obj_check.proofs.Tables.{least_append}
 use Rattle.obj_check.proofs.branches.first_bad_branch.Goals as goal

@@ -1,5 +1,4 @@
-use Rattle.obj_core.specs.Disassembly.{found}
-use Rattle.obj_check.specs.Instrs.{disassembly_of}
+use Rattle.obj_core.specs.Disassembly.{found, disassembly_of}
 use Rattle.obj_check.proofs.Walk.{left_all, left_more, left_none}
 use Rattle.obj_check.proofs.branches.first_bad_goal.Goals as goal
 

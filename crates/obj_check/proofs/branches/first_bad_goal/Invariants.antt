@@ -1,6 +1,5 @@
 use Rattle.std.proofs.Common.{◌-◌, length}
-use Rattle.obj_core.specs.Disassembly.{found}
-use Rattle.obj_check.specs.Instrs.{disassembly_of}
+use Rattle.obj_core.specs.Disassembly.{found, disassembly_of}
 use Rattle.obj_check.proofs.Walk.{Left}
 use Rattle.obj_check.proofs.branches.first_bad_goal.Given as goal
 

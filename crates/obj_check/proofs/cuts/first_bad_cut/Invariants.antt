@@ -1,7 +1,6 @@
 use Rattle.std.proofs.Common.{◌≡◌, drop}
-use Rattle.obj_core.specs.Disassembly.{found}
+use Rattle.obj_core.specs.Disassembly.{found, disassembly_of}
 use Rattle.obj_core.specs.WellFormed.{bad_cut}
-use Rattle.obj_check.specs.Instrs.{disassembly_of}
 use Rattle.obj_check.proofs.cuts.first_bad_cut.Given as goal
 
 -- the cuts so far are good

@@ -1,7 +1,7 @@
 use Rattle.std.proofs.Common.{ℕ, Bool, List, ◌&&◌, ap, ◌∙◌}
 use Rattle.obj_core.specs.Slots.{name_purpose}
 use Rattle.obj_core.specs.Saved.{begins_with, prologue, five_of}
-use Rattle.obj_check.specs.Instrs.{disassembly_of}
+use Rattle.obj_core.specs.Disassembly.{disassembly_of}
 use Rattle.obj_check.specs.Orders.{used_in, are_colored}
 use Rattle.obj_check.proofs.Colors.{colors_are}
 use Rattle.obj_check.proofs.saved.is_saved.Goals as goal
