@@ -1,5 +1,7 @@
 pub mod Names
 pub mod Stops
+pub mod Answers
+pub mod Words
 pub mod Kinds
 pub mod Arithmetic
 pub mod Shapes

@@ -2,7 +2,8 @@
 //!
 //! `ty`, `operand`, `init`, `instruction` and `module` have the parts of a module, in the words of
 //! its text; names carry no `@` or `%`. `memory` has the values of a run and the objects that hold
-//! them. What a step does stands in `specs/Step`, what a whole run shows in `specs/Run`.
+//! them, `values` those that are known before a run, and a `Stop` stops one. What a step does stands
+//! in `specs/Step`, what a whole run shows in `specs/Run`.
 //! Source: LLVM Language Reference, "High Level Structure" and "Instruction Reference", in the
 //! integer profile of docs/languages.md.
 #![tactic(auto)]
@@ -24,9 +25,11 @@ pub mod operand;
 pub mod outer;
 pub mod scope;
 pub mod size;
+pub mod stop;
 pub mod tables;
 pub mod ty;
 pub mod valid;
+pub mod values;
 
 /// How many calls can be active at once, the first call of `main` being one.
 pub const MAX_CALLS: u32 = 8192;

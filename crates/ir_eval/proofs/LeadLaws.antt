@@ -10,7 +10,7 @@ use Rattle.ir_core.specs.declared.ty.NamedTy.{NamedTy}
 use Rattle.ir_core.specs.declared.memory.Value.{Value}
 use Rattle.ir_core.specs.Operands.{index_word}
 use Rattle.ir_core.specs.Typing.{Leads, leads_field, leads_struct, leads_at, leads_named, leads_into, leads_from}
-use Rattle.ir_memory.specs.Words.{low_word}
+use Rattle.ir_core.specs.Words.{low_word}
 use Rattle.ir_program.specs.declared.origin.Origin.{Origin}
 use Rattle.ir_program.specs.declared.origin.Origin.TheVariants.{Known}
 use Rattle.ir_program.specs.declared.path.Path.{Path}

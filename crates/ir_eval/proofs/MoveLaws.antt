@@ -20,7 +20,7 @@ use Rattle.ir_core.specs.Operands.{index_words, bytes_to, values_of}
 use Rattle.ir_core.specs.Pointers.{moved_pointer}
 use Rattle.ir_core.specs.Step.{result_of}
 use Rattle.ir_memory.specs.Registers.{StandFor}
-use Rattle.ir_memory.specs.Words.{low_word}
+use Rattle.ir_core.specs.Words.{low_word}
 use Rattle.ir_program.specs.declared.path.Path.{Path}
 use Rattle.ir_program.specs.declared.path.Stride.{Stride}
 use Rattle.ir_program.specs.Paths.{empty_path, path_of}

@@ -22,7 +22,7 @@ use Rattle.ir_core.specs.Shapes.{Shape, struct, unaligned, part_of_array, part_o
 use Rattle.ir_core.specs.Counts.{size_count}
 use Rattle.ir_core.specs.Operands.{index_word, index_words}
 use Rattle.ir_core.proofs.Types.{shape-array, shape-struct, shape-packed}
-use Rattle.ir_memory.specs.Words.{low_word}
+use Rattle.ir_core.specs.Words.{low_word}
 use Rattle.ir_program.specs.declared.origin.Origin.{Origin}
 use Rattle.ir_program.specs.declared.origin.Origin.TheVariants.{Known, Register, Unset, Malformed}
 use Rattle.ir_program.specs.declared.path.Path.{Path}

@@ -18,7 +18,7 @@ use Rattle.ir_core.specs.Shapes.{part_of_array, shape_of}
 use Rattle.ir_core.specs.Operands.{global_number, int_value, index_word, index_words, literal_indices, bytes_to, constant_place}
 use Rattle.ir_core.specs.Valid.{opened}
 use Rattle.ir_core.specs.Typing.{known_index, leads_from}
-use Rattle.ir_memory.specs.Words.{low_word}
+use Rattle.ir_core.specs.Words.{low_word}
 use Rattle.ir_program.specs.declared.origin.Origin.{Origin}
 use Rattle.ir_program.specs.declared.origin.Origin.TheVariants.{Known, Register, Unset, Malformed}
 use Rattle.ir_program.specs.declared.path.Path.{Path}

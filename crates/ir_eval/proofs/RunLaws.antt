@@ -9,9 +9,9 @@ use Rattle.ir_core.specs.Stops.{ending_of}
 use Rattle.ir_core.specs.Memory.{Memory}
 use Rattle.ir_core.specs.Globals.{first_objects}
 use Rattle.ir_core.specs.Refusals.{IsValid}
-use Rattle.ir_memory.specs.declared.stop.Stop.{Stop}
-use Rattle.ir_memory.specs.declared.stop.Stop.TheVariants.{Ended, Divide, Trap, Depth, Left, Malformed}
-use Rattle.ir_memory.specs.Answers.{stop_of}
+use Rattle.ir_core.specs.declared.stop.Stop.{Stop}
+use Rattle.ir_core.specs.declared.stop.Stop.TheVariants.{Ended, Divide, Trap, Depth, Left, Malformed}
+use Rattle.ir_core.specs.Answers.{stop_of}
 use Rattle.ir_program.specs.declared.program.Program.{Program}
 use Rattle.ir_program.specs.Programs.{program_of}
 use Rattle.ir_run.specs.declared.state.State.{State}

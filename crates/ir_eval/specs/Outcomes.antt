@@ -5,8 +5,8 @@ use Rattle.behavior.specs.Ending as ending
 use Rattle.rd_io.specs.declared.RunFault.{RunFault}
 use Rattle.rd_io.specs.declared.RunFault.TheVariants as fault
 use Rattle.ir_core.specs.Stops.{reason_number}
-use Rattle.ir_memory.specs.declared.stop.Stop.{Stop}
-use Rattle.ir_memory.specs.declared.stop.Stop.TheVariants as stop
+use Rattle.ir_core.specs.declared.stop.Stop.{Stop}
+use Rattle.ir_core.specs.declared.stop.Stop.TheVariants as stop
 use Rattle.ir_eval.specs.declared.outcome.IrOutcome.{IrOutcome}
 use Rattle.ir_eval.specs.declared.outcome.IrOutcome.TheVariants.{Going, Ended, Divide, Trap, Depth, Left}
 

@@ -4,7 +4,7 @@ ghost use Rattle.std.specs.Prelude.{◌≡◌};
 ghost use Rattle.ir_eval.specs.Outcomes.{outcome_after};
 
 use ir_core::memory::Reason;
-use ir_memory::stop::Stop;
+use ir_core::stop::Stop;
 use rd_io::RunFault;
 
 /// How a run stands: it goes on, it came to its end with an exit status, it came to a division

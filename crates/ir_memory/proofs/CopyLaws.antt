@@ -10,8 +10,8 @@ use Rattle.ir_core.specs.declared.memory.Object0.{Object0}
 use Rattle.ir_core.specs.declared.memory.Reason.TheVariants.{Bounds, Overlap}
 use Rattle.ir_core.specs.Stops.{Left, Answer, and_then}
 use Rattle.ir_core.specs.Memory.{Memory, Range, range_of, unless_constant, written, cells_at, overlaps}
-use Rattle.ir_memory.specs.declared.stop.Stop.{Stop}
-use Rattle.ir_memory.specs.Answers.{stop_of, answered_as}
+use Rattle.ir_core.specs.declared.stop.Stop.{Stop}
+use Rattle.ir_core.specs.Answers.{stop_of, answered_as}
 use Rattle.ir_memory.specs.Ranges.{inside, writable, with_cells, without_target, copied_over, copied_inside, copied_to, copied_some, without_place}
 use Rattle.ir_memory.proofs.MemoryLaws.{range_in, by_tests, by_more_tests, in_turn, kept_there}
 

@@ -10,8 +10,8 @@ use Rattle.ir_core.specs.declared.memory.Reason.TheVariants.{Bounds, Dead, Const
 use Rattle.ir_core.specs.Stops.{Left, Answer, and_then}
 use Rattle.ir_core.specs.declared.kind.Kind.{Kind}
 use Rattle.ir_core.specs.Memory.{Memory, Range, range_of, unless_constant, written, cells_at, load_at, kind_size}
-use Rattle.ir_memory.specs.declared.stop.Stop.{Stop}
-use Rattle.ir_memory.specs.Answers.{answered_as}
+use Rattle.ir_core.specs.declared.stop.Stop.{Stop}
+use Rattle.ir_core.specs.Answers.{answered_as}
 use Rattle.ir_memory.specs.Reads.{row_read}
 use Rattle.ir_memory.specs.Ranges.{inside, writable, unless_fixed, with_cells, loaded, put, put_run, put_at, run_at, changed_at}
 

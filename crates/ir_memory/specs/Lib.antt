@@ -1,5 +1,3 @@
-pub mod Answers
 pub mod Reads
 pub mod Ranges
-pub mod Words
 pub mod Registers

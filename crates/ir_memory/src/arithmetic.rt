@@ -7,37 +7,12 @@
 ghost use Rattle.std.specs.Prelude.{◌≡◌, ◌^◌, ◌-◌, ◌+◌, ◌*◌, ◌%◌, ◌/◌, ◌<◌, ◌||◌};
 ghost use Rattle.rd_num.specs.Number.{bits};
 ghost use Rattle.ir_core.specs.Arithmetic.{modulus, is_negative as negative_in, negated as negated_in, magnitude as magnitude_in, signed_quotient as quotient_in, signed_remainder as remainder_in, sign_shifted, divides_by_zero, overflows, binary as binary_in, biased as biased_in, compared as compared_in, cast as cast_in};
-ghost use Rattle.ir_memory.specs.Answers.{answered};
+ghost use Rattle.ir_core.specs.Answers.{answered};
 
-use crate::stop::Stop;
+use ir_core::stop::Stop;
 use ir_core::instruction::{BinOp, CastOp, Pred};
+use ir_core::values::{greatest, half};
 use rd_num::width::{Width, wrap};
-
-/// The greatest number of a width.
-pub(crate) fn greatest(w: Width) -> u64
-    ensures { result ≡ modulus w - 1 }
-{
-    match w {
-        Width::W1 => 1,
-        Width::W8 => 255,
-        Width::W16 => 65_535,
-        Width::W32 => 4_294_967_295,
-        Width::W64 => u64::MAX,
-    }
-}
-
-/// Half of the numbers of a width: the least that reads as a negative one.
-pub(crate) fn half(w: Width) -> u64
-    ensures { result ≡ 2 ^ (bits w - 1) }
-{
-    match w {
-        Width::W1 => 1,
-        Width::W8 => 128,
-        Width::W16 => 32_768,
-        Width::W32 => 2_147_483_648,
-        Width::W64 => 9_223_372_036_854_775_808,
-    }
-}
 
 /// Whether a number stands for one below zero.
 fn is_negative(w: Width, n: u64) -> bool

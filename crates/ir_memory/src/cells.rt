@@ -12,10 +12,10 @@ ghost use Rattle.ir_core.specs.declared.memory.Reason.TheVariants.{Mixed as Mixe
 ghost use Rattle.ir_core.specs.Stops.{Left as LeftStop};
 ghost use Rattle.ir_core.specs.Shapes.{bytes_of};
 ghost use Rattle.ir_core.specs.Memory.{same_value as same_values, pointer_cells as pieces_of, cells_of, any_unset, numbers, same_cells as same_rows, number_read, pointer_read, kind_size};
-ghost use Rattle.ir_memory.specs.Answers.{answered};
+ghost use Rattle.ir_core.specs.Answers.{answered};
 ghost use Rattle.ir_memory.specs.Reads.{same_cell as same_two, with_low_byte, row_read};
 
-use crate::stop::Stop;
+use ir_core::stop::Stop;
 use ir_core::kind::Kind;
 use ir_core::memory::{Cell, Reason, Value};
 use rd_num::width::{Width, wrap};

@@ -13,5 +13,4 @@ pub mod memory;
 pub mod object;
 pub mod pointer;
 pub mod registers;
-pub mod stop;
 pub mod values;

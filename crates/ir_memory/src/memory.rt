@@ -9,13 +9,13 @@ ghost use Rattle.ir_core.specs.declared.memory.Value.TheVariants.{At as PlaceAt}
 ghost use Rattle.ir_core.specs.declared.memory.Cell.TheVariants.{Byte as ByteCell};
 ghost use Rattle.ir_core.specs.Memory.{load_at, store_at, filled, copied, with_alloca, without, dead_at};
 ghost use Rattle.ir_core.specs.Pointers.{pointers_compared as said_of};
-ghost use Rattle.ir_memory.specs.Answers.{stop_of, answered, answered_as};
+ghost use Rattle.ir_core.specs.Answers.{stop_of, answered, answered_as};
 ghost use Rattle.ir_memory.specs.Ranges.{put_at, run_at, copied_some, without_place};
 
 use crate::cells::stored_as;
 use crate::object::Object;
 use crate::pointer::pointers_compared;
-use crate::stop::Stop;
+use ir_core::stop::Stop;
 use ir_core::instruction::Pred;
 use ir_core::kind::Kind;
 use ir_core::memory::{Cell, Reason, Value};

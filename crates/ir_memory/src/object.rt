@@ -8,11 +8,11 @@ ghost use Rattle.std.specs.Prelude.{◌≡◌, ◌+◌, ◌++◌, ◌≤◌, ◌
 ghost use Rattle.ir_core.specs.declared.memory.Cell.TheVariants.{Unset as UnsetCell, Byte as ByteCell};
 ghost use Rattle.ir_core.specs.Memory.{dead};
 ghost use Rattle.ir_core.specs.Pointers.{holds_place};
-ghost use Rattle.ir_memory.specs.Answers.{stop_of, answered, answered_as};
+ghost use Rattle.ir_core.specs.Answers.{stop_of, answered, answered_as};
 ghost use Rattle.ir_memory.specs.Ranges.{whole, inside, writable as can_write, loaded, put as put_in, put_run, copied_part, without_target, copied_over, copied_inside};
 
 use crate::cells::{kind_bytes, read};
-use crate::stop::Stop;
+use ir_core::stop::Stop;
 use ir_core::kind::Kind;
 use ir_core::memory::{Cell, Reason, Value};
 use rd_num::width::NoMemory;

@@ -5,11 +5,11 @@
 ghost use Rattle.std.specs.Prelude.{◌≡◌, ℕ, ◌%◌, ◌^◌, slice_get};
 ghost use Rattle.ir_core.specs.declared.memory.Value.TheVariants.{At as PlaceAt};
 ghost use Rattle.ir_core.specs.Pointers.{is_inside as inside_of, apart_if as apart, pointers_equal, reaches as reaches_in, pointers_ordered, pointers_compared as said_of, unmoved_pointer, moved_pointer};
-ghost use Rattle.ir_memory.specs.Answers.{answered};
+ghost use Rattle.ir_core.specs.Answers.{answered};
 
 use crate::arithmetic::compared;
 use crate::object::Object;
-use crate::stop::Stop;
+use ir_core::stop::Stop;
 use ir_core::instruction::Pred;
 use ir_core::memory::{Reason, Value};
 use rd_num::width::Width;

@@ -7,10 +7,10 @@
 ghost use Rattle.std.specs.Prelude.{◌≡◌, ◌<◌, ◌-◌, ◌++◌, None, Some, length, map, replicate, slice_get, slice_set, option_and_then, IfOk};
 ghost use Rattle.ir_core.specs.declared.memory.Reason.TheVariants.{Unset as UnsetReason};
 ghost use Rattle.ir_core.specs.Stops.{Left as LeftStop, found_or};
-ghost use Rattle.ir_memory.specs.Answers.{answered};
+ghost use Rattle.ir_core.specs.Answers.{answered};
 ghost use Rattle.ir_memory.specs.Registers.{register, with_register};
 
-use crate::stop::Stop;
+use ir_core::stop::Stop;
 use ir_core::memory::{Reason, Value};
 use rd_num::width::NoMemory;
 use std::alloc::Global;

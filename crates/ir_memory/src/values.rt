@@ -4,69 +4,20 @@
 //! `Malformed` comes exactly where values aren't of the kinds that a step asks for, which no valid
 //! module does. Nothing here takes memory.
 
-ghost use Rattle.std.specs.Prelude.{◌≡◌, ◌%◌, ◌^◌, List, ℕ, Ok, if◌then◌else◌};
+ghost use Rattle.std.specs.Prelude.{◌≡◌, List, ℕ, Ok, if◌then◌else◌};
 ghost use Rattle.ir_core.specs.Stops.{and_then};
 ghost use Rattle.ir_core.specs.declared.kind.Kind.TheVariants.{Pointer as PointerKind};
-ghost use Rattle.ir_core.specs.Kinds.{signed_word as word_in, literal as literal_of, truth as truth_of, zero_of};
-ghost use Rattle.ir_core.specs.Operands.{index_word as word_of, int_value};
 ghost use Rattle.ir_core.specs.Calls.{last_result as last_stop};
 ghost use Rattle.ir_core.specs.Step.{binary_value as binary_in, compared_value as compared_in, cast_value as cast_in, selected as selected_of, if_true};
-ghost use Rattle.ir_memory.specs.Answers.{stop_of, answered};
-ghost use Rattle.ir_memory.specs.Words.{low_word};
+ghost use Rattle.ir_core.specs.Answers.{stop_of, answered};
 
-use crate::arithmetic::{binary, cast, compared, greatest, half};
+use crate::arithmetic::{binary, cast, compared};
 use crate::memory::Memory;
-use crate::stop::Stop;
 use ir_core::instruction::{BinOp, CastOp, Pred};
 use ir_core::kind::Kind;
 use ir_core::memory::Value;
-use rd_num::width::Width;
-
-/// A truth value as a number of one bit.
-pub fn truth(holds: bool) -> Value
-    ensures { result ≡ truth_of holds }
-{
-    if holds {
-        Value::Num(Width::W1, 1)
-    } else {
-        Value::Num(Width::W1, 0)
-    }
-}
-
-/// The number of a width that a literal stands for: two's complement below zero.
-pub fn literal(w: Width, n: i128) -> u64
-    ensures { result ≡ literal_of w n }
-{
-    let whole = u128::from(greatest(w)) + 1;
-    if n < 0 {
-        let below = (-(n + 1)) as u128;
-        (whole - 1 - below % whole) as u64
-    } else {
-        (n as u128 % whole) as u64
-    }
-}
-
-/// A literal as a number of a kind.
-pub fn number(kind: Kind, n: i128) -> Result<Value, Stop>
-    ensures { answered result ≡ int_value kind n }
-{
-    match kind {
-        Kind::Number(w) => Ok(Value::Num(w, literal(w, n))),
-        Kind::Pointer => Err(Stop::Malformed),
-        Kind::NoValue => Err(Stop::Malformed),
-    }
-}
-
-/// Zeros, as undef and poison are read.
-pub fn zero(kind: Kind) -> Result<Value, Stop>
-    ensures { answered result ≡ zero_of kind }
-{
-    match kind {
-        Kind::NoValue => Err(Stop::Malformed),
-        Kind::Number(w) => Ok(Value::Num(w, 0)),
-        Kind::Pointer => Ok(Value::Null),
-    }
-}
+use ir_core::stop::Stop;
+use ir_core::values::truth;
 
 /// Two values of a kind by an operation.
 pub fn binary_value(op: BinOp, kind: Kind, x: Value, y: Value) -> Result<Value, Stop>
@@ -139,27 +90,6 @@ pub fn is_taken(condition: Value) -> Result<bool, Stop>
     match condition {
         Value::Num(_, n) => Ok(n != 0),
         Value::Null | Value::At(_, _) | Value::Fun(_) => Err(Stop::Malformed),
-    }
-}
-
-/// An index as a number of bytes or elements modulo 2^64, below zero too.
-pub fn index_word(v: Value) -> Result<u64, Stop>
-    ensures { answered result ≡ low_word (word_of v) }
-{
-    match v {
-        Value::Num(w, n) => Ok(signed_word(w, n)),
-        Value::Null | Value::At(_, _) | Value::Fun(_) => Err(Stop::Malformed),
-    }
-}
-
-/// A number of a width as a signed one, modulo 2^64.
-fn signed_word(w: Width, n: u64) -> u64
-    ensures { result ≡ word_in w n % 2 ^ 64 }
-{
-    if n < half(w) {
-        n
-    } else {
-        n.wrapping_add(u64::MAX - greatest(w))
     }
 }
 

@@ -6,7 +6,7 @@ use Rattle.ir_core.specs.declared.ty.NamedTy.{NamedTy}
 use Rattle.ir_core.specs.Stops.{Answer}
 use Rattle.ir_core.specs.Operands.{index_word}
 use Rattle.ir_core.specs.Valid.{opened}
-use Rattle.ir_memory.specs.Words.{low_word}
+use Rattle.ir_core.specs.Words.{low_word}
 use Rattle.ir_program.specs.declared.origin.Origin.{Origin}
 use Rattle.ir_program.specs.declared.origin.Origin.TheVariants.{Known, Register, Unset, Malformed}
 use Rattle.ir_program.specs.declared.path.Path.{Path}

@@ -3,7 +3,7 @@
 ghost use Rattle.std.specs.Prelude.{◌≡◌, IfOk, map};
 ghost use Rattle.ir_core.specs.Kinds.{zero_of};
 ghost use Rattle.ir_core.specs.Operands.{global_number, function_number, named_value, int_value};
-ghost use Rattle.ir_memory.specs.Answers.{answered};
+ghost use Rattle.ir_core.specs.Answers.{answered};
 ghost use Rattle.ir_memory.specs.Registers.{number_of};
 ghost use Rattle.ir_program.specs.Origins.{known as known_of, register_of, index_origin, place_in, place_of, constant_origin, origin_of};
 
@@ -14,8 +14,8 @@ use ir_core::memory::Value;
 use ir_core::names::NameSet;
 use ir_core::operand::{Index0, Operand, Place0};
 use ir_core::ty::Name;
-use ir_memory::stop::Stop;
-use ir_memory::values::{number, truth, zero};
+use ir_core::stop::Stop;
+use ir_core::values::{number, truth, zero};
 use rd_num::list::List;
 use rd_num::width::NoMemory;
 use std::alloc::Global;

@@ -5,15 +5,15 @@ ghost use Rattle.std.specs.Option.{option_copied};
 ghost use Rattle.ir_core.specs.declared.ty.Ty.{out-Ty};
 ghost use Rattle.ir_core.specs.Names.{same_name, first_where};
 ghost use Rattle.ir_core.specs.Valid.{opened, named_fields};
-ghost use Rattle.ir_memory.specs.Answers.{answered};
+ghost use Rattle.ir_core.specs.Answers.{answered};
 ghost use Rattle.ir_program.specs.Extents.{extent_of, field_place};
 ghost use Rattle.ir_program.specs.Paths.{empty_path, farther as farther_by, with_stride, by_word as by_word_of, over_elements, into_found, into_number, into_field, into_type, led, path_into, path_of};
 
 use crate::context::Context;
 use crate::origin::Origin;
 use ir_core::ty::{Name, Ty};
-use ir_memory::stop::Stop;
-use ir_memory::values::index_word;
+use ir_core::stop::Stop;
+use ir_core::values::index_word;
 use rd_num::list::List;
 use rd_num::width::NoMemory;
 use std::alloc::Global;

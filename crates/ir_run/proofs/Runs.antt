@@ -16,9 +16,9 @@ use Rattle.ir_core.specs.Stops.{Answer, ending_of}
 use Rattle.ir_core.specs.Stops as stops
 use Rattle.ir_core.specs.Step.{source_step, turn_of}
 use Rattle.ir_core.specs.Run.{source_start}
-use Rattle.ir_memory.specs.declared.stop.Stop.{Stop}
-use Rattle.ir_memory.specs.declared.stop.Stop.TheVariants as stop
-use Rattle.ir_memory.specs.Answers.{stop_of}
+use Rattle.ir_core.specs.declared.stop.Stop.{Stop}
+use Rattle.ir_core.specs.declared.stop.Stop.TheVariants as stop
+use Rattle.ir_core.specs.Answers.{stop_of}
 use Rattle.ir_program.specs.declared.program.Program.{Program}
 use Rattle.ir_program.specs.Programs.{program_of}
 use Rattle.ir_run.specs.declared.state.State.{State}

@@ -8,7 +8,7 @@ use Rattle.ir_core.specs.declared.memory.Value.{Value}
 use Rattle.ir_core.specs.Stops.{Stop, Answer, and_then}
 use Rattle.ir_core.specs.Pointers.{moved_pointer}
 use Rattle.ir_core.specs.Operands.{index_word}
-use Rattle.ir_memory.specs.Words.{low_word}
+use Rattle.ir_core.specs.Words.{low_word}
 use Rattle.ir_program.specs.declared.origin.Origin.{Origin}
 use Rattle.ir_program.specs.declared.path.Path.{Path}
 use Rattle.ir_program.specs.declared.path.Stride.{Stride}

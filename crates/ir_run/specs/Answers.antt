@@ -2,7 +2,7 @@
 use Rattle.std.specs.Prelude.{◌≡◌, List, [], ◌∷◌, ◌++◌, Result, Ok, Err}
 use Rattle.ir_core.specs.declared.memory.Value.{Value}
 use Rattle.ir_core.specs.Stops.{Answer}
-use Rattle.ir_memory.specs.Answers.{stop_of}
+use Rattle.ir_core.specs.Answers.{stop_of}
 use Rattle.ir_run.specs.declared.fault.Fault.{Fault}
 use Rattle.ir_run.specs.declared.fault.Fault.TheVariants as fault
 use Rattle.ir_run.specs.declared.state.State.{State}

@@ -3,8 +3,8 @@ use Rattle.std.specs.Prelude.{◌≡◌, ℕ, ◌+◌, ◌*◌, List, [], ◌∷
 use Rattle.ir_core.specs.declared.memory.Value.{Value}
 use Rattle.ir_core.specs.Stops.{Answer, and_then}
 use Rattle.ir_core.specs.Operands.{index_word}
-use Rattle.ir_memory.specs.declared.stop.Stop.{Stop}
-use Rattle.ir_memory.specs.Answers.{stop_of}
+use Rattle.ir_core.specs.declared.stop.Stop.{Stop}
+use Rattle.ir_core.specs.Answers.{stop_of}
 use Rattle.ir_program.specs.declared.path.Stride.{Stride}
 use Rattle.ir_program.specs.Reads.{origin_value, stride_values}
 

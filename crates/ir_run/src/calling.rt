@@ -16,7 +16,7 @@ use ir_core::kind::Kind;
 use ir_core::memory::{Reason, Value};
 use ir_memory::memory::Memory;
 use ir_memory::registers::Registers;
-use ir_memory::stop::Stop;
+use ir_core::stop::Stop;
 use ir_memory::values::last_result;
 use ir_program::action::Argument;
 use ir_program::program::{Body, Program};

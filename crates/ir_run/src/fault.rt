@@ -1,6 +1,6 @@
 //! Why a step has no next state.
 
-use ir_memory::stop::Stop;
+use ir_core::stop::Stop;
 use rd_num::width::NoMemory;
 
 /// Why a step has no next state: it stops the run, or memory is wanting.

@@ -4,7 +4,7 @@
 
 ghost use Rattle.std.specs.Prelude.{◌≡◌, []};
 ghost use Rattle.ir_core.specs.Stops.{and_then};
-ghost use Rattle.ir_memory.specs.Answers.{answered};
+ghost use Rattle.ir_core.specs.Answers.{answered};
 ghost use Rattle.ir_program.specs.declared.exit.Exit.TheVariants.{Branch as BranchExit, Switch as SwitchExit};
 ghost use Rattle.ir_program.specs.Reads.{origin_value};
 ghost use Rattle.ir_run.specs.Answers.{Turns};
@@ -15,7 +15,7 @@ use crate::reading::{read_moves, value};
 use crate::state::{Asked, State};
 use ir_core::memory::{Reason, Value};
 use ir_memory::registers::Registers;
-use ir_memory::stop::Stop;
+use ir_core::stop::Stop;
 use ir_program::exit::{Arm, Edge, Exit, Move};
 use ir_program::origin::Origin;
 use std::alloc::Global;

@@ -8,7 +8,7 @@ use crate::fault::Fault;
 use crate::state::{Asked, State};
 use ir_core::memory::Value;
 use ir_core::outer::Outer;
-use ir_memory::stop::Stop;
+use ir_core::stop::Stop;
 use rd_num::width::Width;
 
 impl State {

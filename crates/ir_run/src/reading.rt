@@ -3,7 +3,7 @@
 //! Many are read to a list that is kept from step to step, so that a step takes no memory for them.
 
 ghost use Rattle.std.specs.Prelude.{◌≡◌};
-ghost use Rattle.ir_memory.specs.Answers.{answered};
+ghost use Rattle.ir_core.specs.Answers.{answered};
 ghost use Rattle.ir_program.specs.Reads.{origin_value, argument_values};
 ghost use Rattle.ir_run.specs.Answers.{Puts, Tells};
 ghost use Rattle.ir_run.specs.Turns.{move_values};
@@ -11,7 +11,7 @@ ghost use Rattle.ir_run.specs.Turns.{move_values};
 use crate::fault::Fault;
 use ir_core::memory::{Reason, Value};
 use ir_memory::registers::Registers;
-use ir_memory::stop::Stop;
+use ir_core::stop::Stop;
 use ir_program::action::Argument;
 use ir_program::exit::Move;
 use ir_program::origin::Origin;

@@ -12,7 +12,7 @@ ghost use Rattle.ir_run.specs.Runs.{byte_value as given_as, Exchanged, Charged, 
 use crate::fault::Fault;
 use crate::state::{Asked, State};
 use ir_core::memory::Value;
-use ir_memory::stop::Stop;
+use ir_core::stop::Stop;
 use ir_program::program::Program;
 use rd_io::{Failed, PutFail, RunFault, Sink, Source};
 use rd_num::width::Width;

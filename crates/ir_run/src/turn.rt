@@ -11,7 +11,7 @@ use crate::fault::Fault;
 use crate::reading::{read_arguments, value};
 use crate::state::{Asked, State};
 use ir_core::memory::Value;
-use ir_memory::stop::Stop;
+use ir_core::stop::Stop;
 use ir_program::action::{Action, Callee, Task};
 use ir_program::origin::Origin;
 use ir_program::program::{Program, Stretch};

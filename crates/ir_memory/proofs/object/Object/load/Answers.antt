@@ -1,6 +1,6 @@
 use Rattle.std.proofs.Common.{◌∙◌, ◌+◌, ◌-◌, ap, arith, take, drop}
 use Rattle.ir_core.specs.declared.memory.Object0.{Object0}
-use Rattle.ir_memory.specs.Answers.{answered}
+use Rattle.ir_core.specs.Answers.{answered}
 use Rattle.ir_memory.specs.Reads.{row_read}
 use Rattle.ir_memory.proofs.MemoryLaws.{loads_inside}
 use Rattle.ir_memory.proofs.object.Object.load.Goals as goal

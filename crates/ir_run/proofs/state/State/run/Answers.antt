@@ -1,5 +1,5 @@
 use Rattle.std.proofs.Common.{◌≡◌, ℕ, Option, None, Ok, refl, subst, ◌∙◌, arith}
-use Rattle.ir_memory.specs.declared.stop.Stop.{Stop}
+use Rattle.ir_core.specs.declared.stop.Stop.{Stop}
 use Rattle.ir_run.specs.Runs.{Stepped, Ran}
 use Rattle.ir_run.proofs.Runs.{followed_none, followed_more, ran_all, ran_stop, ran_cut}
 use Rattle.ir_run.proofs.state.State.run.Goals as goal

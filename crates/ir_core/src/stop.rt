@@ -1,6 +1,6 @@
 //! How a step stops a run.
 
-use ir_core::memory::Reason;
+use crate::memory::Reason;
 
 /// How a step stops a run. `Malformed` comes only where a module that isn't valid has no step.
 #[derive(Clone, Copy)]

@@ -2,8 +2,8 @@
 use Rattle.std.specs.Prelude.{◌≡◌, Result, Ok, Err}
 use Rattle.ir_core.specs.Stops.{Answer}
 use Rattle.ir_core.specs.Stops as stop
-use Rattle.ir_memory.specs.declared.stop.Stop.{Stop}
-use Rattle.ir_memory.specs.declared.stop.Stop.TheVariants.{Ended, Divide, Trap, Depth, Left, Malformed}
+use Rattle.ir_core.specs.declared.stop.Stop.{Stop}
+use Rattle.ir_core.specs.declared.stop.Stop.TheVariants.{Ended, Divide, Trap, Depth, Left, Malformed}
 
 -- a stop by the word of the definition
 abbrev pub stop_of : Stop → stop.Stop
