@@ -9,8 +9,8 @@ ghost use Rattle.rd_num.specs.Number.{bits};
 ghost use Rattle.ir_core.specs.Arithmetic.{modulus, is_negative as negative_in, negated as negated_in, magnitude as magnitude_in, signed_quotient as quotient_in, signed_remainder as remainder_in, sign_shifted, divides_by_zero, overflows, binary as binary_in, biased as biased_in, compared as compared_in, cast as cast_in};
 ghost use Rattle.ir_core.specs.Answers.{answered};
 
-use ir_core::stop::Stop;
 use ir_core::instruction::{BinOp, CastOp, Pred};
+use ir_core::stop::Stop;
 use ir_core::values::{greatest, half};
 use rd_num::width::{Width, wrap};
 

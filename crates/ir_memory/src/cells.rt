@@ -15,9 +15,9 @@ ghost use Rattle.ir_core.specs.Memory.{same_value as same_values, pointer_cells 
 ghost use Rattle.ir_core.specs.Answers.{answered};
 ghost use Rattle.ir_memory.specs.Reads.{same_cell as same_two, with_low_byte, row_read};
 
-use ir_core::stop::Stop;
 use ir_core::kind::Kind;
 use ir_core::memory::{Cell, Reason, Value};
+use ir_core::stop::Stop;
 use rd_num::width::{Width, wrap};
 
 /// What a value is stored as: the first `count` of these cells.

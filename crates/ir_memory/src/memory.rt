@@ -15,10 +15,10 @@ ghost use Rattle.ir_memory.specs.Ranges.{put_at, run_at, copied_some, without_pl
 use crate::cells::stored_as;
 use crate::object::Object;
 use crate::pointer::pointers_compared;
-use ir_core::stop::Stop;
 use ir_core::instruction::Pred;
 use ir_core::kind::Kind;
 use ir_core::memory::{Cell, Reason, Value};
+use ir_core::stop::Stop;
 use rd_num::width::NoMemory;
 use std::alloc::Global;
 use std::marker::Model;

@@ -12,9 +12,9 @@ ghost use Rattle.ir_core.specs.Answers.{stop_of, answered, answered_as};
 ghost use Rattle.ir_memory.specs.Ranges.{whole, inside, writable as can_write, loaded, put as put_in, put_run, copied_part, without_target, copied_over, copied_inside};
 
 use crate::cells::{kind_bytes, read};
-use ir_core::stop::Stop;
 use ir_core::kind::Kind;
 use ir_core::memory::{Cell, Reason, Value};
+use ir_core::stop::Stop;
 use rd_num::width::NoMemory;
 use std::alloc::Global;
 use std::marker::Model;

@@ -9,9 +9,9 @@ ghost use Rattle.ir_core.specs.Answers.{answered};
 
 use crate::arithmetic::compared;
 use crate::object::Object;
-use ir_core::stop::Stop;
 use ir_core::instruction::Pred;
 use ir_core::memory::{Reason, Value};
+use ir_core::stop::Stop;
 use rd_num::width::Width;
 
 /// Whether an offset is inside of a live object.

@@ -10,8 +10,8 @@ ghost use Rattle.ir_core.specs.Stops.{Left as LeftStop, found_or};
 ghost use Rattle.ir_core.specs.Answers.{answered};
 ghost use Rattle.ir_memory.specs.Registers.{register, with_register};
 
-use ir_core::stop::Stop;
 use ir_core::memory::{Reason, Value};
+use ir_core::stop::Stop;
 use rd_num::width::NoMemory;
 use std::alloc::Global;
 use std::marker::Model;
