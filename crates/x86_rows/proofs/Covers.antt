@@ -1,6 +1,7 @@
 -- Segments that cover ranges, in numbers, and where a byte of a list of segments is found.
-use Rattle.std.proofs.Common.{◌≡◌, ℕ, zero, suc, ◌+◌, ◌-◌, ◌<◌, ◌≤◌, Bool, true, false, ◌&&◌, ◌||◌, nat_le, if◌then◌else◌, List, [], ◌∷◌, length, get_or, refl, ◌∙◌, ap, inl, inr, arith}
+use Rattle.std.proofs.Common.{◌≡◌, ℕ, zero, suc, ◌+◌, ◌-◌, ◌/◌, ◌%◌, ◌<◌, ◌≤◌, Bool, true, false, ◌&&◌, ◌||◌, nat_le, if◌then◌else◌, List, [], ◌∷◌, ◌++◌, length, get_or, drop, refl, sym, ◌∙◌, ap, inl, inr, arith}
 use Rattle.std.proofs.lemmas.Bool.{cases_Bool, or_cases, and_parts, and_from, leb-true, le-leb, both_ways}
+use Rattle.rd_num.specs.Number.{le_bytes}
 use Rattle.x86_core.specs.declared.image.Segment.{Segment}
 use Rattle.x86_core.specs.declared.image.Rights.{Rights}
 use Rattle.x86_core.specs.Memory.{covers, one_covers}
@@ -60,9 +61,9 @@ range_is ss (b ∷ bs) p each =
 pub covered_has : (right : Rights → Bool) (ss : List Segment) (at n p : ℕ) → one_covers right ss at n ≡ true → at ≤ p → p < at + n → has_address ss p ≡ true
 covered_has right [] at n p e from to = absurd (cc)
 covered_has right (s ∷ ss) at n p e from to = elim (or_cases (right s.rights && covers s at n) (one_covers right ss at n) e) [
-    | inl here ↦ ap (λ b. b || has_address ss p) (covers_each s at n p (and_parts (right s.rights) (covers s at n) here).1 from to)
-    | inr behind ↦ either (covers s p 1) (has_address ss p) (covered_has right ss at n p behind from to)
-  ]
+  | inl here ↦ ap (λ b. b || has_address ss p) (covers_each s at n p (and_parts (right s.rights) (covers s at n) here).1 from to)
+  | inr behind ↦ either (covers s p 1) (has_address ss p) (covered_has right ss at n p behind from to)
+]
   where
     either : (a b : Bool) → b ≡ true → (a || b) ≡ true
     either true b e = refl
@@ -71,14 +72,38 @@ covered_has right (s ∷ ss) at n p e from to = elim (or_cases (right s.rights &
 -- and a segment before the one that covers it has none of them
 pub none_before : (right : Rights → Bool) (s : Segment) (ss : List Segment) (at n p : ℕ) → AreDisjoint (s ∷ ss) → one_covers right ss at n ≡ true → at ≤ p → p < at + n → covers s p 1 ≡ false
 none_before right s ss at n p apart e from to = elim (cases_Bool (covers s p 1)) [
-    | inl here ↦ absurd (both_ways (has_address ss p) (apart.0 p here) (covered_has right ss at n p e from to))
-    | inr none ↦ none
-  ]
+  | inl here ↦ absurd (both_ways (has_address ss p) (apart.0 p here) (covered_has right ss at n p e from to))
+  | inr none ↦ none
+]
 
 -- so it doesn't cover the range, whatever its rights are
 pub not_here : (right : Bool) (s : Segment) (at n : ℕ) → 1 ≤ n → covers s at 1 ≡ false → (right && covers s at n) ≡ false
 not_here false s at n some e = refl
 not_here true s at n some e = elim (cases_Bool (covers s at n)) [
-    | inl all ↦ absurd (both_ways (covers s at 1) e (covers_each s at n at all (omega arith) (omega (arith, some))))
-    | inr less ↦ less
-  ]
+  | inl all ↦ absurd (both_ways (covers s at 1) e (covers_each s at n at all (omega arith) (omega (arith, some))))
+  | inr less ↦ less
+]
+
+-- a range, and the one behind it
+pub range-add : (ss : List Segment) (p n m : ℕ) → range_at ss p (n + m) ≡ range_at ss p n ++ range_at ss (p + n) m
+range-add ss p zero m =
+    let start : p ≡ p + 0 = omega arith in
+    let count : 0 + m ≡ m = omega arith in
+    ap (range_at ss p) count ∙ ap (λ q. range_at ss q m) start
+range-add ss p (suc n) m =
+    let next : p + 1 + n ≡ p + suc n = omega arith in
+    let count : suc n + m ≡ suc (n + m) = omega arith in
+    ap (range_at ss p) count ∙
+    ap (λ bs. byte_at ss p ∷ bs) (range-add ss (p + 1) n m ∙ ap (λ q. range_at ss (p + 1) n ++ range_at ss q m) next)
+
+pub range_length : (ss : List Segment) (p n : ℕ) → length (range_at ss p n) ≡ n
+range_length ss p zero = refl
+range_length ss p (suc n) = ap suc (range_length ss (p + 1) n)
+
+-- the low bytes of a number stand at the beginning of its range
+pub range_begins : (ss : List Segment) (p k more n : ℕ) → range_at ss p (k + more) ≡ le_bytes (k + more) n → range_at ss p k ≡ le_bytes k n
+range_begins ss p zero more n e = refl
+range_begins ss p (suc k) more n e =
+    let count : suc k + more ≡ suc (k + more) = omega arith in
+    let both : byte_at ss p ∷ range_at ss (p + 1) (k + more) ≡ n % 256 ∷ le_bytes (k + more) (n / 256) = sym (ap (range_at ss p) count) ∙ e ∙ ap (λ j. le_bytes j n) count in
+    ap (λ b. b ∷ range_at ss (p + 1) k) (ap (λ bs. get_or bs 0 0) both) ∙ ap (λ bs. n % 256 ∷ bs) (range_begins ss (p + 1) k more (n / 256) (ap (drop 1) both))

@@ -4,3 +4,6 @@ pub mod Replaced
 pub mod Shapes
 pub mod Writing
 pub mod Rows
+pub mod Leaves
+pub mod Numbers
+pub mod Worked

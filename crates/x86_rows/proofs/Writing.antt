@@ -69,9 +69,9 @@ written_behind s ss at bs apart some allowed w =
 pub write_range : (ss : List Segment) (at : ℕ) (bs : List ℕ) → AreDisjoint ss → 1 ≤ length bs → one_covers writes ss at (length bs) ≡ true → Written ss at bs
 write_range [] at bs apart some e = absurd (cc)
 write_range (s ∷ ss) at bs apart some e = elim (or_cases (writes s.rights && covers s at (length bs)) (one_covers writes ss at (length bs)) e) [
-    | inl here ↦ written_first s ss at bs here
-    | inr behind ↦ written_behind s ss at bs apart some behind (write_range ss at bs apart.1 some behind)
-  ]
+  | inl here ↦ written_first s ss at bs here
+  | inr behind ↦ written_behind s ss at bs apart some behind (write_range ss at bs apart.1 some behind)
+]
 
 -- no segment covers it that may be written
 pub write_refused : (ss : List Segment) (at : ℕ) (bs : List ℕ) → one_covers writes ss at (length bs) ≡ false → write_at ss at bs ≡ None
