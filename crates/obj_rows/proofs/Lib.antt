@@ -1,3 +1,5 @@
 pub mod Rows
 pub mod Links
 pub mod Passing
+pub mod Fetching
+pub mod Runs
