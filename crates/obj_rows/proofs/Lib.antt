@@ -3,3 +3,6 @@ pub mod Links
 pub mod Passing
 pub mod Fetching
 pub mod Runs
+pub mod Branches
+pub mod Words
+pub mod Slots
