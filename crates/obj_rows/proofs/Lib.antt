@@ -6,3 +6,4 @@ pub mod Runs
 pub mod Branches
 pub mod Words
 pub mod Slots
+pub mod Kernel
