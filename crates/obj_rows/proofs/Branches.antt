@@ -1,16 +1,15 @@
 -- Branches, and jumps to words, where they stand in a function.
-use Rattle.std.proofs.Common.{◌≡◌, ℕ, ◌+◌, ◌^◌, ◌<◌, ◌≤◌, Bool, true, false, List, [], ◌∷◌, Option, Some, None, refl, sym, ◌∙◌, ap, lit≤, arith}
-use Rattle.std.specs.Prelude.{ℤ, ◌%◌}
+use Rattle.std.proofs.Common.{◌≡◌, ℕ, ◌+◌, ◌^◌, ◌<◌, Bool, true, false, List, [], ◌∷◌, Option, Some, None, ◌∙◌, ap, lit≤, arith}
+use Rattle.std.specs.Prelude.{ℤ}
 use Rattle.behavior.specs.Ending.{Strayed}
 use Rattle.rd_num.specs.Number.{le_bytes, le_number}
 use Rattle.x86_core.specs.declared.reg.Reg.TheVariants.{Rsp, R11}
 use Rattle.x86_core.specs.declared.instr.Cond.{Cond}
-use Rattle.x86_core.specs.declared.instr.Instr.{Instr}
 use Rattle.x86_core.specs.declared.instr.Instr.TheVariants.{Jcc, Jmp, JmpR11, Ret}
 use Rattle.x86_core.specs.Registers.{word}
-use Rattle.x86_core.specs.Arithmetic.{holds, moved}
+use Rattle.x86_core.specs.Arithmetic.{holds}
 use Rattle.x86_core.specs.Memory.{reads, one_covers, read_at}
-use Rattle.x86_core.specs.Step.{State, act, tested, landed, returned}
+use Rattle.x86_core.specs.Step.{State, tested, landed, returned}
 use Rattle.x86_rows.specs.Addresses.{range_at, AreDisjoint}
 use Rattle.x86_rows.specs.Straight.{Core}
 use Rattle.x86_rows.proofs.Reading.{read_range}

@@ -1,12 +1,10 @@
 -- What the machine of an object fetches and does where an instruction of a row stands.
-use Rattle.std.proofs.Common.{◌≡◌, ℕ, ◌+◌, List, [], ◌∷◌, ◌++◌, length, refl, sym, ◌∙◌, ap, subst, arith}
-use Rattle.x86_core.specs.declared.instr.Instr.{Instr}
+use Rattle.std.proofs.Common.{◌≡◌, ℕ, ◌+◌, List, [], ◌∷◌, ◌++◌, sym, ◌∙◌, ap, subst, arith}
 use Rattle.x86_core.specs.Encoding.{IsInstr}
-use Rattle.x86_core.specs.Step.{State, Fetched, sorted, act}
+use Rattle.x86_core.specs.Step.{Fetched, sorted, act}
 use Rattle.x86_rows.specs.Straight.{Core}
 use Rattle.obj_core.specs.declared.object.Object.{Object}
 use Rattle.obj_core.specs.declared.object.Place.{Place}
-use Rattle.obj_core.specs.Object.{Each}
 use Rattle.obj_core.specs.Disassembly.{size_of, spelled}
 use Rattle.obj_core.specs.SymbolicMachine.{target, link_before, symbolic_fetch, symbolic_land, symbolic_step}
 use Rattle.obj_core.proofs.Spelling.{spelled-append, each_right}

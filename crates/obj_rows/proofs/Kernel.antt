@@ -1,10 +1,9 @@
 -- System calls: what registers ask for, and what a step at the slot gives.
-use Rattle.std.proofs.Common.{◌≡◌, ℕ, suc, ◌+◌, ◌<◌, ◌≤◌, Bool, true, false, ◌&&◌, nat_eq, min, if◌then◌else◌, List, [], ◌∷◌, ◌++◌, Option, Some, None, refl, sym, ◌∙◌, ap, arith}
+use Rattle.std.proofs.Common.{◌≡◌, ℕ, ◌+◌, ◌≤◌, true, ◌&&◌, nat_eq, min, if◌then◌else◌, List, [], ◌∷◌, ◌++◌, Some, refl, sym, ◌∙◌, ap, arith}
 use Rattle.std.specs.Prelude.{slice_get, ◌%◌}
 use Rattle.std.proofs.lemmas.Bool.{ne_eqb}
-use Rattle.behavior.specs.Ending.{Ended, BadCall}
+use Rattle.behavior.specs.Ending.{Ended}
 use Rattle.x86_core.specs.declared.reg.Reg.TheVariants.{Rax, Rdi, Rsi, Rdx}
-use Rattle.x86_core.specs.declared.image.Segment.{Segment}
 use Rattle.x86_core.specs.Registers.{word}
 use Rattle.x86_core.specs.Memory.{reads, one_covers, read_at, write_at}
 use Rattle.x86_core.specs.Step.{State, Request, Exits, Idles, Prints, Takes, Unknowns, request_of, served, after_print, after_take}

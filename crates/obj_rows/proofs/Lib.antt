@@ -7,3 +7,4 @@ pub mod Branches
 pub mod Words
 pub mod Slots
 pub mod Kernel
+pub mod Worked

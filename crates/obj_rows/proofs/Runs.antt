@@ -1,10 +1,9 @@
 -- Rows that are passed, and rows that stop, on the machine of an object.
-use Rattle.std.proofs.Common.{◌≡◌, ℕ, zero, suc, ◌+◌, ◌≤◌, false, List, [], ◌∷◌, ◌++◌, length, refl, sym, ◌∙◌, ap, subst, arith}
+use Rattle.std.proofs.Common.{◌≡◌, ℕ, zero, suc, ◌+◌, false, List, [], ◌∷◌, length, refl, sym, ◌∙◌, ap, subst, arith}
 use Rattle.behavior.specs.Ending.{Ending, is_going}
 use Rattle.behavior.specs.Moment.{HasStopped}
 use Rattle.behavior.specs.System.{iter}
 use Rattle.behavior.specs.Simulation.{Comes}
-use Rattle.x86_core.specs.declared.instr.Instr.{Instr}
 use Rattle.x86_core.specs.Step.{State, moment_of, act}
 use Rattle.x86_core.proofs.Steps.{step_stays}
 use Rattle.x86_rows.specs.Straight.{Core, Passage, Through, Stopped, Away, ran, and_on, exec}

@@ -1,12 +1,11 @@
 -- What a step does at each kind of slot.
-use Rattle.std.proofs.Common.{◌≡◌, ℕ, ◌+◌, ◌<◌, ◌≤◌, Bool, true, List, [], ◌∷◌, length, Option, Some, None, refl, sym, ◌∙◌, ap, subst, lit≤}
+use Rattle.std.proofs.Common.{◌≡◌, ℕ, ◌+◌, Some, sym, ◌∙◌, ap, subst}
 use Rattle.std.specs.Prelude.{ℤ, slice_get}
 use Rattle.behavior.specs.System.{iter}
 use Rattle.behavior.proofs.Between.{iter_add}
 use Rattle.rd_num.specs.Number.{le_bytes}
-use Rattle.x86_core.specs.declared.reg.Reg.TheVariants.{Rsp, R11}
+use Rattle.x86_core.specs.declared.reg.Reg.TheVariants.{R11}
 use Rattle.x86_core.specs.declared.instr.Instr.TheVariants.{Nop}
-use Rattle.x86_core.specs.declared.image.Segment.{Segment}
 use Rattle.x86_core.specs.Registers.{word}
 use Rattle.x86_core.specs.Memory.{write_at}
 use Rattle.x86_core.specs.Step.{State, Plain, act, called, called_word, below, request_of, served}

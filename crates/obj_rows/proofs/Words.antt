@@ -1,5 +1,5 @@
 -- The words by which a run comes to a slot.
-use Rattle.std.proofs.Common.{◌≡◌, ℕ, zero, suc, ◌+◌, ◌*◌, ◌^◌, ◌<◌, ◌≤◌, List, [], ◌∷◌, length, Some, refl, ◌∙◌, inl, inr, arith}
+use Rattle.std.proofs.Common.{◌≡◌, ℕ, zero, suc, ◌+◌, ◌^◌, ◌<◌, ◌≤◌, List, [], ◌∷◌, length, Some, refl, inl, inr, arith}
 use Rattle.std.specs.Prelude.{slice_get}
 use Rattle.rd_draw.specs.Draw.{keystream_word}
 use Rattle.obj_core.specs.declared.object.Object.{Object}
