@@ -1,5 +1,5 @@
 -- A small object as rows: what is spelled, linked and run.
-use Rattle.std.proofs.Common.{◌≡◌, false, List, [], ◌∷◌, ◌++◌, refl}
+use Rattle.std.proofs.Common.{◌≡◌, lit≤, false, List, [], ◌∷◌, ◌++◌, refl}
 use Rattle.std.specs.Prelude.{replicate, pos}
 use Rattle.behavior.specs.Ending.{Ended, Divide}
 use Rattle.behavior.specs.System.{iter}
@@ -19,8 +19,10 @@ use Rattle.obj_core.specs.declared.object.Slot.{Slot}
 use Rattle.obj_core.specs.declared.object.Place.{Place}
 use Rattle.obj_core.specs.Disassembly.{spelled}
 use Rattle.obj_core.specs.SymbolicMachine.{symbolic_step}
-use Rattle.obj_rows.specs.Marked.{Marked, unlinked, linked, all_unlinked, instrs_of, row_size, links_from, Stands}
+use Rattle.obj_rows.specs.Marked.{Marked, unlinked, linked, all_unlinked, instrs_of, row_size, links_from, Stands, IsFunction}
 use Rattle.obj_rows.specs.Standing.{Outside, standing, shown}
+use Rattle.obj_rows.proofs.Rows.{stands_whole, stands_first}
+use Rattle.obj_rows.proofs.Runs.{row_through, row_stops}
 
 -- two constants, a branch over a division, and a jump to the exit
 abbrev constants : List Marked
@@ -59,6 +61,16 @@ main_links = refl
 main_size : row_size main ≡ 26
 main_size = refl
 
+-- so the object's function is this row
+main_is : IsFunction object 0 main
+main_is = record {
+  function = function;
+  there = refl;
+  bytes = refl;
+  links = refl;
+  is_row = ((lit≤ tt, tt), ((lit≤ tt, tt), ((lit≤ tt, tt), ((tt, tt), ((lit≤ tt, refl), ((tt, tt), tt))))));
+}
+
 -- the jump stands behind the division
 jump_stands : Stands main 19 (linked (Jmp (pos 0)) 1 ∷ [])
 jump_stands = record { before = constants ++ (unlinked (Jcc Cond.E (pos 3)) ∷ unlinked (Div false Size.W64 Rcx) ∷ []); behind = unlinked Ud2 ∷ []; split = refl; offset = refl }
@@ -74,6 +86,15 @@ out = record { left = []; printed = []; taken = 0 }
 two_steps : iter (symbolic_step object) 2 (standing out (Place.Code 0 0) start) ≡ standing out (Place.Code 0 10) (record start { regs = 60 ∷ replicate 6 0 ++ 7 ∷ replicate 8 0 })
 unfolding decode effect_of
 two_steps = refl
+
+-- the same by the laws
+two_by_law : iter (symbolic_step object) 2 (standing out (Place.Code 0 0) start) ≡ standing out (Place.Code 0 10) (record start { regs = 60 ∷ replicate 6 0 ++ 7 ∷ replicate 8 0 })
+unfolding effect_of
+two_by_law = row_through object 0 main main_is out constants 0 start (record start { regs = 60 ∷ replicate 6 0 ++ 7 ∷ replicate 8 0 }) (stands_first main 0 constants others (stands_whole main)) refl
+
+stops_by_law : moment_of (iter (symbolic_step object) 6 (standing out (Place.Code 0 0) start)) ≡ shown out Divide
+unfolding effect_of
+stops_by_law = row_stops object 0 main main_is out main 0 start Divide (stands_whole main) refl
 
 four_steps : moment_of (iter (symbolic_step object) 4 (standing out (Place.Code 0 0) start)) ≡ shown out Divide
 unfolding decode effect_of
