@@ -1,7 +1,7 @@
 -- What one instruction does to a machine with places is what it does to registers, flags and segments alone.
 use Rattle.std.proofs.Common.{◌≡◌, ℕ, Bool, true, false, List, Option, Some, None, refl}
 use Rattle.std.specs.Prelude.{ℤ}
-use Rattle.behavior.specs.Ending.{Ending, is_going}
+use Rattle.behavior.specs.Ending.{is_going}
 use Rattle.rd_num.specs.Number.{le_bytes}
 use Rattle.x86_core.specs.declared.reg.Reg.{Reg}
 use Rattle.x86_core.specs.declared.instr.Size.{Size}

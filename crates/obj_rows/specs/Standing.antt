@@ -6,7 +6,7 @@ use Rattle.x86_core.specs.declared.image.Segment.{Segment}
 use Rattle.x86_core.specs.declared.reg.Reg.TheVariants.{Rsp}
 use Rattle.x86_core.specs.Registers.{with_word}
 use Rattle.x86_core.specs.Effect.{with_stack}
-use Rattle.x86_core.specs.Step.{State}
+use Rattle.x86_core.specs.Step.{State, answered}
 use Rattle.x86_rows.specs.Straight.{Core}
 use Rattle.obj_core.specs.declared.object.Place.{Place}
 
@@ -40,3 +40,7 @@ pushed c at segments = record c { regs = with_word c.regs Rsp at; segments = seg
 -- after eight bytes were taken from the stack
 abbrev pub popped : Core → Core
 popped c = record c { regs = with_stack c.regs (pos 8) }
+
+-- after a system call, with its answer, the number of the place behind it, and the flags in three registers
+abbrev pub after_call : Core → ℕ → ℕ → Core
+after_call c answer back = record c { regs = answered c.regs c.flags answer back }
