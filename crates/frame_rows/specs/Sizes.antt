@@ -1,0 +1,14 @@
+-- How long rows are, and which instructions there are.
+use Rattle.std.specs.Prelude.{ℕ, ◌+◌, ◌<◌, ◌^◌, List, [], ◌∷◌, length}
+use Rattle.x86_core.specs.declared.instr.Instr.{Instr}
+use Rattle.x86_core.specs.Encoding.{encoding, IsInstr}
+
+-- the bytes of a row
+abbrev pub row_bytes : List Instr → ℕ
+row_bytes [] = 0
+row_bytes (i ∷ row) = length (encoding i) + row_bytes row
+
+-- constants and displacements are in range everywhere in a row
+abbrev pub AreInstrs : List Instr → Type 0
+AreInstrs [] = Unit {0}
+AreInstrs (i ∷ row) = IsInstr i × AreInstrs row
