@@ -6,3 +6,6 @@ pub mod Leaves
 pub mod Numbers
 pub mod Plain
 pub mod Meeting
+pub mod Accesses
+pub mod Stores
+pub mod Simple
