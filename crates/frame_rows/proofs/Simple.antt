@@ -10,7 +10,6 @@ use Rattle.ir_core.specs.Stops.{Left, Malformed, Answer, and_then, found_or}
 use Rattle.x86_core.specs.declared.flags.Flags.{Flags}
 use Rattle.x86_core.specs.declared.reg.Reg.TheVariants.{Rax}
 use Rattle.x86_core.specs.declared.image.Segment.{Segment}
-use Rattle.x86_core.specs.declared.instr.Instr.{Instr}
 use Rattle.x86_core.specs.declared.instr.Instr.TheVariants as do_
 use Rattle.x86_rows.proofs.Rows.{exec-first}
 use Rattle.low_core.specs.declared.sel.Sel.{Sel}
@@ -76,12 +75,9 @@ module _ (homes : ℕ → Spot) (base words own : ℕ) (plan : Plan) (live after
   pub load_law : (wi : Width) (r x : ℕ) → Law (Load wi r x)
   load_law wi r x ready a = one_met homes base words live after s f callers spans w fl ss tied (op_row homes plan own (Load wi r x)) r x (λ at. word_at (record { spans = spans; bytes = s.bytes }) at (bytes_of wi)) by_word
     where
-      abbrev row : List Instr
-      row = result_row homes plan own (Load wi r x)
-
       by_word : (at : ℕ) → word_in f.registers x ≡ Ok at → Met homes base words live after s f callers spans w fl ss (op_row homes plan own (Load wi r x)) (given homes base words live after s f callers spans w fl ss r (word_at (record { spans = spans; bytes = s.bytes }) at (bytes_of wi)))
       by_word at is = elim (load_cases (record { spans = spans; bytes = s.bytes }) at (bytes_of wi)) [
-        | inl p ↦ made_met homes base words live after s f callers spans w fl ss tied r row (word_at (record { spans = spans; bytes = s.bytes }) at (bytes_of wi)) p.0 (free_of homes base words live after (Load wi r x) r a refl) p.1.0
+        | inl p ↦ made_met homes base words live after s f callers spans w fl ss tied r (result_row homes plan own (Load wi r x)) (word_at (record { spans = spans; bytes = s.bytes }) at (bytes_of wi)) p.0 (free_of homes base words live after (Load wi r x) r a refl) p.1.0
             (load_small homes base words live f.registers (record { spans = spans; bytes = s.bytes }) w fl ss tied wi at p.0 p.1.1) (load_makes homes base words live f.registers (record { spans = spans; bytes = s.bytes }) w fl ss tied wi x at p.0 (a.reads x (inl refl)) is p.1.1)
         | inr q ↦ elim q [
           | inl e ↦ left_met homes base words live after s f callers spans w fl ss (op_row homes plan own (Load wi r x)) r _ (Left Bounds) e refl
