@@ -9,3 +9,4 @@ pub mod Meeting
 pub mod Accesses
 pub mod Stores
 pub mod Simple
+pub mod Compares
