@@ -10,3 +10,4 @@ pub mod Accesses
 pub mod Stores
 pub mod Simple
 pub mod Compares
+pub mod Choices
