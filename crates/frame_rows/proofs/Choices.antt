@@ -87,7 +87,7 @@ module _ (w : Words) (f : Flags) (ss : List Segment) where
   bit_runs = refl
 
   -- nothing in rax
-  zero_passes : Passes (Alu AluOp.Sub Wide.W32 Rax Rax) w f ss (record w { rax = (w.rax % 2 ^ 32 + 2 ^ 32 - w.rax % 2 ^ 32) % 2 ^ 32 })
+  pub zero_passes : Passes (Alu AluOp.Sub Wide.W32 Rax Rax) w f ss (record w { rax = (w.rax % 2 ^ 32 + 2 ^ 32 - w.rax % 2 ^ 32) % 2 ^ 32 })
   unfolding effect_of
   zero_passes = record { flags = _; runs = refl }
 

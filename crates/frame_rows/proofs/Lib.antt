@@ -11,3 +11,5 @@ pub mod Stores
 pub mod Simple
 pub mod Compares
 pub mod Choices
+pub mod Extends
+pub mod Chosen

@@ -174,7 +174,7 @@ from_top W16 q lt = omega arith
 from_top W32 q lt = omega arith
 from_top W64 q lt = omega arith
 
-modulus_some : (w : Width) → 0 < modulus w
+pub modulus_some : (w : Width) → 0 < modulus w
 modulus_some W1 = omega arith
 modulus_some W8 = omega arith
 modulus_some W16 = omega arith
