@@ -13,3 +13,4 @@ pub mod Compares
 pub mod Choices
 pub mod Extends
 pub mod Chosen
+pub mod Division

@@ -137,7 +137,7 @@ by_not_least m n x y lt = ap (λ b. if b then x else y) (lt-leb m n lt)
 abbrev pub half : Width → ℕ
 half w = 2 ^ (bits w - 1)
 
-two_halves : (w : Width) → half w + half w ≡ modulus w
+pub two_halves : (w : Width) → half w + half w ≡ modulus w
 two_halves W1 = refl
 two_halves W8 = refl
 two_halves W16 = refl
