@@ -14,3 +14,4 @@ pub mod Choices
 pub mod Extends
 pub mod Chosen
 pub mod Division
+pub mod Divides
