@@ -114,12 +114,12 @@ module _ (w : Words) (f : Flags) (ss : List Segment) where
   div_passes signed size d after e is = record { flags = unknown_flags; runs = ap (λ o. by_change (divided size (in_order w) f o) ss) e ∙ ap (λ l. Through (record { regs = l; flags = unknown_flags; segments = ss })) is }
 
   -- the division and what is done to its answer, where it is that of the language
-  div_answers : (signed rest : Bool) (size : Size) (wi : Width) (row : List Instr) (after : Division → Words) → size_bits size ≡ bits wi → Agrees signed wi (dividend size (in_order w)) (low_bits wi w.rax) (low_bits wi w.rcx) → ((d : Division) → with_division size (in_order w) d ≡ in_order (after d)) → ((d : Division) → Same w (after d)) →
-      ((d : Division) → d.quotient < modulus wi → d.remainder < modulus wi → (g : Flags) → Makes row (after d) g ss (part rest d)) → Answers (Div signed size Rcx ∷ row) w f ss (binary (division signed rest) wi (low_bits wi w.rax) (low_bits wi w.rcx))
-  div_answers signed rest size wi row after bits_same (NoAnswer e none) regs same makes =
+  div_answers : (signed rest : Bool) (size : Size) (wi : Width) (row : List Instr) (after : Division → Words) (a : ℕ) → size_bits size ≡ bits wi → Agrees signed wi (dividend size (in_order w)) a (low_bits wi w.rcx) → ((d : Division) → with_division size (in_order w) d ≡ in_order (after d)) → ((d : Division) → Same w (after d)) →
+      ((d : Division) → d.quotient < modulus wi → d.remainder < modulus wi → (g : Flags) → Makes row (after d) g ss (part rest d)) → Answers (Div signed size Rcx ∷ row) w f ss (binary (division signed rest) wi a (low_bits wi w.rcx))
+  div_answers signed rest size wi row after a bits_same (NoAnswer e none) regs same makes =
       let z : x86.division signed (size_bits size) (dividend size (in_order w)) (w.rcx % 2 ^ size_bits size) ≡ None = ap (λ k. x86.division signed k (dividend size (in_order w)) (w.rcx % 2 ^ k)) bits_same ∙ e in
       Stops (none rest) (ap (λ r. and_on r (exec row)) (div_stops signed size z))
-  div_answers signed rest size wi row after bits_same (SameAnswer d e hq hr some) regs same makes =
+  div_answers signed rest size wi row after a bits_same (SameAnswer d e hq hr some) regs same makes =
       let z : x86.division signed (size_bits size) (dividend size (in_order w)) (w.rcx % 2 ^ size_bits size) ≡ Some d = ap (λ k. x86.division signed k (dividend size (in_order w)) (w.rcx % 2 ^ k)) bits_same ∙ e in
       let p = div_passes signed size d (after d) z (regs d) in
       Gives (part rest d) (some rest) (small rest) (makes_after (Div signed size Rcx) row w f ss (after d) (part rest d) p (same d) (makes d hq hr p.flags))
@@ -164,3 +164,158 @@ module _ (w : Words) (f : Flags) (ss : List Segment) where
       (makes_after (Mov Wide.W64 Rax (if rest then Rdx else Rax)) (cut wi Rax ∷ []) w f ss w1 _ p (scratch_same w k w.rcx w.rdx)
       (makes_one (cut wi Rax) w1 p.flags ss (record w { rax = k % modulus wi }) (cut_passes w1 p.flags ss wi Rax) (scratch_same w1 _ w.rcx w.rdx)))
 
+-- the words after a division
+abbrev after_division : Size → Words → Division → Words
+after_division Size.W8 w d = record w { rax = w.rax / 2 ^ 16 * 2 ^ 16 + (d.remainder * 2 ^ 8 + d.quotient) }
+after_division Size.W16 w d = record w { rax = w.rax / 2 ^ 16 * 2 ^ 16 + d.quotient; rdx = w.rdx / 2 ^ 16 * 2 ^ 16 + d.remainder }
+after_division Size.W32 w d = record w { rax = d.quotient; rdx = d.remainder }
+after_division Size.W64 w d = record w { rax = d.quotient; rdx = d.remainder }
+
+registers_after : (size : Size) (w : Words) (d : Division) → with_division size (in_order w) d ≡ in_order (after_division size w d)
+registers_after Size.W8 w d = refl
+registers_after Size.W16 w d = refl
+registers_after Size.W32 w d = refl
+registers_after Size.W64 w d = refl
+
+same_after : (size : Size) (w : Words) (d : Division) → Same w (after_division size w d)
+same_after Size.W8 w d = record { rbx = refl; rbp = refl; rsp = refl; r12 = refl; r13 = refl; r14 = refl; r15 = refl }
+same_after Size.W16 w d = record { rbx = refl; rbp = refl; rsp = refl; r12 = refl; r13 = refl; r14 = refl; r15 = refl }
+same_after Size.W32 w d = record { rbx = refl; rbp = refl; rsp = refl; r12 = refl; r13 = refl; r14 = refl; r15 = refl }
+same_after Size.W64 w d = record { rbx = refl; rbp = refl; rsp = refl; r12 = refl; r13 = refl; r14 = refl; r15 = refl }
+
+part_of16 : (rest : Bool) (w : Words) (d : Division) → d.quotient < 2 ^ 16 → d.remainder < 2 ^ 16 → (if rest then (after_division Size.W16 w d).rdx else (after_division Size.W16 w d).rax) % 2 ^ 64 % 2 ^ 16 ≡ part rest d
+part_of16 true w d hq hr = omega (arith, hr)
+part_of16 false w d hq hr = omega (arith, hq)
+
+part_of32 : (rest : Bool) (w : Words) (d : Division) → d.quotient < 2 ^ 32 → d.remainder < 2 ^ 32 → (if rest then (after_division Size.W32 w d).rdx else (after_division Size.W32 w d).rax) % 2 ^ 64 % 2 ^ 32 ≡ part rest d
+part_of32 true w d hq hr = omega (arith, hr)
+part_of32 false w d hq hr = omega (arith, hq)
+
+part_of64 : (rest : Bool) (w : Words) (d : Division) → d.quotient < 2 ^ 64 → d.remainder < 2 ^ 64 → (if rest then (after_division Size.W64 w d).rdx else (after_division Size.W64 w d).rax) % 2 ^ 64 % 2 ^ 64 ≡ part rest d
+part_of64 true w d hq hr = omega (arith, hr)
+part_of64 false w d hq hr = omega (arith, hq)
+
+-- the row behind the upper half
+module _ (w : Words) (f : Flags) (ss : List Segment) (signed rest : Bool) where
+  halves16 : Agrees signed W16 (dividend Size.W16 (in_order w)) (low_bits W16 w.rax) (low_bits W16 w.rcx) →
+      Answers (Div signed Size.W16 Rcx ∷ Mov Wide.W64 Rax (if rest then Rdx else Rax) ∷ cut W16 Rax ∷ []) w f ss (binary (division signed rest) W16 (low_bits W16 w.rax) (low_bits W16 w.rcx))
+  halves16 agrees =
+      div_answers w f ss signed rest Size.W16 W16 (Mov Wide.W64 Rax (if rest then Rdx else Rax) ∷ cut W16 Rax ∷ []) (after_division Size.W16 w) (low_bits W16 w.rax) refl agrees (registers_after Size.W16 w) (same_after Size.W16 w)
+      (λ d hq hr g. part_makes (after_division Size.W16 w d) g ss rest W16 (part rest d) (part_of16 rest w d hq hr))
+
+  halves32 : Agrees signed W32 (dividend Size.W32 (in_order w)) (low_bits W32 w.rax) (low_bits W32 w.rcx) →
+      Answers (Div signed Size.W32 Rcx ∷ Mov Wide.W64 Rax (if rest then Rdx else Rax) ∷ cut W32 Rax ∷ []) w f ss (binary (division signed rest) W32 (low_bits W32 w.rax) (low_bits W32 w.rcx))
+  halves32 agrees =
+      div_answers w f ss signed rest Size.W32 W32 (Mov Wide.W64 Rax (if rest then Rdx else Rax) ∷ cut W32 Rax ∷ []) (after_division Size.W32 w) (low_bits W32 w.rax) refl agrees (registers_after Size.W32 w) (same_after Size.W32 w)
+      (λ d hq hr g. part_makes (after_division Size.W32 w d) g ss rest W32 (part rest d) (part_of32 rest w d hq hr))
+
+  halves64 : Agrees signed W64 (dividend Size.W64 (in_order w)) (low_bits W64 w.rax) (low_bits W64 w.rcx) →
+      Answers (Div signed Size.W64 Rcx ∷ Mov Wide.W64 Rax (if rest then Rdx else Rax) ∷ cut W64 Rax ∷ []) w f ss (binary (division signed rest) W64 (low_bits W64 w.rax) (low_bits W64 w.rcx))
+  halves64 agrees =
+      div_answers w f ss signed rest Size.W64 W64 (Mov Wide.W64 Rax (if rest then Rdx else Rax) ∷ cut W64 Rax ∷ []) (after_division Size.W64 w) (low_bits W64 w.rax) refl agrees (registers_after Size.W64 w) (same_after Size.W64 w)
+      (λ d hq hr g. part_makes (after_division Size.W64 w d) g ss rest W64 (part rest d) (part_of64 rest w d hq hr))
+
+-- what follows a division of bytes
+abbrev byte_tail : Bool → List Instr
+byte_tail true = MovImm32 Rcx 8 ∷ Shift ShiftOp.Shr Wide.W32 Rax ∷ cut W8 Rax ∷ []
+byte_tail false = cut W8 Rax ∷ []
+
+-- the lowest byte of rax, or the next one
+module _ (w : Words) (g : Flags) (ss : List Segment) (d : Division) (hq : d.quotient < 2 ^ 8) (hr : d.remainder < 2 ^ 8) where
+  abbrev bytes : Words
+  bytes = after_division Size.W8 w d
+
+  low_byte : Makes (cut W8 Rax ∷ []) bytes g ss d.quotient
+  low_byte =
+      let e : bytes.rax % 2 ^ 8 ≡ d.quotient = omega (arith, hq) in
+      makes_is (cut W8 Rax ∷ []) bytes g ss (bytes.rax % 2 ^ 8) d.quotient e
+      (makes_one (cut W8 Rax) bytes g ss (record bytes { rax = bytes.rax % 2 ^ 8 }) (cut_passes bytes g ss W8 Rax) (scratch_same bytes _ w.rcx w.rdx))
+
+  next_byte : Makes (MovImm32 Rcx 8 ∷ Shift ShiftOp.Shr Wide.W32 Rax ∷ cut W8 Rax ∷ []) bytes g ss d.remainder
+  next_byte =
+      let w1 : Words = record bytes { rcx = 8 } in
+      let p = eight_passes bytes g ss in
+      let k = bytes.rax % 2 ^ 32 / 2 ^ 8 in
+      let w2 : Words = record w1 { rax = k } in
+      let q = shift_passes w1 p.flags ss ShiftOp.Shr Wide.W32 in
+      let e : k % 2 ^ 8 ≡ d.remainder = omega (arith, hq, hr) in
+      makes_is _ bytes g ss (k % 2 ^ 8) d.remainder e
+      (makes_after (MovImm32 Rcx 8) (Shift ShiftOp.Shr Wide.W32 Rax ∷ cut W8 Rax ∷ []) bytes g ss w1 _ p (scratch_same bytes bytes.rax 8 w.rdx)
+      (makes_after (Shift ShiftOp.Shr Wide.W32 Rax) (cut W8 Rax ∷ []) w1 p.flags ss w2 _ q (scratch_same w1 k 8 w.rdx)
+      (makes_one (cut W8 Rax) w2 q.flags ss (record w2 { rax = k % 2 ^ 8 }) (cut_passes w2 q.flags ss W8 Rax) (scratch_same w2 _ 8 w.rdx))))
+
+module _ (w : Words) (f : Flags) (ss : List Segment) (signed : Bool) (a : ℕ) (agrees : Agrees signed W8 (dividend Size.W8 (in_order w)) a (low_bits W8 w.rcx)) where
+  bytes_answer : (rest : Bool) → Answers (Div signed Size.W8 Rcx ∷ byte_tail rest) w f ss (binary (division signed rest) W8 a (low_bits W8 w.rcx))
+  bytes_answer true = div_answers w f ss signed true Size.W8 W8 (byte_tail true) (after_division Size.W8 w) a refl agrees (registers_after Size.W8 w) (same_after Size.W8 w) (λ d hq hr g. next_byte w g ss d hq hr)
+  bytes_answer false = div_answers w f ss signed false Size.W8 W8 (byte_tail false) (after_division Size.W8 w) a refl agrees (registers_after Size.W8 w) (same_after Size.W8 w) (λ d hq hr g. low_byte w g ss d hq hr)
+
+-- a number that is its own dividend
+plain_agrees : (w : Width) (n a b : ℕ) → n ≡ a → a < modulus w → Agrees false w n a b
+plain_agrees w n a b e lt = subst (λ k. Agrees false w k a b) (sym e) (unsigned_agrees w a b lt)
+
+module _ (w : Words) (f : Flags) (ss : List Segment) where
+  abbrev a_of : Width → ℕ
+  a_of wi = low_bits wi w.rax
+
+  abbrev b_of : Width → ℕ
+  b_of wi = low_bits wi w.rcx
+
+  byte_agrees : (signed : Bool) → Agrees signed W8 (fill_of signed W8 w.rax % 2 ^ 16) (a_of W8) (b_of W8)
+  byte_agrees true = signed_agrees W8 (sign_of W8 w.rax % 2 ^ 16) (a_of W8) (b_of W8) (mod-lt w.rax (modulus_some W8)) (mod-lt w.rcx (modulus_some W8)) (byte_double w.rax)
+  byte_agrees false = plain_agrees W8 (w.rax % 2 ^ 8 % 2 ^ 16) (a_of W8) (b_of W8) (omega arith) (mod-lt w.rax (modulus_some W8))
+
+  byte_answers : (signed rest : Bool) → Answers (div_row signed rest W8) w f ss (binary (division signed rest) W8 (a_of W8) (b_of W8))
+  byte_answers signed true =
+      let k = fill_of signed W8 w.rax in
+      let w1 : Words = record w { rax = k } in
+      let p = fill_passes w f ss signed W8 Rax in
+      answers_after (filled signed W8 Rax) (Div signed Size.W8 Rcx ∷ byte_tail true) w f ss w1 _ p (scratch_same w k w.rcx w.rdx) (bytes_answer w1 p.flags ss signed (a_of W8) (byte_agrees signed) true)
+  byte_answers signed false =
+      let k = fill_of signed W8 w.rax in
+      let w1 : Words = record w { rax = k } in
+      let p = fill_passes w f ss signed W8 Rax in
+      answers_after (filled signed W8 Rax) (Div signed Size.W8 Rcx ∷ byte_tail false) w f ss w1 _ p (scratch_same w k w.rcx w.rdx) (bytes_answer w1 p.flags ss signed (a_of W8) (byte_agrees signed) false)
+
+  answers16 : (signed rest : Bool) → Answers (div_row signed rest W16) w f ss (binary (division signed rest) W16 (a_of W16) (b_of W16))
+  answers16 true rest =
+      let w1 : Words = record w { rdx = w.rdx / 2 ^ 16 * 2 ^ 16 + sign_fill 16 w.rax } in
+      let p = high16 w f ss in
+      answers_after (High HighSize.W16) (Div true Size.W16 Rcx ∷ Mov Wide.W64 Rax (if rest then Rdx else Rax) ∷ cut W16 Rax ∷ []) w f ss w1 _ p (scratch_same w w.rax w.rcx w1.rdx)
+      (halves16 w1 p.flags ss true rest (signed_agrees W16 (dividend Size.W16 (in_order w1)) (a_of W16) (b_of W16) (mod-lt w.rax (modulus_some W16)) (mod-lt w.rcx (modulus_some W16)) (double16 w.rdx w.rax)))
+  answers16 false rest =
+      let w1 : Words = record w { rdx = 0 } in
+      let p = zero_high w f ss in
+      answers_after (MovImm32 Rdx 0) (Div false Size.W16 Rcx ∷ Mov Wide.W64 Rax (if rest then Rdx else Rax) ∷ cut W16 Rax ∷ []) w f ss w1 _ p (scratch_same w w.rax w.rcx 0)
+      (halves16 w1 p.flags ss false rest (plain_agrees W16 (dividend Size.W16 (in_order w1)) (a_of W16) (b_of W16) (omega arith) (mod-lt w.rax (modulus_some W16))))
+
+  answers32 : (signed rest : Bool) → Answers (div_row signed rest W32) w f ss (binary (division signed rest) W32 (a_of W32) (b_of W32))
+  answers32 true rest =
+      let w1 : Words = record w { rdx = sign_fill 32 w.rax } in
+      let p = high32 w f ss in
+      answers_after (High HighSize.W32) (Div true Size.W32 Rcx ∷ Mov Wide.W64 Rax (if rest then Rdx else Rax) ∷ cut W32 Rax ∷ []) w f ss w1 _ p (scratch_same w w.rax w.rcx w1.rdx)
+      (halves32 w1 p.flags ss true rest (signed_agrees W32 (dividend Size.W32 (in_order w1)) (a_of W32) (b_of W32) (mod-lt w.rax (modulus_some W32)) (mod-lt w.rcx (modulus_some W32)) (double32 w.rax)))
+  answers32 false rest =
+      let w1 : Words = record w { rdx = 0 } in
+      let p = zero_high w f ss in
+      answers_after (MovImm32 Rdx 0) (Div false Size.W32 Rcx ∷ Mov Wide.W64 Rax (if rest then Rdx else Rax) ∷ cut W32 Rax ∷ []) w f ss w1 _ p (scratch_same w w.rax w.rcx 0)
+      (halves32 w1 p.flags ss false rest (plain_agrees W32 (dividend Size.W32 (in_order w1)) (a_of W32) (b_of W32) (omega arith) (mod-lt w.rax (modulus_some W32))))
+
+  answers64 : (signed rest : Bool) → Answers (div_row signed rest W64) w f ss (binary (division signed rest) W64 (a_of W64) (b_of W64))
+  answers64 true rest =
+      let w1 : Words = record w { rdx = sign_fill 64 w.rax } in
+      let p = high64 w f ss in
+      answers_after (High HighSize.W64) (Div true Size.W64 Rcx ∷ Mov Wide.W64 Rax (if rest then Rdx else Rax) ∷ cut W64 Rax ∷ []) w f ss w1 _ p (scratch_same w w.rax w.rcx w1.rdx)
+      (halves64 w1 p.flags ss true rest (signed_agrees W64 (dividend Size.W64 (in_order w1)) (a_of W64) (b_of W64) (mod-lt w.rax (modulus_some W64)) (mod-lt w.rcx (modulus_some W64)) (double64 w.rax)))
+  answers64 false rest =
+      let w1 : Words = record w { rdx = 0 } in
+      let p = zero_high w f ss in
+      answers_after (MovImm32 Rdx 0) (Div false Size.W64 Rcx ∷ Mov Wide.W64 Rax (if rest then Rdx else Rax) ∷ cut W64 Rax ∷ []) w f ss w1 _ p (scratch_same w w.rax w.rcx 0)
+      (halves64 w1 p.flags ss false rest (plain_agrees W64 (dividend Size.W64 (in_order w1)) (a_of W64) (b_of W64) (omega arith) (mod-lt w.rax (modulus_some W64))))
+
+-- a division of the low bits of rax and rcx
+pub div_makes : (w : Words) (f : Flags) (ss : List Segment) (signed rest : Bool) (wi : Width) → IsWide wi → Answers (div_row signed rest wi) w f ss (binary (division signed rest) wi (low_bits wi w.rax) (low_bits wi w.rcx))
+div_makes w f ss signed rest W1 wide = absurd wide
+div_makes w f ss signed rest W8 wide = byte_answers w f ss signed rest
+div_makes w f ss signed rest W16 wide = answers16 w f ss signed rest
+div_makes w f ss signed rest W32 wide = answers32 w f ss signed rest
+div_makes w f ss signed rest W64 wide = answers64 w f ss signed rest
