@@ -15,3 +15,5 @@ pub mod Extends
 pub mod Chosen
 pub mod Division
 pub mod Divides
+pub mod Operations
+pub mod Lengths

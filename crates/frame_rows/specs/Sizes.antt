@@ -1,5 +1,5 @@
 -- How long rows are, and which instructions there are.
-use Rattle.std.specs.Prelude.{ℕ, ◌+◌, ◌<◌, ◌^◌, List, [], ◌∷◌, length}
+use Rattle.std.specs.Prelude.{ℕ, ◌+◌, ◌≤◌, List, [], ◌∷◌, length}
 use Rattle.x86_core.specs.declared.instr.Instr.{Instr}
 use Rattle.x86_core.specs.Encoding.{encoding, IsInstr}
 
@@ -12,3 +12,10 @@ row_bytes (i ∷ row) = length (encoding i) + row_bytes row
 abbrev pub AreInstrs : List Instr → Type 0
 AreInstrs [] = Unit {0}
 AreInstrs (i ∷ row) = IsInstr i × AreInstrs row
+
+-- a row of so many instructions at most, and of so many bytes at most, with one instruction at least
+pub record IsSized (row : List Instr) (instructions bytes : ℕ) : Type 0 where
+  pub some : 1 ≤ length row
+  pub count : length row ≤ instructions
+  pub long : row_bytes row ≤ bytes
+  pub some_bytes : 1 ≤ row_bytes row
