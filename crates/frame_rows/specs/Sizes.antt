@@ -2,6 +2,8 @@
 use Rattle.std.specs.Prelude.{ℕ, ◌+◌, ◌≤◌, List, [], ◌∷◌, length}
 use Rattle.x86_core.specs.declared.instr.Instr.{Instr}
 use Rattle.x86_core.specs.Encoding.{encoding, IsInstr}
+use Rattle.low_core.specs.declared.sel.SelOp.{SelOp}
+use Rattle.low_core.specs.declared.sel.SelOp.TheVariants.{Call, CallAt, Outside}
 
 -- the bytes of a row
 abbrev pub row_bytes : List Instr → ℕ
@@ -19,3 +21,10 @@ pub record IsSized (row : List Instr) (instructions bytes : ℕ) : Type 0 where
   pub count : length row ≤ instructions
   pub long : row_bytes row ≤ bytes
   pub some_bytes : 1 ≤ row_bytes row
+
+-- the operations that have rows
+abbrev pub IsNoCall : SelOp → Type 0
+IsNoCall (Call g r args) = ⊥
+IsNoCall (CallAt s r args) = ⊥
+IsNoCall (Outside which r args) = ⊥
+IsNoCall other = Unit {0}
