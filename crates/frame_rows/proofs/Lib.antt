@@ -17,3 +17,4 @@ pub mod Division
 pub mod Divides
 pub mod Operations
 pub mod Lengths
+pub mod Ranges
