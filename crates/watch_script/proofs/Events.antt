@@ -65,14 +65,11 @@ none_until n m (e ∷ es) h k =
 
 done_both : (n : ℕ) (es fs : List Event) → done_at n (es ++ fs) ≡ done_at n es ++ done_at n fs
 done_both n [] fs = refl
-done_both n (e ∷ es) fs = by (nat_eq (after_of e) n)
+done_both n (e ∷ es) fs = by (done_both n es fs) (nat_eq (after_of e) n)
   where
-    others : done_at n (es ++ fs) ≡ done_at n es ++ done_at n fs
-    others = done_both n es fs
-
-    by : (t : Bool) → cond t (done_by e ++ done_at n (es ++ fs)) (done_at n (es ++ fs)) ≡ cond t (done_by e ++ done_at n es) (done_at n es) ++ done_at n fs
-    by true = ap (λ rest. done_by e ++ rest) others ∙ sym (append_assoc (done_by e) (done_at n es) (done_at n fs))
-    by false = others
+    by : done_at n (es ++ fs) ≡ done_at n es ++ done_at n fs → (t : Bool) → cond t (done_by e ++ done_at n (es ++ fs)) (done_at n (es ++ fs)) ≡ cond t (done_by e ++ done_at n es) (done_at n es) ++ done_at n fs
+    by others true = ap (λ rest. done_by e ++ rest) others ∙ sym (append_assoc (done_by e) (done_at n es) (done_at n fs))
+    by others false = others
 
 -- events that don't come earlier do something at the end alone
 pub acts_split : (n : ℕ) (es fs : List Event) → Since n fs → acts_to n (es ++ fs) ≡ acts_to n es ++ done_at n fs
@@ -117,9 +114,9 @@ module _ {P : Type 0} (step : State P → State P) (s : State P) where
       ap (λ rest. run_over step rest s) (acts_split n es fs (since_less n (suc n) fs less h) ∙ (ap (λ rest. acts_to n es ++ rest) (none_since n (suc n) fs lt h) ∙ append-nil (acts_to n es)))
 
 -- what events do leaves the input as it is
-done_left : {P : Type 0} (step : State P → State P) (n : ℕ) (es : List Event) (s : State P) → (run_over step (done_at n es) s).left ≡ s.left
+pub done_left : {P : Type 0} (step : State P → State P) (n : ℕ) (es : List Event) (s : State P) → (run_over step (done_at n es) s).left ≡ s.left
 done_left step n [] s = refl
-done_left {P} step n (e ∷ es) s = by (nat_eq (after_of e) n)
+done_left {P} step n (e ∷ es) s = by (λ t. done_left step n es t) (nat_eq (after_of e) n)
   where
     wrote_left : (o : Option (List Segment)) (s : State P) → (wrote o s).left ≡ s.left
     wrote_left None s = refl
@@ -129,16 +126,13 @@ done_left {P} step n (e ∷ es) s = by (nat_eq (after_of e) n)
     write_left at [] s = refl
     write_left at (b ∷ bs) s = wrote_left (write_at s.segments at (b ∷ bs)) s
 
-    others : (s : State P) → (run_over step (done_at n es) s).left ≡ s.left
-    others s = done_left step n es s
+    first : ((t : State P) → (run_over step (done_at n es) t).left ≡ t.left) → (e : Event) → (run_over step (done_by e ++ done_at n es) s).left ≡ s.left
+    first others (Read after at len) = others s
+    first others (Write after at bytes) = others (acted step (Writes at bytes) s) ∙ write_left at bytes s
 
-    first : (e : Event) → (run_over step (done_by e ++ done_at n es) s).left ≡ s.left
-    first (Read after at len) = others s
-    first (Write after at bytes) = others (acted step (Writes at bytes) s) ∙ write_left at bytes s
-
-    by : (t : Bool) → (run_over step (cond t (done_by e ++ done_at n es) (done_at n es)) s).left ≡ s.left
-    by true = first e
-    by false = others s
+    by : ((t : State P) → (run_over step (done_at n es) t).left ≡ t.left) → (t : Bool) → (run_over step (cond t (done_by e ++ done_at n es) (done_at n es)) s).left ≡ s.left
+    by others true = first others e
+    by others false = others s
 
 pub same_left : {P : Type 0} (step : State P → State P) (s : State P) (n : ℕ) (es fs : List Event) → Since n fs → (run_over step (acts_to n (es ++ fs)) s).left ≡ (run_over step (acts_to n es) s).left
 same_left step s n es fs h =

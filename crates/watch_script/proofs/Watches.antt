@@ -26,7 +26,7 @@ use Rattle.watch_script.specs.Report.{reply_in, replies_of, capped, last_of, IsR
 use Rattle.watch_script.specs.Suiting.{is_suited, are_suited}
 use Rattle.watch_script.proofs.Suits.{suited_more}
 use Rattle.watch_script.specs.Watching.{watched_to, Acted, TakesByte, Within, Halted}
-use Rattle.watch_script.proofs.Events.{Since, Until, since_less, since_order, until_more, acts_more, steps_later, same_before, same_left}
+use Rattle.watch_script.proofs.Events.{Since, Until, since_less, since_order, until_more, acts_more, steps_later, done_left, same_before, same_left}
 use Rattle.watch_script.proofs.Grown.{grown, steps_on, acted_on, acted_alone}
 
 -- a read is answered by the segments that may be read
@@ -120,6 +120,10 @@ module _ (events before now : List Event) (parts : events ≡ before ++ now) (m 
             took = g.took ∙ (ap (λ (s : State ℕ). Some s.left) (sym (along g.taken)) ∙ ap Some (left_at (done + g.taken) xs (since_less (done + g.taken) (done + n) now sooner future)));
           }
 
+-- memory was wanting before the first step
+pub none_taken : (image : Image) (events : List Event) (n : ℕ) (left : Option (List ℕ)) (xs : List ℕ) → left ≡ Some xs → Within (watched_to image events xs) n left
+none_taken image events n left xs e = record { taken = 0; within = omega arith; took = e ∙ ap Some (sym (done_left machine_step 0 events (machine_start image xs))) }
+
 -- the next event comes no earlier than the one before, and no later than the last, and reads 1 to 4,096 bytes
 pub record Place (done : ℕ) (now rest : List Event) (e : Event) : Type 0 where
   pub late : done ≤ (after_of e)
@@ -153,10 +157,15 @@ at_front done e es h =
     let c = and_both (nat_le (size_of e) 4096) _ b.1 in
     record { late = le_is done (after_of e) a.0; early = never_falls (after_of e) es c.1; order = c.1; last = refl; some = le_is 1 (size_of e) b.0; few = le_is (size_of e) 4096 c.0 }
 
-pub place_of : (done : ℕ) (events : List Event) (i : ℕ) (d : Event) → i < length events → are_in_order done (drop i events) ≡ true → Place done (drop i events) (drop (i + 1) events) (get_or events i d)
-place_of done events i d h order =
-    let e : Event = get_or events i d in
-    let next : drop i events ≡ e ∷ drop (i + 1) events = drop_more events i d h in
+take_item : (events : List Event) (i : ℕ) (e : Event) → i < length events → e ≡ get_or events i e → take (i + 1) events ≡ take i events ++ e ∷ []
+take_item events i e h is = take_more events i e h ∙ ap (λ x. take i events ++ x ∷ []) (sym is)
+
+drop_item : (events : List Event) (i : ℕ) (e : Event) → i < length events → e ≡ get_or events i e → drop i events ≡ e ∷ drop (i + 1) events
+drop_item events i e h is = drop_more events i e h ∙ ap (λ x. x ∷ drop (i + 1) events) (sym is)
+
+pub place_of : (done : ℕ) (events : List Event) (i : ℕ) (e : Event) → i < length events → e ≡ get_or events i e → are_in_order done (drop i events) ≡ true → Place done (drop i events) (drop (i + 1) events) e
+place_of done events i e h is order =
+    let next : drop i events ≡ e ∷ drop (i + 1) events = drop_item events i e h is in
     subst (λ now. Place done now (drop (i + 1) events) e) (sym next) (at_front done e (drop (i + 1) events) (subst (λ now. are_in_order done now ≡ true) next order))
 
 -- steps from one event to where the next takes place
@@ -168,47 +177,43 @@ arrived done before e m m1 m2 a b c late past first then =
     (λ s. ap (λ n. run_over machine_step (acts_to n before) s) sum ∙ steps_later machine_step s done before past (after_of e - done)) m m1 m2 a b c first then
 
 -- and the event itself
-pub gone : (events : List Event) (i : ℕ) (d : Event) (m m2 m3 : Machine) (a b : StreamsTold) → i < length events → Acted (acts_to (after_of (get_or events i d)) (take i events)) m m2 a b →
-    ((left printed : List ℕ) (taken : ℕ) → state_of m3 left printed taken ≡ run_over machine_step (done_by (get_or events i d)) (state_of m2 left printed taken)) →
-    Acted (acts_to (after_of (get_or events i d)) (take (i + 1) events)) m m3 a b
-gone events i d m m2 m3 a b h first then =
-    let e : Event = get_or events i d in
+pub gone : (events : List Event) (i : ℕ) (e : Event) (m m2 m3 : Machine) (a b : StreamsTold) → i < length events → e ≡ get_or events i e → Acted (acts_to (after_of e) (take i events)) m m2 a b →
+    ((left printed : List ℕ) (taken : ℕ) → state_of m3 left printed taken ≡ run_over machine_step (done_by e) (state_of m2 left printed taken)) →
+    Acted (acts_to (after_of e) (take (i + 1) events)) m m3 a b
+gone events i e m m2 m3 a b h is first then =
     acted_alone (acts_to (after_of e) (take i events)) (done_by e) (acts_to (after_of e) (take (i + 1) events))
-    (ap (acts_to (after_of e)) (take_more events i d h) ∙ acts_more (take i events) e) m m2 m3 a b first then
+    (ap (acts_to (after_of e)) (take_item events i e h is) ∙ acts_more (take i events) e) m m2 m3 a b first then
 
-pub past_more : (events : List Event) (i : ℕ) (d : Event) (done : ℕ) → i < length events → done ≤ after_of (get_or events i d) → Until done (take i events) → Until (after_of (get_or events i d)) (take (i + 1) events)
-past_more events i d done h late past =
-    let e : Event = get_or events i d in
+pub past_more : (events : List Event) (i : ℕ) (e : Event) (done : ℕ) → i < length events → e ≡ get_or events i e → done ≤ after_of e → Until done (take i events) → Until (after_of e) (take (i + 1) events)
+past_more events i e done h is late past =
     let here : after_of e ≤ after_of e = omega arith in
-    subst (Until (after_of e)) (sym (take_more events i d h)) (until_more done (after_of e) (take i events) e late past here)
+    subst (Until (after_of e)) (sym (take_item events i e h is)) (until_more done (after_of e) (take i events) e late past here)
 
-pub all_suited : (events : List Event) (i : ℕ) (d : Event) (replies replies2 : List Reply) (r : Reply) → i < length events → are_suited (take i events) replies ≡ true → is_suited (get_or events i d) r ≡ true → replies2 ≡ replies ++ r ∷ [] →
+pub all_suited : (events : List Event) (i : ℕ) (e : Event) (replies replies2 : List Reply) (r : Reply) → i < length events → e ≡ get_or events i e → are_suited (take i events) replies ≡ true → is_suited e r ≡ true → replies2 ≡ replies ++ r ∷ [] →
     are_suited (take (i + 1) events) replies2 ≡ true
-all_suited events i d replies replies2 r h so_far suits put =
-    ap (λ es. are_suited es replies2) (take_more events i d h) ∙ (ap (are_suited (take i events ++ get_or events i d ∷ [])) put ∙ suited_more (take i events) replies (get_or events i d) r so_far suits)
+all_suited events i e replies replies2 r h is so_far suits put =
+    ap (λ es. are_suited es replies2) (take_item events i e h is) ∙ (ap (are_suited (take i events ++ e ∷ [])) put ∙ suited_more (take i events) replies e r so_far suits)
 
 -- the events from a place on don't come before the next
-pub since_place : (done : ℕ) (events : List Event) (i : ℕ) (d : Event) → i < length events → are_in_order done (drop i events) ≡ true → Since (after_of (get_or events i d)) (drop i events)
-since_place done events i d h order =
-    let e : Event = get_or events i d in
-    let p = place_of done events i d h order in
+pub since_place : (done : ℕ) (events : List Event) (i : ℕ) (e : Event) → i < length events → e ≡ get_or events i e → are_in_order done (drop i events) ≡ true → Since (after_of e) (drop i events)
+since_place done events i e h is order =
+    let p = place_of done events i e h is order in
     let here : after_of e ≤ after_of e = omega arith in
-    subst (Since (after_of e)) (sym (drop_more events i d h)) (here, since_order (after_of e) (drop (i + 1) events) p.order)
+    subst (Since (after_of e)) (sym (drop_item events i e h is)) (here, since_order (after_of e) (drop (i + 1) events) p.order)
 
 pub parted : (events : List Event) (i : ℕ) → events ≡ take i events ++ drop i events
 parted events i = sym (take-append-drop i events)
 
 -- one reply more
-pub reply_more : (run : List Act → State ℕ) (events : List Event) (replies replies2 : List Reply) (i : ℕ) (d : Event) (r : Reply) → i < length events →
-    r ≡ reply_in (get_or events i d) (run (acts_to (after_of (get_or events i d)) (take i events))) → replies2 ≡ replies ++ r ∷ [] →
+pub reply_more : (run : List Act → State ℕ) (events : List Event) (replies replies2 : List Reply) (i : ℕ) (e : Event) (r : Reply) → i < length events → e ≡ get_or events i e →
+    r ≡ reply_in e (run (acts_to (after_of e) (take i events))) → replies2 ≡ replies ++ r ∷ [] →
     replies ++ replies_of run (take i events) (drop i events) ≡ replies_of run [] events → replies2 ++ replies_of run (take (i + 1) events) (drop (i + 1) events) ≡ replies_of run [] events
-reply_more run events replies replies2 i d r h answer put so_far =
-    let e : Event = get_or events i d in
+reply_more run events replies replies2 i e r h is answer put so_far =
     let rest : List Reply = replies_of run (take (i + 1) events) (drop (i + 1) events) in
     let moved : replies2 ++ rest ≡ replies ++ (r ∷ rest) = ap (λ rs. rs ++ rest) put ∙ append_assoc replies (r ∷ []) rest in
     let first : r ∷ rest ≡ reply_in e (run (acts_to (after_of e) (take i events))) ∷ replies_of run (take i events ++ e ∷ []) (drop (i + 1) events) =
-    ap (λ r. r ∷ rest) answer ∙ ap (λ es. reply_in e (run (acts_to (after_of e) (take i events))) ∷ replies_of run es (drop (i + 1) events)) (take_more events i d h) in
-    moved ∙ (ap (λ rs. replies ++ rs) (first ∙ sym (ap (replies_of run (take i events)) (drop_more events i d h))) ∙ so_far)
+    ap (λ r. r ∷ rest) answer ∙ ap (λ es. reply_in e (run (acts_to (after_of e) (take i events))) ∷ replies_of run es (drop (i + 1) events)) (take_item events i e h is) in
+    moved ∙ (ap (λ rs. replies ++ rs) (first ∙ sym (ap (replies_of run (take i events)) (drop_item events i e h is))) ∙ so_far)
 
 -- what a machine answers is what its state answers
 pub answered : (acts : List Act) (m m2 : Machine) (a b : StreamsTold) (e : Event) (r : Reply) (xs : List ℕ) → Acted acts m m2 a b → a.left ≡ Some xs →

@@ -115,11 +115,14 @@ pub(crate) fn next_event(
     let Some((line, rest)) = split(bytes, b'\n') else {
         return Ok(None);
     };
-    let Some(event) = line_event(alloc, line)? else {
-        return Ok(None);
-    };
-    if event.after() < least {
-        return Ok(None);
+    match line_event(alloc, line) {
+        Ok(Some(event)) => {
+            if event.after() < least {
+                return Ok(None);
+            }
+            Ok(Some((event, rest)))
+        }
+        Ok(None) => Ok(None),
+        Err(e) => Err(e),
     }
-    Ok(Some((event, rest)))
 }

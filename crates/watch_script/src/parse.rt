@@ -34,19 +34,18 @@ pub fn parse_script(alloc: Global, bytes: &[u8]) -> Result<Script, ScriptFault>
         if rest.is_empty() {
             return Ok(Script::new(events));
         }
-        let next = match next_event(alloc, rest, least) {
-            Ok(next) => next,
-            Err(_) => return Err(ScriptFault::NoMemory),
-        };
-        let Some((event, behind)) = next else {
-            return Err(ScriptFault::Line { line: count + 1 });
-        };
-        least = event.after();
-        match events.add(event) {
-            Ok(()) => {}
+        match next_event(alloc, rest, least) {
+            Ok(Some((event, behind))) => {
+                least = event.after();
+                match events.add(event) {
+                    Ok(()) => {}
+                    Err(_) => return Err(ScriptFault::NoMemory),
+                }
+                rest = behind;
+            }
+            Ok(None) => return Err(ScriptFault::Line { line: count + 1 }),
             Err(_) => return Err(ScriptFault::NoMemory),
         }
-        rest = behind;
     }
     if rest.is_empty() {
         Ok(Script::new(events))
