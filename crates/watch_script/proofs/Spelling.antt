@@ -145,7 +145,14 @@ read_line line steps address count e parts h = by (numeral 10 20 (2 ^ 64) steps)
       where
         with : (t : Bool) → nat_le 1 len ≡ t → cond t (Some (Read after at len)) None ≡ Some e → IsLine line e
         with true f h = subst (IsLine line) (some_is (Read after at len) e h) (record {
-          steps = steps; address = address; count = count; parts = parts; steps_are = ea; address_is = eb; len_is = ec; some = le_is 1 len f;
+          steps = steps;
+          address = address;
+          count = count;
+          parts = parts;
+          steps_are = ea;
+          address_is = eb;
+          len_is = ec;
+          some = le_is 1 len f;
         })
         with false f h = absurd (cc)
 

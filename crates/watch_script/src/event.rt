@@ -12,7 +12,11 @@ use std::alloc::Global;
 #[derive(Drop)]
 pub enum Event {
     /// A read of `len` bytes from the address `at` on.
-    Read { after: u64, at: u64, len: u32 },
+    Read {
+        after: u64,
+        at: u64,
+        len: u32,
+    },
     /// A write of these bytes from the address `at` on.
     Write {
         after: u64,
