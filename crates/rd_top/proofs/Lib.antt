@@ -1,5 +1,6 @@
 pub mod Alike
 pub mod ByCommand
+mod Certifying
 mod Evaluated
 mod Invalid
 mod Made
