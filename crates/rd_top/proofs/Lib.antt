@@ -1,7 +1,7 @@
 pub mod Alike
 pub mod ByCommand
-mod Certifying
 mod Evaluated
+mod Guarded
 mod Invalid
 mod Made
 pub mod Runs

@@ -14,7 +14,7 @@ use rd_io::Files;
 use std::alloc::Global;
 
 /// What is told of a well-formed object.
-#[tactic(auto, using(crate::proofs::Certifying::guarded_so))]
+#[tactic(auto, using(crate::proofs::Guarded::guarded_so))]
 fn certified(object: Checked) -> Answer
     ensures { Certified object.object result }
 {
