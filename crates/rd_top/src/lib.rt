@@ -11,8 +11,8 @@
 //!     read_main watch FILE --script FILE
 //!     read_main certify FILE
 //!
-//! `rd_clap` reads the command line and `commands` does the work: over `file`, which reads a file of a
-//! kind, `put`, which puts a result at once, and `stream`, which puts a run's output as it comes.
+//! `rd_clap` reads the command line, `commands` and `certifying` do the work: over `file`, which reads a
+//! file of a kind, `put`, which puts a result at once, and `stream`, which puts a run's output as it comes.
 //! `answer` has the statuses and `lines` their lines. What a command does to the outside stands in
 //! `specs/Commands.antt`, and what the whole program does in `specs/Program.antt`.
 #![tactic(auto)]
