@@ -32,9 +32,9 @@ pub fn certify_file<F: Files>(alloc: Global, file: &str, files: &mut F) -> Answe
     ensures means { Certifies file.now (F.told files.old) (F.told files.new) result }
     ensures files { KeepsFiles (F.told files.old) (F.told files.new) result }
 {
-    let object: Checked = match read_file(alloc, file, files) {
-        Ok(object) => object,
-        Err(answer) => return answer,
-    };
-    certified(object)
+    let read: Result<Checked, Answer> = read_file(alloc, file, files);
+    match read {
+        Ok(object) => certified(object),
+        Err(answer) => answer,
+    }
 }
