@@ -5,6 +5,7 @@ use Rattle.rd_io.specs.Told.{FilesTold, SinkTold}
 use Rattle.watch_script.specs.Events.{last_after}
 use Rattle.rd_top.specs.declared.answer.Answer.{Answer}
 use Rattle.rd_top.specs.declared.answer.Answer.TheVariants.{Words, Valid}
+use Rattle.rd_top.specs.Certifying.{Certified}
 use Rattle.rd_top.specs.Files.{OfFile}
 use Rattle.rd_top.specs.Kinds.{module_text, narrow_text, object_file, image_file, script_file}
 use Rattle.rd_top.specs.Puts.{Writes}
@@ -14,7 +15,7 @@ use Rattle.rd_top.specs.Making.{IsPrinted, IsObjectFor, IsImageFor, IsLaid}
 use Rattle.rd_top.specs.Machines.{machine_course, shown_after, report_on}
 use Rattle.rd_top.specs.Modules.{module_course}
 use Rattle.rd_top.specs.World.{World}
-use Rattle.rd_words.specs.Words.{Reading, Check, Print, Compile, Build, Lay, Run, Show, Eval, Watch}
+use Rattle.rd_words.specs.Words.{Reading, Check, Print, Certify, Compile, Build, Lay, Run, Show, Eval, Watch}
 
 -- nothing was taken, and nothing was put
 abbrev pub Untouched : World → World → Type 0
@@ -22,6 +23,9 @@ Untouched before after = (after.input ≡ before.input) × (after.out ≡ before
 
 abbrev pub Checks : List ℕ → FilesTold → FilesTold → Answer → Type 0
 Checks file files files2 a = OfFile module_text file files files2 (Unit {0}) (λ v. a ≡ Valid) a
+
+abbrev pub Certifies : List ℕ → FilesTold → FilesTold → Answer → Type 0
+Certifies file files files2 a = OfFile object_file file files files2 (Unit {0}) (λ checked. Certified checked.object a) a
 
 abbrev pub Prints : List ℕ → FilesTold → FilesTold → SinkTold → SinkTold → Answer → Type 0
 Prints file files files2 out out2 a = OfFile module_text file files files2 (out2 ≡ out) (λ v. Writes (IsPrinted v.kept) out out2 a) a
@@ -62,6 +66,7 @@ Watches file script w w2 a =
 abbrev pub Means : Option Reading → World → World → Answer → Type 0
 Means None w w2 a = (a ≡ Words) × (w2 ≡ w)
 Means (Some (Check file)) w w2 a = Checks file w.files w2.files a × Untouched w w2
+Means (Some (Certify file)) w w2 a = Certifies file w.files w2.files a × Untouched w w2
 Means (Some (Print file)) w w2 a = Prints file w.files w2.files w.out w2.out a × (w2.input ≡ w.input)
 Means (Some (Compile file slot_seed reg_seed)) w w2 a = Compiles file slot_seed reg_seed w.files w2.files w.out w2.out a × (w2.input ≡ w.input)
 Means (Some (Build file slot_seed reg_seed layout_seed)) w w2 a = Builds file slot_seed reg_seed layout_seed w.files w2.files w.out w2.out a × (w2.input ≡ w.input)
