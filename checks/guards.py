@@ -1,6 +1,6 @@
 """A return under an observer who overwrites its word on the stack, in an object without guards and in its guarded form.
 
-Both objects push the address of slot 1 and return, and the function there ends the program with status 7. The observer
+Both objects push the address of a slot and return, and the function to which that leads ends the program with status 7. The observer
 writes another word between the push and the return. Forms and the guard are written here from docs/object-format.md.
 """
 
@@ -17,12 +17,18 @@ AFTER_PUSH = 3
 MANY = 60
 SEEDS = ["3", "4", "5"]
 
-# mov rax, the address of slot 1; push rax
-FRONT = bytes.fromhex("b81000001050")
-RETURN = bytes.fromhex("c3")
+# Where three slots may stand; the slot seed draws which of them is where.
+PLACES = [0x10000000, 0x10000010, 0x10000020]
+# ret, and what stands for it around the guard: pop r11; jmp r11
+RETURN, POP, JUMP = bytes.fromhex("c3"), bytes.fromhex("415b"), bytes.fromhex("41ffe3")
 # mov rax, 60; mov rdi, 7; jmp to the slot of system calls; ud2
 LAST = bytes.fromhex("b83c000000bf07000000e9000000000f0b")
 LAST_LINK, LAST_BACK = 11, 15
+
+
+def front(word):
+    """mov rax, the word; push rax"""
+    return b"\xb8" + struct.pack("<I", word) + b"\x50"
 
 
 def guard(slots):
@@ -59,6 +65,9 @@ class Work:
             file.write(content)
         return path
 
+    def is_ending(self, image):
+        return asked("run", image, "--steps", str(MANY))[2] == f"ended {STATUS}\n"
+
     def ends(self, word):
         """How each image stands where this word was written over the pushed one."""
         line = f"{AFTER_PUSH} write {PUSHED_AT:x} {struct.pack('<Q', word).hex()}\n{MANY} read {PUSHED_AT:x} 8\n"
@@ -78,14 +87,17 @@ def code_start(image):
 def main():
     problems = []
     with tempfile.TemporaryDirectory() as folder:
-        plain = Work(folder, "plain", object_file(FRONT + RETURN))
-        guarded = Work(folder, "guarded", object_file(FRONT + bytes.fromhex("415b") + guard(3) + bytes.fromhex("41ffe3")))
+        tried = [Work(folder, f"plain-{word:x}", object_file(front(word) + RETURN)) for word in PLACES]
+        ending = [(word, work) for word, work in zip(PLACES, tried) if all(map(work.is_ending, work.images))]
+        if len(ending) != 1:
+            print(f"{len(ending)} slots lead to the function that ends the program")
+            return 1
+        word, plain = ending[0]
+        guarded = Work(folder, "guarded", object_file(front(word) + POP + guard(3) + JUMP))
         for work, wanted in ((plain, (24, b"", "guard 1 function 0 6\n")), (guarded, (0, b"", "guarded\n"))):
             if asked("certify", work.object) != wanted:
                 problems.append(f"{work.name}: certify says {asked('certify', work.object)}")
-            for image in work.images:
-                if asked("run", image, "--steps", str(MANY))[2] != f"ended {STATUS}\n":
-                    problems.append(f"{image}: it doesn't end with {STATUS}")
+            problems += [f"{image}: it doesn't end with {STATUS}" for image in work.images if not work.is_ending(image)]
         words = [code_start(image) for image in plain.images + guarded.images]
         words += [0, 0x0FFFFFFF, 0x10000011, 0x1000002F, 0x10000030, 0x30000000, PUSHED_AT, 2**64 - 1]
         if all(len(set(map(str, plain.ends(word)))) == 1 for word in words):
