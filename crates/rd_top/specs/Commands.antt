@@ -12,7 +12,7 @@ use Rattle.rd_top.specs.Puts.{Writes}
 use Rattle.rd_top.specs.Courses.{AnyInput, Streams}
 use Rattle.rd_top.specs.Reports.{Reports}
 use Rattle.rd_top.specs.Making.{IsPrinted, IsObjectFor, IsImageFor, IsLaid}
-use Rattle.rd_top.specs.Machines.{machine_course, shown_after, report_on}
+use Rattle.rd_top.specs.Machines.{machine_course, watched_course, shown_after, report_on}
 use Rattle.rd_top.specs.Modules.{module_course}
 use Rattle.rd_top.specs.World.{World}
 use Rattle.rd_words.specs.Words.{Reading, Check, Print, Certify, Compile, Build, Lay, Run, Show, Eval, Watch}
@@ -60,7 +60,7 @@ abbrev pub Watches : List ℕ → List ℕ → World → World → Answer → Ty
 Watches file script w w2 a =
     OfFile image_file file w.files w2.files (Untouched w w2) (λ image.
     OfFile script_file script w.files w2.files (Untouched w w2) (λ s.
-    Reports (machine_course image) (last_after 0 s.events) (report_on image s.events) w.input w2.input w.out w2.out a) a) a
+    Reports (watched_course image s.events) (last_after 0 s.events) (report_on image s.events) w.input w2.input w.out w2.out a) a) a
 
 -- what an answer says, by what the words ask for
 abbrev pub Means : Option Reading → World → World → Answer → Type 0
