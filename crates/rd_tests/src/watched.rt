@@ -102,7 +102,10 @@ const SCRIPTS: &[(&[u8], u32)] = &[
     (b"18446744073709551616 read 0 1\n", 1),
     (b"0  read 0 1\n", 1),
     (b"0 write 0 1\n", 1),
-    (b"0 write 0 00ff\n0 read 0 1\n0 write ffffffffffffffff a0\n", 0),
+    (
+        b"0 write 0 00ff\n0 read 0 1\n0 write ffffffffffffffff a0\n",
+        0,
+    ),
     (b"0 write 0 00f\n", 1),
     (b"0 write 0 0A\n", 1),
     (b"0 write 0 \n", 1),
