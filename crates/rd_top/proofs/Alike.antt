@@ -1,5 +1,5 @@
 -- Two layouts answer the same, as long as the object hasn't strayed.
-use Rattle.std.proofs.Common.{◌≡◌, ◌≢◌, ℕ, suc, ◌+◌, ◌-◌, ◌≤◌, Bool, true, false, ◌&&◌, nat_le, List, [], ◌∷◌, ◌++◌, length, Option, Some, None, if◌then◌else◌, append_assoc, refl, sym, ap, subst, ◌∙◌, arith}
+use Rattle.std.proofs.Common.{◌≡◌, ◌≢◌, ℕ, zero, suc, ◌+◌, ◌-◌, ◌≤◌, Bool, true, false, ◌&&◌, nat_le, List, [], ◌∷◌, ◌++◌, length, Option, Some, None, if◌then◌else◌, append_assoc, refl, sym, ap, subst, ◌∙◌, arith}
 use Rattle.std.proofs.lemmas.Bool.Decides.{nat_tests}
 use Rattle.std.proofs.lemmas.List.{append-nil}
 use Rattle.behavior.specs.Ending.{Strayed}
@@ -46,7 +46,7 @@ never_falls least (e ∷ es) h =
 
 -- acts by fewer steps come first
 acts_first : (n k : ℕ) (es : List Event) → (more : List Act) × (acts_to (n + k) es ≡ acts_to n es ++ more)
-acts_first n 0 es = ([], (let e : n + 0 ≡ n = omega arith in ap (λ m. acts_to m es) e ∙ sym (append-nil (acts_to n es))))
+acts_first n zero es = ([], (let e : n + 0 ≡ n = omega arith in ap (λ m. acts_to m es) e ∙ sym (append-nil (acts_to n es))))
 acts_first n (suc k) es =
     let rest = acts_first n k es in
     let last : List Act = Step ∷ done_at (suc (n + k)) es in
@@ -70,6 +70,7 @@ told looks.Written = Written
 told looks.Refused = Refused
 
 reply_told : {P : Type 0} (e : Event) (s : State P) → reply_in e s ≡ told (answer_in (wish_of e) s)
+unfolding told wish_of
 reply_told (Read after at len) s = by (reply_to (observe s) at len)
   where
     by : (o : Option (List ℕ)) → reply_of o ≡ told (answer_of o)
@@ -87,6 +88,7 @@ first_of (a ∷ ds) = a
 
 module _ (image : Image) (o : Object) (shows : ShowsObject image o) (replies : RepliesAsObject image o) where
   reply_same : (input : List ℕ) (acts : List Act) (e : Event) → (symbolic_run o input acts).ending ≢ Strayed → reply_in e (machine_run image input acts) ≡ reply_in e (symbolic_run o input acts)
+  unfolding first_of
   reply_same input acts e straight =
       reply_told e (machine_run image input acts)
       ∙ (ap (λ ds. told (first_of ds)) (replies input (record { before = acts; wish = wish_of e } ∷ []) (straight, tt)) ∙ sym (reply_told e (symbolic_run o input acts)))
