@@ -1,5 +1,6 @@
 pub mod Rows
 pub mod Links
+pub mod Rules
 pub mod Passing
 pub mod Fetching
 pub mod Runs

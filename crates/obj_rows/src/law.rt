@@ -6,6 +6,7 @@ ghost use Rattle.behavior.specs.System.{iter};
 ghost use Rattle.rd_num.specs.Number.{le_bytes};
 ghost use Rattle.x86_core.specs.declared.reg.Reg.TheVariants.{Rax, Rdi, Rsi, Rdx, Rsp, R11};
 ghost use Rattle.x86_core.specs.declared.instr.Cond.{Cond};
+ghost use Rattle.x86_core.specs.declared.instr.Instr.{Instr};
 ghost use Rattle.x86_core.specs.declared.instr.Instr.TheVariants.{Jcc, Jmp, JmpR11, Ret};
 ghost use Rattle.x86_core.specs.Registers.{word};
 ghost use Rattle.x86_core.specs.Arithmetic.{holds};
@@ -17,10 +18,12 @@ ghost use Rattle.obj_core.specs.declared.object.Object.{Object};
 ghost use Rattle.obj_core.specs.declared.object.Slot.{Slot};
 ghost use Rattle.obj_core.specs.declared.object.CodeAt.{CodeAt};
 ghost use Rattle.obj_core.specs.declared.object.Place.{Place};
-ghost use Rattle.obj_core.specs.Disassembly.{size_of};
+ghost use Rattle.obj_core.specs.Object.{Each};
+ghost use Rattle.obj_core.specs.Disassembly.{IsDisassembly, found, size_of, spelled, starts_at};
+ghost use Rattle.obj_core.specs.WellFormed.{bad_branches, bad_links, forbidden_in, is_end, is_slots_own, open_end};
 ghost use Rattle.obj_core.specs.Slots.{slot_start};
 ghost use Rattle.obj_core.specs.SymbolicMachine.{at_code, link_before, target, symbolic_land, symbolic_step};
-ghost use Rattle.obj_rows.specs.Marked.{Marked, instrs_of, row_size, links_from, IsRow, Stands, IsFunction};
+ghost use Rattle.obj_rows.specs.Marked.{Marked, instrs_of, row_size, links_from, IsRow, MarksBelow, LeadsInside, Stands, IsFunction};
 ghost use Rattle.obj_rows.specs.Standing.{Outside, standing, shown, pushed, popped, after_call};
 
 /// A row stands in itself, and its parts stand in it: the first one where it does, another one
@@ -39,6 +42,24 @@ pub fn links()
         IsRow (before ++ x ∷ behind) →
         link_before (links_from off (before ++ x ∷ behind))
         (off + row_size before + size_of x.instr) ≡ x.slot }
+{}
+
+/// A row keeps the rules that speak of one function: it is the disassembly of its bytes; where a
+/// part stands an instruction starts; its links and branches are good, nothing in it is a slot's
+/// own, and it may end where nothing runs past, each where its instructions are so.
+pub fn rules()
+    ensures disassembly { (row : List Marked) → IsRow row →
+        IsDisassembly (spelled (instrs_of row)) (instrs_of row) }
+    ensures starts { (row : List Marked) (off : ℕ) (x : Marked) → Stands row off (x ∷ []) →
+        starts_at (found (instrs_of row)) off ≡ true }
+    ensures transfers { (is : List Instr) → Each (λ i. is_slots_own i ≡ false) is →
+        forbidden_in (found is) ≡ [] }
+    ensures links { (row : List Marked) (count : ℕ) → IsRow row → MarksBelow count row →
+        bad_links None (found (instrs_of row)) count (links_from 0 row) ≡ [] }
+    ensures branches { (row : List Marked) → IsRow row → LeadsInside row →
+        bad_branches (links_from 0 row) (found (instrs_of row)) (found (instrs_of row)) ≡ [] }
+    ensures end { (is : List Instr) (i : Instr) → is_end i ≡ true →
+        open_end (found (is ++ i ∷ [])) ≡ [] }
 {}
 
 /// A row that is passed takes a step for each instruction, and leads behind it.
