@@ -6,4 +6,6 @@ pub mod Writing
 pub mod Rows
 pub mod Leaves
 pub mod Numbers
+pub mod Registers
+pub mod Saving
 pub mod Worked

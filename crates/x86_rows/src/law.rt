@@ -1,6 +1,6 @@
 //! The laws, of memory first, then of rows, then of each kind of instruction.
 
-ghost use Rattle.std.specs.Prelude.{◌≡◌, ℕ, ℤ, pos, ◌+◌, ◌%◌, ◌^◌, ◌<◌, ◌≤◌, ◌++◌, List, [], ◌∷◌, Bool, true, false, length, Some, None, if◌then◌else◌};
+ghost use Rattle.std.specs.Prelude.{◌≡◌, ◌≢◌, ◌⊎◌, ℕ, ℤ, pos, ◌+◌, ◌*◌, ◌%◌, ◌^◌, ◌<◌, ◌≤◌, ◌++◌, List, [], ◌∷◌, Bool, true, false, length, Some, None, if◌then◌else◌};
 ghost use Rattle.behavior.specs.Ending.{Ending, Divide, Invalid, Breakpoint};
 ghost use Rattle.rd_num.specs.Number.{le_bytes, le_number};
 ghost use Rattle.x86_core.specs.declared.reg.Reg.{Reg};
@@ -26,6 +26,7 @@ ghost use Rattle.x86_core.specs.Memory.{reads, writes, one_covers, read_at, writ
 ghost use Rattle.x86_core.specs.Step.{size_bytes, below};
 ghost use Rattle.x86_rows.specs.Addresses.{range_at, has_address, AreDisjoint, SameShape, Written};
 ghost use Rattle.x86_rows.specs.Straight.{Core, Through, Stopped, ran, exec, and_on};
+ghost use Rattle.x86_rows.specs.Saving.{IsStack, IsOneOf, SpareRsp, AreSaved, Saves, pop_row, restored};
 ghost use Rattle.x86_rows.specs.Leaves.{with_reg, with_regs, with_segments, by_effect};
 
 /// A read that is allowed gives the bytes of its range, and one that isn't gives none.
@@ -134,6 +135,32 @@ pub fn stack()
         AreDisjoint c.segments → one_covers reads c.segments at 8 ≡ true →
         ran (Pop r) c ≡ Through (with_regs c (with_word (with_stack c.regs (pos 8)) r
         (le_number (range_at c.segments at 8)))) }
+{}
+
+/// Registers that are saved by a row of pushes, and taken back by a row of pops: all of them have
+/// their words again, rsp is where it was, and no other register changes.
+pub fn saving()
+    ensures segment { (before : List Segment) (s : Segment) (after : List Segment) →
+        AreDisjoint (before ++ s ∷ after) → reads s.rights ≡ true → writes s.rights ≡ true →
+        s.start + length s.bytes < 2 ^ 64 →
+        IsStack s.start (s.start + length s.bytes) (before ++ s ∷ after) }
+    ensures pushes { (low high : ℕ) (rs : List Reg) (c : Core) (p : ℕ) → SpareRsp rs →
+        length c.regs ≡ 16 → IsStack low high c.segments →
+        word c.regs Rsp ≡ p + 8 * length rs → low ≤ p → p + 8 * length rs ≤ high →
+        Saves rs c p }
+    ensures pops { (low high : ℕ) (rs : List Reg) (c : Core) (p : ℕ) → SpareRsp rs →
+        length c.regs ≡ 16 → IsStack low high c.segments → word c.regs Rsp ≡ p → low ≤ p →
+        p + 8 * length rs ≤ high →
+        exec (pop_row rs) c ≡ Through (with_regs c (restored c.segments rs p c.regs)) }
+    ensures words { (ss : List Segment) (rs : List Reg) (p : ℕ) (old regs : List ℕ) (r : Reg) →
+        r ≢ Rsp → length regs ≡ 16 → word old r < 2 ^ 64 → AreSaved ss rs p old →
+        (word regs r ≡ word old r) ⊎ IsOneOf r rs →
+        word (restored ss rs p regs) r ≡ word old r }
+    ensures top { (ss : List Segment) (rs : List Reg) (p : ℕ) (regs : List ℕ) → SpareRsp rs →
+        length regs ≡ 16 → word regs Rsp ≡ p →
+        word (restored ss rs p regs) Rsp ≡ p + 8 * length rs }
+    ensures others { (ss : List Segment) (rs : List Reg) (p : ℕ) (regs : List ℕ) (r : Reg) →
+        r ≢ Rsp → (IsOneOf r rs → ⊥) → word (restored ss rs p regs) r ≡ word regs r }
 {}
 
 /// What is done under a condition whose flags are known.
