@@ -8,4 +8,5 @@ pub mod Branches
 pub mod Words
 pub mod Slots
 pub mod Kernel
+pub mod Start
 pub mod Worked

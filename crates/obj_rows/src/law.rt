@@ -8,11 +8,13 @@ ghost use Rattle.x86_core.specs.declared.reg.Reg.TheVariants.{Rax, Rdi, Rsi, Rdx
 ghost use Rattle.x86_core.specs.declared.instr.Cond.{Cond};
 ghost use Rattle.x86_core.specs.declared.instr.Instr.{Instr};
 ghost use Rattle.x86_core.specs.declared.instr.Instr.TheVariants.{Jcc, Jmp, JmpR11, Ret};
+ghost use Rattle.x86_core.specs.Data.{stack_start, stack_end};
 ghost use Rattle.x86_core.specs.Registers.{word};
 ghost use Rattle.x86_core.specs.Arithmetic.{holds};
 ghost use Rattle.x86_core.specs.Memory.{reads, one_covers};
 ghost use Rattle.x86_core.specs.Step.{Exits, Prints, Takes, below, moment_of, request_of};
 ghost use Rattle.x86_rows.specs.Addresses.{range_at, AreDisjoint, Written};
+ghost use Rattle.x86_rows.specs.Saving.{IsStack};
 ghost use Rattle.x86_rows.specs.Straight.{Core, Through, Stopped, exec};
 ghost use Rattle.obj_core.specs.declared.object.Object.{Object};
 ghost use Rattle.obj_core.specs.declared.object.Slot.{Slot};
@@ -20,11 +22,11 @@ ghost use Rattle.obj_core.specs.declared.object.CodeAt.{CodeAt};
 ghost use Rattle.obj_core.specs.declared.object.Place.{Place};
 ghost use Rattle.obj_core.specs.Object.{Each};
 ghost use Rattle.obj_core.specs.Disassembly.{IsDisassembly, found, size_of, spelled, starts_at};
-ghost use Rattle.obj_core.specs.WellFormed.{bad_branches, bad_links, forbidden_in, is_end, is_slots_own, open_end};
+ghost use Rattle.obj_core.specs.WellFormed.{bad_branches, bad_links, forbidden_in, is_end, is_slots_own, most_data, open_end};
 ghost use Rattle.obj_core.specs.Slots.{slot_start};
-ghost use Rattle.obj_core.specs.SymbolicMachine.{at_code, link_before, target, symbolic_land, symbolic_step};
+ghost use Rattle.obj_core.specs.SymbolicMachine.{at_code, link_before, target, symbolic_land, symbolic_start, symbolic_step};
 ghost use Rattle.obj_rows.specs.Marked.{Marked, instrs_of, row_size, links_from, IsRow, MarksBelow, LeadsInside, Stands, IsFunction};
-ghost use Rattle.obj_rows.specs.Standing.{Outside, standing, shown, pushed, popped, after_call};
+ghost use Rattle.obj_rows.specs.Standing.{Outside, standing, shown, pushed, popped, after_call, first_core, first_outside};
 
 /// A row stands in itself, and its parts stand in it: the first one where it does, another one
 /// behind the one before it.
@@ -140,6 +142,16 @@ pub fn words()
         symbolic_land o (slot_start o k + 5) ≡ Some (Place.Slot k 5) }
     ensures small { (o : Object) (k : ℕ) → k < length o.slots → length o.slots ≤ 1048576 →
         slot_start o k + 5 < 2 ^ 64 }
+{}
+
+/// A run begins at the entry slot; where the object has no more data than it may have, its
+/// segments are apart and the whole stack may be used.
+pub fn starts()
+    ensures start { (o : Object) (input : List ℕ) →
+        symbolic_start o input
+        ≡ standing (first_outside input) (Place.Slot 0 0) (first_core o) }
+    ensures memory { (o : Object) → length o.ro + length o.rw ≤ most_data →
+        IsStack stack_start stack_end (first_core o).segments }
 {}
 
 /// The entry and a jump go to the start of their function; a call pushes the word of the place

@@ -8,4 +8,5 @@ pub mod Leaves
 pub mod Numbers
 pub mod Registers
 pub mod Saving
+pub mod First
 pub mod Worked

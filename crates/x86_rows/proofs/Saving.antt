@@ -41,7 +41,7 @@ saved_same ss ts (r ∷ rs) p regs same h =
     (range_same ts ss 8 p (λ q from to. same q from (omega (arith, to))) ∙ h.0, saved_same ss ts rs (p + 8) regs (λ q from to. same q (omega (arith, from)) (omega (arith, to))) h.1)
 
 -- a segment among others covers its ranges
-covered_among : (right : Rights → Bool) (before : List Segment) (s : Segment) (after : List Segment) (p n : ℕ) → right s.rights ≡ true → covers s p n ≡ true → one_covers right (before ++ s ∷ after) p n ≡ true
+pub covered_among : (right : Rights → Bool) (before : List Segment) (s : Segment) (after : List Segment) (p n : ℕ) → right s.rights ≡ true → covers s p n ≡ true → one_covers right (before ++ s ∷ after) p n ≡ true
 covered_among right [] s after p n allowed here = ap (λ b. b || one_covers right after p n) (and_from (right s.rights) (covers s p n) allowed here)
 covered_among right (t ∷ before) s after p n allowed here = either (right t.rights && covers t p n) (one_covers right (before ++ s ∷ after) p n) (covered_among right before s after p n allowed here)
   where
