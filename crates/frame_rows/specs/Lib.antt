@@ -1,0 +1,5 @@
+pub mod Words
+pub mod Code
+pub mod Sizes
+pub mod Ties
+pub mod Steps
