@@ -1,5 +1,6 @@
 pub mod Rows
 pub mod Links
+pub mod Rules
 pub mod Passing
 pub mod Fetching
 pub mod Runs
@@ -7,4 +8,5 @@ pub mod Branches
 pub mod Words
 pub mod Slots
 pub mod Kernel
+pub mod Start
 pub mod Worked

@@ -12,7 +12,7 @@ use Rattle.obj_core.specs.SymbolicMachine.{link_before}
 use Rattle.obj_rows.specs.Marked.{Marked, row_size, link_ending, links_from, IsLinkable, IsRow}
 
 -- a branch has room for its displacement
-branch_size : (i : Instr) → displacement i ≡ Some (pos 0) → 4 ≤ size_of i
+pub branch_size : (i : Instr) → displacement i ≡ Some (pos 0) → 4 ≤ size_of i
 branch_size (Jcc c by) e = lit≤ tt
 branch_size (Jmp by) e = lit≤ tt
 branch_size i e = absurd (cc)

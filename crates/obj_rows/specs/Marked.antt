@@ -1,6 +1,7 @@
 -- Rows of instructions with marks, which say what displacement leads to what slot, and where a row stands in a function.
-use Rattle.std.specs.Prelude.{◌≡◌, ℕ, ◌+◌, ◌-◌, List, [], ◌∷◌, ◌++◌, Option, Some, None, pos, slice_get}
+use Rattle.std.specs.Prelude.{◌≡◌, ℕ, ◌+◌, ◌-◌, ◌<◌, List, [], ◌∷◌, ◌++◌, Option, Some, None, ℤ, pos, slice_get}
 use Rattle.x86_core.specs.declared.instr.Instr.{Instr}
+use Rattle.x86_core.specs.Arithmetic.{moved}
 use Rattle.x86_core.specs.Encoding.{IsInstr}
 use Rattle.obj_core.specs.declared.object.Object.{Object}
 use Rattle.obj_core.specs.declared.object.Func.{Func}
@@ -67,3 +68,15 @@ pub record IsFunction (o : Object) (n : ℕ) (row : List Marked) : Type 0 where
   pub bytes : function.bytes ≡ spelled (instrs_of row)
   pub links : function.links ≡ links_from 0 row
   pub is_row : IsRow row
+
+-- each mark is the number of one of so many slots
+abbrev pub IsSlotBelow : ℕ → Option ℕ → Type 0
+IsSlotBelow count None = Unit {0}
+IsSlotBelow count (Some k) = k < count
+
+abbrev pub MarksBelow : ℕ → List Marked → Type 0
+MarksBelow count row = Each (λ (x : Marked). IsSlotBelow count x.slot) row
+
+-- a branch without a mark leads to where an instruction of the row stands
+abbrev pub LeadsInside : List Marked → Type 0
+LeadsInside row = (off : ℕ) (x : Marked) (by : ℤ) → Stands row off (x ∷ []) → x.slot ≡ None → displacement x.instr ≡ Some by → (y : Marked) × Stands row (moved (off + size_of x.instr) by) (y ∷ [])

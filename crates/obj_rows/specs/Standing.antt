@@ -1,13 +1,16 @@
 -- A run of an object at a place, in two parts: what rows of instructions work on, and what they leave alone.
-use Rattle.std.specs.Prelude.{ℕ, List, pos}
+use Rattle.std.specs.Prelude.{ℕ, List, [], pos, replicate}
 use Rattle.behavior.specs.Ending.{Ending, Going}
 use Rattle.behavior.specs.Moment.{Moment}
+use Rattle.x86_core.specs.declared.flags.Flag.TheVariants.{Zero}
 use Rattle.x86_core.specs.declared.image.Segment.{Segment}
 use Rattle.x86_core.specs.declared.reg.Reg.TheVariants.{Rsp}
 use Rattle.x86_core.specs.Registers.{with_word}
+use Rattle.x86_core.specs.Data.{data_segments, stack_end}
 use Rattle.x86_core.specs.Effect.{with_stack}
 use Rattle.x86_core.specs.Step.{State, answered}
 use Rattle.x86_rows.specs.Straight.{Core}
+use Rattle.obj_core.specs.declared.object.Object.{Object}
 use Rattle.obj_core.specs.declared.object.Place.{Place}
 
 -- the input that is left, what was printed, and how many bytes were taken
@@ -44,3 +47,14 @@ popped c = record c { regs = with_stack c.regs (pos 8) }
 -- after a system call, with its answer, the number of the place behind it, and the flags in three registers
 abbrev pub after_call : Core → ℕ → ℕ → Core
 after_call c answer back = record c { regs = answered c.regs c.flags answer back }
+
+-- the first state of a run, in the same two parts: all registers are 0 but rsp, all flags are 0, and memory holds the data
+abbrev pub first_core : Object → Core
+first_core o = record {
+  regs = with_word (replicate 16 0) Rsp stack_end;
+  flags = record { c = Zero; z = Zero; s = Zero; o = Zero };
+  segments = data_segments o.ro o.rw;
+}
+
+abbrev pub first_outside : List ℕ → Outside
+first_outside input = record { left = input; printed = []; taken = 0 }

@@ -6,22 +6,27 @@ ghost use Rattle.behavior.specs.System.{iter};
 ghost use Rattle.rd_num.specs.Number.{le_bytes};
 ghost use Rattle.x86_core.specs.declared.reg.Reg.TheVariants.{Rax, Rdi, Rsi, Rdx, Rsp, R11};
 ghost use Rattle.x86_core.specs.declared.instr.Cond.{Cond};
+ghost use Rattle.x86_core.specs.declared.instr.Instr.{Instr};
 ghost use Rattle.x86_core.specs.declared.instr.Instr.TheVariants.{Jcc, Jmp, JmpR11, Ret};
+ghost use Rattle.x86_core.specs.Data.{stack_start, stack_end};
 ghost use Rattle.x86_core.specs.Registers.{word};
 ghost use Rattle.x86_core.specs.Arithmetic.{holds};
 ghost use Rattle.x86_core.specs.Memory.{reads, one_covers};
 ghost use Rattle.x86_core.specs.Step.{Exits, Prints, Takes, below, moment_of, request_of};
 ghost use Rattle.x86_rows.specs.Addresses.{range_at, AreDisjoint, Written};
+ghost use Rattle.x86_rows.specs.Saving.{IsStack};
 ghost use Rattle.x86_rows.specs.Straight.{Core, Through, Stopped, exec};
 ghost use Rattle.obj_core.specs.declared.object.Object.{Object};
 ghost use Rattle.obj_core.specs.declared.object.Slot.{Slot};
 ghost use Rattle.obj_core.specs.declared.object.CodeAt.{CodeAt};
 ghost use Rattle.obj_core.specs.declared.object.Place.{Place};
-ghost use Rattle.obj_core.specs.Disassembly.{size_of};
+ghost use Rattle.obj_core.specs.Object.{Each};
+ghost use Rattle.obj_core.specs.Disassembly.{IsDisassembly, found, size_of, spelled, starts_at};
+ghost use Rattle.obj_core.specs.WellFormed.{bad_branches, bad_links, forbidden_in, is_end, is_slots_own, most_data, open_end};
 ghost use Rattle.obj_core.specs.Slots.{slot_start};
-ghost use Rattle.obj_core.specs.SymbolicMachine.{at_code, link_before, target, symbolic_land, symbolic_step};
-ghost use Rattle.obj_rows.specs.Marked.{Marked, instrs_of, row_size, links_from, IsRow, Stands, IsFunction};
-ghost use Rattle.obj_rows.specs.Standing.{Outside, standing, shown, pushed, popped, after_call};
+ghost use Rattle.obj_core.specs.SymbolicMachine.{at_code, link_before, target, symbolic_land, symbolic_start, symbolic_step};
+ghost use Rattle.obj_rows.specs.Marked.{Marked, instrs_of, row_size, links_from, IsRow, MarksBelow, LeadsInside, Stands, IsFunction};
+ghost use Rattle.obj_rows.specs.Standing.{Outside, standing, shown, pushed, popped, after_call, first_core, first_outside};
 
 /// A row stands in itself, and its parts stand in it: the first one where it does, another one
 /// behind the one before it.
@@ -39,6 +44,24 @@ pub fn links()
         IsRow (before ++ x ∷ behind) →
         link_before (links_from off (before ++ x ∷ behind))
         (off + row_size before + size_of x.instr) ≡ x.slot }
+{}
+
+/// A row keeps the rules that speak of one function: it is the disassembly of its bytes; where a
+/// part stands an instruction starts; its links and branches are good, nothing in it is a slot's
+/// own, and it may end where nothing runs past, each where its instructions are so.
+pub fn rules()
+    ensures disassembly { (row : List Marked) → IsRow row →
+        IsDisassembly (spelled (instrs_of row)) (instrs_of row) }
+    ensures starts { (row : List Marked) (off : ℕ) (x : Marked) → Stands row off (x ∷ []) →
+        starts_at (found (instrs_of row)) off ≡ true }
+    ensures transfers { (is : List Instr) → Each (λ i. is_slots_own i ≡ false) is →
+        forbidden_in (found is) ≡ [] }
+    ensures links { (row : List Marked) (count : ℕ) → IsRow row → MarksBelow count row →
+        bad_links None (found (instrs_of row)) count (links_from 0 row) ≡ [] }
+    ensures branches { (row : List Marked) → IsRow row → LeadsInside row →
+        bad_branches (links_from 0 row) (found (instrs_of row)) (found (instrs_of row)) ≡ [] }
+    ensures end { (is : List Instr) (i : Instr) → is_end i ≡ true →
+        open_end (found (is ++ i ∷ [])) ≡ [] }
 {}
 
 /// A row that is passed takes a step for each instruction, and leads behind it.
@@ -119,6 +142,16 @@ pub fn words()
         symbolic_land o (slot_start o k + 5) ≡ Some (Place.Slot k 5) }
     ensures small { (o : Object) (k : ℕ) → k < length o.slots → length o.slots ≤ 1048576 →
         slot_start o k + 5 < 2 ^ 64 }
+{}
+
+/// A run begins at the entry slot; where the object has no more data than it may have, its
+/// segments are apart and the whole stack may be used.
+pub fn starts()
+    ensures start { (o : Object) (input : List ℕ) →
+        symbolic_start o input
+        ≡ standing (first_outside input) (Place.Slot 0 0) (first_core o) }
+    ensures memory { (o : Object) → length o.ro + length o.rw ≤ most_data →
+        IsStack stack_start stack_end (first_core o).segments }
 {}
 
 /// The entry and a jump go to the start of their function; a call pushes the word of the place

@@ -6,4 +6,7 @@ pub mod Writing
 pub mod Rows
 pub mod Leaves
 pub mod Numbers
+pub mod Registers
+pub mod Saving
+pub mod First
 pub mod Worked

@@ -1,5 +1,5 @@
 -- A small memory and small rows, worked out.
-use Rattle.std.proofs.Common.{◌≡◌, List, [], ◌∷◌, false, refl}
+use Rattle.std.proofs.Common.{◌≡◌, List, [], ◌∷◌, ◌++◌, false, refl}
 use Rattle.std.specs.Prelude.{replicate, negsuc, pos}
 use Rattle.behavior.specs.Ending.{Divide, Invalid, PageFault, NoFlag}
 use Rattle.x86_core.specs.declared.reg.Reg.TheVariants.{Rax, Rcx, Rdx, Rbx, Rsp}
@@ -13,6 +13,7 @@ use Rattle.x86_core.specs.declared.image.Segment.{Segment}
 use Rattle.x86_core.specs.Effect.{effect_of}
 use Rattle.x86_core.specs.Data.{segment}
 use Rattle.x86_rows.specs.Addresses.{byte_at, range_at, has_address}
+use Rattle.x86_rows.specs.Saving.{push_row, pop_row}
 use Rattle.x86_rows.specs.Straight.{Core, Through, Stopped, Away, exec}
 
 -- two bytes at 16 that may be read, and eight at 32 that may be written too
@@ -84,3 +85,12 @@ jumps = refl
 stops : exec (Ud2 ∷ Jmp (pos 100) ∷ []) start ≡ Stopped Invalid
 unfolding effect_of
 stops = refl
+
+-- rbx is pushed first, so that rax has the lower address
+pushed_last_first : push_row (Rax ∷ Rbx ∷ []) ≡ Push Rbx ∷ Push Rax ∷ []
+pushed_last_first = refl
+
+-- a register saved by a row is taken back by another one, after it had another word
+saved_and_restored : exec (push_row (Rbx ∷ []) ++ (MovImm32 Rbx 5 ∷ pop_row (Rbx ∷ []))) start ≡ Through (record start { segments = segment 16 (7 ∷ 9 ∷ []) 4 ∷ segment 32 (16 ∷ replicate 7 0) 6 ∷ [] })
+unfolding effect_of
+saved_and_restored = refl

@@ -1,3 +1,4 @@
 pub mod Addresses
 pub mod Straight
 pub mod Leaves
+pub mod Saving

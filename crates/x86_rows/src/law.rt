@@ -1,6 +1,6 @@
 //! The laws, of memory first, then of rows, then of each kind of instruction.
 
-ghost use Rattle.std.specs.Prelude.{◌≡◌, ℕ, ℤ, pos, ◌+◌, ◌%◌, ◌^◌, ◌<◌, ◌≤◌, ◌++◌, List, [], ◌∷◌, Bool, true, false, length, Some, None, if◌then◌else◌};
+ghost use Rattle.std.specs.Prelude.{◌≡◌, ◌≢◌, ◌⊎◌, ℕ, ℤ, pos, ◌+◌, ◌*◌, ◌%◌, ◌^◌, ◌<◌, ◌≤◌, ◌++◌, List, [], ◌∷◌, Bool, true, false, length, slice_index, Some, None, if◌then◌else◌};
 ghost use Rattle.behavior.specs.Ending.{Ending, Divide, Invalid, Breakpoint};
 ghost use Rattle.rd_num.specs.Number.{le_bytes, le_number};
 ghost use Rattle.x86_core.specs.declared.reg.Reg.{Reg};
@@ -19,13 +19,15 @@ ghost use Rattle.x86_core.specs.declared.instr.Instr.TheVariants.{Mov, MovImm64,
 ghost use Rattle.x86_core.specs.declared.divide.Division.{Division};
 ghost use Rattle.x86_core.specs.declared.image.Rights.{Rights};
 ghost use Rattle.x86_core.specs.declared.image.Segment.{Segment};
+ghost use Rattle.x86_core.specs.Data.{ro_start, rw_start, stack_start, stack_end, data_segments};
 ghost use Rattle.x86_core.specs.Registers.{word, with_word};
 ghost use Rattle.x86_core.specs.Arithmetic.{wide_bits, size_bits, low, kept, constant, same_op, unknown_flags, division, widened, holds};
 ghost use Rattle.x86_core.specs.Effect.{alu_effect, imul_effect, shift_effect, dividend, with_division, high_effect, address_of, with_stack};
 ghost use Rattle.x86_core.specs.Memory.{reads, writes, one_covers, read_at, write_at};
 ghost use Rattle.x86_core.specs.Step.{size_bytes, below};
-ghost use Rattle.x86_rows.specs.Addresses.{range_at, has_address, AreDisjoint, SameShape, Written};
+ghost use Rattle.x86_rows.specs.Addresses.{byte_at, range_at, has_address, AreDisjoint, SameShape, Written};
 ghost use Rattle.x86_rows.specs.Straight.{Core, Through, Stopped, ran, exec, and_on};
+ghost use Rattle.x86_rows.specs.Saving.{IsStack, IsOneOf, SpareRsp, AreSaved, Saves, pop_row, restored};
 ghost use Rattle.x86_rows.specs.Leaves.{with_reg, with_regs, with_segments, by_effect};
 
 /// A read that is allowed gives the bytes of its range, and one that isn't gives none.
@@ -53,6 +55,28 @@ pub fn shapes()
     ensures rights { (right : Rights → Bool) (ss ts : List Segment) (at n : ℕ) →
         SameShape ss ts → one_covers right ss at n ≡ one_covers right ts at n }
     ensures apart { (ss ts : List Segment) → SameShape ss ts → AreDisjoint ss → AreDisjoint ts }
+{}
+
+/// The memory with which a run begins: its segments are apart, the stack may be used from end to
+/// end, and data is there, byte by byte, to be read, and the second part to be written too.
+pub fn first_memory()
+    ensures apart { (ro rw : List ℕ) → length ro ≤ 2 ^ 28 → length rw ≤ 2 ^ 28 →
+        AreDisjoint (data_segments ro rw) }
+    ensures stack { (ro rw : List ℕ) → length ro ≤ 2 ^ 28 → length rw ≤ 2 ^ 28 →
+        IsStack stack_start stack_end (data_segments ro rw) }
+    ensures ro_bytes { (ro rw : List ℕ) → length ro ≤ 2 ^ 28 → length rw ≤ 2 ^ 28 → (i : ℕ) →
+        i < length ro → byte_at (data_segments ro rw) (ro_start + i) ≡ slice_index ro i }
+    ensures rw_bytes { (ro rw : List ℕ) → length ro ≤ 2 ^ 28 → length rw ≤ 2 ^ 28 → (i : ℕ) →
+        i < length rw → byte_at (data_segments ro rw) (rw_start + i) ≡ slice_index rw i }
+    ensures ro_reads { (ro rw : List ℕ) → length ro ≤ 2 ^ 28 → length rw ≤ 2 ^ 28 →
+        (p n : ℕ) → ro_start ≤ p → p + n ≤ ro_start + length ro → 1 ≤ n →
+        one_covers reads (data_segments ro rw) p n ≡ true }
+    ensures rw_reads { (ro rw : List ℕ) → length ro ≤ 2 ^ 28 → length rw ≤ 2 ^ 28 →
+        (p n : ℕ) → rw_start ≤ p → p + n ≤ rw_start + length rw → 1 ≤ n →
+        one_covers reads (data_segments ro rw) p n ≡ true }
+    ensures rw_writes { (ro rw : List ℕ) → length ro ≤ 2 ^ 28 → length rw ≤ 2 ^ 28 →
+        (p n : ℕ) → rw_start ≤ p → p + n ≤ rw_start + length rw → 1 ≤ n →
+        one_covers writes (data_segments ro rw) p n ≡ true }
 {}
 
 /// The bytes of a number spell what they have of it; the low ones begin its range.
@@ -134,6 +158,32 @@ pub fn stack()
         AreDisjoint c.segments → one_covers reads c.segments at 8 ≡ true →
         ran (Pop r) c ≡ Through (with_regs c (with_word (with_stack c.regs (pos 8)) r
         (le_number (range_at c.segments at 8)))) }
+{}
+
+/// Registers that are saved by a row of pushes, and taken back by a row of pops: all of them have
+/// their words again, rsp is where it was, and no other register changes.
+pub fn saving()
+    ensures segment { (before : List Segment) (s : Segment) (after : List Segment) →
+        AreDisjoint (before ++ s ∷ after) → reads s.rights ≡ true → writes s.rights ≡ true →
+        s.start + length s.bytes < 2 ^ 64 →
+        IsStack s.start (s.start + length s.bytes) (before ++ s ∷ after) }
+    ensures pushes { (low high : ℕ) (rs : List Reg) (c : Core) (p : ℕ) → SpareRsp rs →
+        length c.regs ≡ 16 → IsStack low high c.segments →
+        word c.regs Rsp ≡ p + 8 * length rs → low ≤ p → p + 8 * length rs ≤ high →
+        Saves rs c p }
+    ensures pops { (low high : ℕ) (rs : List Reg) (c : Core) (p : ℕ) → SpareRsp rs →
+        length c.regs ≡ 16 → IsStack low high c.segments → word c.regs Rsp ≡ p → low ≤ p →
+        p + 8 * length rs ≤ high →
+        exec (pop_row rs) c ≡ Through (with_regs c (restored c.segments rs p c.regs)) }
+    ensures words { (ss : List Segment) (rs : List Reg) (p : ℕ) (old regs : List ℕ) (r : Reg) →
+        r ≢ Rsp → length regs ≡ 16 → word old r < 2 ^ 64 → AreSaved ss rs p old →
+        (word regs r ≡ word old r) ⊎ IsOneOf r rs →
+        word (restored ss rs p regs) r ≡ word old r }
+    ensures top { (ss : List Segment) (rs : List Reg) (p : ℕ) (regs : List ℕ) → SpareRsp rs →
+        length regs ≡ 16 → word regs Rsp ≡ p →
+        word (restored ss rs p regs) Rsp ≡ p + 8 * length rs }
+    ensures others { (ss : List Segment) (rs : List Reg) (p : ℕ) (regs : List ℕ) (r : Reg) →
+        r ≢ Rsp → (IsOneOf r rs → ⊥) → word (restored ss rs p regs) r ≡ word regs r }
 {}
 
 /// What is done under a condition whose flags are known.
