@@ -6,4 +6,7 @@
 //! to. The laws stand in `law`. No object, slot or place occurs here.
 #![tactic(auto)]
 
+pub mod law;
+pub mod op;
+pub mod piece;
 pub mod spot;
