@@ -28,5 +28,5 @@ Reaches own (FrameAt r at) = own + at < 2 ^ 31
 Reaches own other = Unit {0}
 
 -- addresses alone
-abbrev pub addresses : List ℕ → List ℕ → Plan
-addresses globals functions = record { globals = globals; functions = functions; frames = [] }
+abbrev pub addresses_of : List ℕ → List ℕ → Plan
+addresses_of globals functions = record { globals = globals; functions = functions; frames = [] }

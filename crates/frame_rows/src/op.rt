@@ -1,11 +1,12 @@
 //! Operations as rows of instructions, put behind those that are there.
 
-ghost use Rattle.std.specs.Prelude.{◌≡◌, ◌+◌, ◌<◌, ◌^◌, ◌++◌, [], ◌∷◌, pos, OnOk};
+ghost use Rattle.std.specs.Prelude.{◌≡◌, ◌<◌, ◌^◌, ◌++◌, [], ◌∷◌, true, get_or, pos, OnOk};
 ghost use Rattle.rd_num.specs.declared.width.Width.TheVariants.{W1, W8};
-ghost use Rattle.x86_core.specs.declared.reg.Reg.TheVariants.{Rax, Rcx};
-ghost use Rattle.x86_core.specs.declared.instr.Instr.TheVariants.{Alu, Shift, SetCond, Widen};
+ghost use Rattle.x86_core.specs.declared.reg.Reg.TheVariants.{Rax, Rcx, Rsp};
+ghost use Rattle.x86_core.specs.declared.instr.Instr.TheVariants.{MovImm64, Alu, Shift, Lea, SetCond, Widen};
+ghost use Rattle.low_core.specs.declared.sel.SelOp.TheVariants.{Pick, Load, Store};
 ghost use Rattle.frame_rows.specs.Code as code;
-ghost use Rattle.frame_rows.specs.Bodies.{AreNear, Reaches, spot_of, addresses};
+ghost use Rattle.frame_rows.specs.Bodies.{AreNear, Reaches, spot_of, addresses_of};
 
 use crate::piece::{
     access_size, amount, at_rax, bit_condition, condition, cut, filled, high_half, home_read,
@@ -18,6 +19,220 @@ use rd_num::list::List;
 use rd_num::width::{NoMemory, Width};
 use x86_core::instr::{AluOp, Cond, HighSize, ImmOp, Instr, Mem, ShiftOp, Size, Wide, WidenKind};
 use x86_core::reg::Reg;
+
+/// Puts the row of an operation behind the instructions that are there; of a call it puts none.
+///
+/// `homes` has a home for each register, `globals` and `functions` their addresses by number; the
+/// function's own memory begins `own` bytes above the frame's lowest word. On an error a part of the
+/// row may be there.
+pub fn put_op(
+    all: &mut List<Instr>,
+    homes: &[Spot],
+    globals: &[u64],
+    functions: &[u64],
+    own: u32,
+    op: &SelOp,
+) -> Result<(), NoMemory>
+    requires near { AreNear homes.now }
+    requires reaches { Reaches own op.now }
+    ensures { OnOk result (all.new ≡ all.old ++ code.op_row (spot_of homes.now)
+        (addresses_of globals.now functions.now) own op.now) }
+{
+    match op {
+        SelOp::Set(r, n) => put_constant(all, homes, *r, *n),
+        SelOp::Copy(r, s) => put_copy(all, homes, *r, *s),
+        SelOp::Alu(op, w, r, s, t) => {
+            put_both(all, homes, *s, *t)?;
+            put_alu(all, *op, *w)?;
+            put_result(all, homes, *r)
+        }
+        SelOp::Div(signed, rest, w, r, s, t) => {
+            put_both(all, homes, *s, *t)?;
+            put_div(all, *signed, *rest, *w)?;
+            put_result(all, homes, *r)
+        }
+        SelOp::Widen(signed, from, to, r, s) => {
+            put_widen(all, homes, (*signed, *from, *to), *s)?;
+            put_result(all, homes, *r)
+        }
+        SelOp::Test(p, w, r, s, t) => {
+            put_both(all, homes, *s, *t)?;
+            put_test(all, *p, *w)?;
+            put_result(all, homes, *r)
+        }
+        SelOp::Pick(r, c, s, t) => put_pick(all, homes, *r, (*c, *s, *t)),
+        SelOp::Load(w, r, s) => put_load(all, homes, *w, *r, *s),
+        SelOp::Store(w, s, t) => put_store(all, homes, *w, *s, *t),
+        SelOp::FrameAt(r, at) => put_place(all, homes, *r, own + *at),
+        SelOp::GlobalAt(r, g) => put_constant(all, homes, *r, entry(globals, *g)),
+        SelOp::FunctionAt(r, f) => put_constant(all, homes, *r, entry(functions, *f)),
+        SelOp::Call(_, _, _) => Ok(()),
+        SelOp::CallAt(_, _, _) => Ok(()),
+        SelOp::Outside(_, _, _) => Ok(()),
+    }
+}
+
+/// An entry of a list of addresses, and 0 past its end.
+fn entry(addresses: &[u64], i: u32) -> u64
+    ensures { result ≡ get_or addresses.now i 0 }
+{
+    match addresses.get(i as usize) {
+        Some(a) => *a,
+        None => 0,
+    }
+}
+
+/// A number in the home of a register.
+fn put_constant(all: &mut List<Instr>, homes: &[Spot], r: u32, n: u64) -> Result<(), NoMemory>
+    requires { AreNear homes.now }
+    ensures { OnOk result (all.new ≡ all.old ++
+        code.assigned_row (spot_of homes.now) r (MovImm64 Rax n ∷ [])) }
+{
+    let last = home_write(spot(homes, r), Reg::Rax);
+    put_row(all, &[Instr::MovImm64(Reg::Rax, n), last])
+}
+
+/// A place in the frame, in bytes from its lowest word.
+fn put_place(all: &mut List<Instr>, homes: &[Spot], r: u32, at: u32) -> Result<(), NoMemory>
+    requires near { AreNear homes.now }
+    requires reaches { at < 2 ^ 31 }
+    ensures { OnOk result (all.new ≡ all.old ++ code.assigned_row (spot_of homes.now) r
+        (Lea Rax (record { base = Rsp; disp = pos at }) ∷ [])) }
+{
+    let place = Mem {
+        base: Reg::Rsp,
+        disp: at as i32,
+    };
+    let last = home_write(spot(homes, r), Reg::Rax);
+    put_row(all, &[Instr::Lea(Reg::Rax, place), last])
+}
+
+/// The word of another register.
+fn put_copy(all: &mut List<Instr>, homes: &[Spot], r: u32, s: u32) -> Result<(), NoMemory>
+    requires { AreNear homes.now }
+    ensures { OnOk result (all.new ≡ all.old ++ code.assigned_row (spot_of homes.now) r
+        (code.home_read (spot_of homes.now s) Rax ∷ [])) }
+{
+    let first = home_read(spot(homes, s), Reg::Rax);
+    let last = home_write(spot(homes, r), Reg::Rax);
+    put_row(all, &[first, last])
+}
+
+/// An extension of one register, without the write of its result.
+fn put_widen(
+    all: &mut List<Instr>,
+    homes: &[Spot],
+    kind: (bool, Width, Width),
+    s: u32,
+) -> Result<(), NoMemory>
+    requires { AreNear homes.now }
+    ensures { OnOk result (all.new ≡ all.old ++
+        code.widen_row (spot_of homes.now s) kind.0 kind.1 kind.2) }
+{
+    if kind.0 {
+        put_sign(all, homes, kind.1, kind.2, s)
+    } else {
+        put_filled(all, homes, (false, kind.1, kind.2), s)
+    }
+}
+
+/// An extension with the sign.
+fn put_sign(
+    all: &mut List<Instr>,
+    homes: &[Spot],
+    from: Width,
+    to: Width,
+    s: u32,
+) -> Result<(), NoMemory>
+    requires { AreNear homes.now }
+    ensures { OnOk result (all.new ≡ all.old ++
+        code.widen_row (spot_of homes.now s) true from to) }
+{
+    match from {
+        Width::W1 => put_bit_sign(all, homes, to, s),
+        Width::W8 => put_filled(all, homes, (true, Width::W8, to), s),
+        Width::W16 => put_filled(all, homes, (true, Width::W16, to), s),
+        Width::W32 => put_filled(all, homes, (true, Width::W32, to), s),
+        Width::W64 => put_filled(all, homes, (true, Width::W64, to), s),
+    }
+}
+
+/// An extension with the sign, or with zeros, but for the sign of a single bit.
+fn put_filled(
+    all: &mut List<Instr>,
+    homes: &[Spot],
+    kind: (bool, Width, Width),
+    s: u32,
+) -> Result<(), NoMemory>
+    requires { AreNear homes.now }
+    ensures { OnOk result (all.new ≡ all.old ++ (code.home_read (spot_of homes.now s) Rax ∷
+        code.filled kind.0 kind.1 Rax ∷ code.cut kind.2 Rax ∷ [])) }
+{
+    let first = home_read(spot(homes, s), Reg::Rax);
+    let fill = filled(kind.0, kind.1, Reg::Rax);
+    put_row(all, &[first, fill, cut(kind.2, Reg::Rax)])
+}
+
+/// A single bit taken from 0.
+fn put_bit_sign(all: &mut List<Instr>, homes: &[Spot], to: Width, s: u32) -> Result<(), NoMemory>
+    requires { AreNear homes.now }
+    ensures { OnOk result (all.new ≡ all.old ++
+        code.widen_row (spot_of homes.now s) true W1 to) }
+{
+    let first = home_read(spot(homes, s), Reg::Rcx);
+    let bit = Instr::AluImm(ImmOp::And, Wide::W32, Reg::Rcx, 1);
+    let zero = Instr::Alu(AluOp::Sub, Wide::W32, Reg::Rax, Reg::Rax);
+    let minus = Instr::Alu(AluOp::Sub, Wide::W64, Reg::Rax, Reg::Rcx);
+    put_row(all, &[first, bit, zero, minus, cut(to, Reg::Rax)])
+}
+
+/// The word of one of two registers, by the low bit of the first of three.
+fn put_pick(
+    all: &mut List<Instr>,
+    homes: &[Spot],
+    r: u32,
+    from: (u32, u32, u32),
+) -> Result<(), NoMemory>
+    requires { AreNear homes.now }
+    ensures { OnOk result (all.new ≡ all.old ++ code.op_row (spot_of homes.now)
+        (addresses_of [] []) 0 (Pick r from.0 from.1 from.2)) }
+{
+    put_row(
+        all,
+        &[
+            home_read(spot(homes, from.0), Reg::Rdx),
+            home_read(spot(homes, from.1), Reg::Rax),
+            home_read(spot(homes, from.2), Reg::Rcx),
+            Instr::AluImm(ImmOp::And, Wide::W32, Reg::Rdx, 1),
+            Instr::Cmov(Cond::E, Reg::Rax, Reg::Rcx),
+            home_write(spot(homes, r), Reg::Rax),
+        ],
+    )
+}
+
+/// The bytes at the address in a register.
+fn put_load(all: &mut List<Instr>, homes: &[Spot], w: Width, r: u32, s: u32) -> Result<(), NoMemory>
+    requires { AreNear homes.now }
+    ensures { OnOk result (all.new ≡ all.old ++ code.op_row (spot_of homes.now)
+        (addresses_of [] []) 0 (Load w r s)) }
+{
+    let first = home_read(spot(homes, s), Reg::Rax);
+    let load = Instr::Load(access_size(w), Reg::Rax, at_rax());
+    let last = home_write(spot(homes, r), Reg::Rax);
+    put_row(all, &[first, load, last])
+}
+
+/// A word to the address in a register.
+fn put_store(all: &mut List<Instr>, homes: &[Spot], w: Width, s: u32, t: u32) -> Result<(), NoMemory>
+    requires { AreNear homes.now }
+    ensures { OnOk result (all.new ≡ all.old ++ code.op_row (spot_of homes.now)
+        (addresses_of [] []) 0 (Store w s t)) }
+{
+    let first = home_read(spot(homes, s), Reg::Rax);
+    let second = home_read(spot(homes, t), Reg::Rcx);
+    let store = Instr::Store(access_size(w), at_rax(), Reg::Rcx);
+    put_row(all, &[first, second, store])
+}
 
 /// Instructions, one behind the other.
 fn put_row(all: &mut List<Instr>, row: &[Instr]) -> Result<(), NoMemory>
