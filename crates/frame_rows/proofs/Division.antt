@@ -36,12 +36,12 @@ skipped false x y e = refl
 
 pub unsigned_agrees : (w : Width) (a b : ℕ) → a < modulus w → Agrees false w a a b
 unsigned_agrees w a b lt = elim (cases_eq b 0) [
-    | inl e ↦ NoAnswer (taken (nat_eq b 0) None _ (eq-eqb b 0 e)) (λ rest. none rest (eq-eqb b 0 e))
-    | inr ne ↦
-        let q = div-le_self a b in
-        let r = mod-le a b in
-        SameAnswer d (skipped (nat_eq b 0) None _ (ne_eqb b 0 ne) ∙ taken (nat_lt (a / b) (modulus w)) (Some d) None (lt-ltb (a / b) (modulus w) (omega (arith, q, lt)))) (omega (arith, q, lt)) (omega (arith, r, lt)) (λ rest. some rest (ne_eqb b 0 ne))
-  ]
+  | inl e ↦ NoAnswer (taken (nat_eq b 0) None _ (eq-eqb b 0 e)) (λ rest. none rest (eq-eqb b 0 e))
+  | inr ne ↦
+      let q = div-le_self a b in
+      let r = mod-le a b in
+      SameAnswer d (skipped (nat_eq b 0) None _ (ne_eqb b 0 ne) ∙ taken (nat_lt (a / b) (modulus w)) (Some d) None (lt-ltb (a / b) (modulus w) (omega (arith, q, lt)))) (omega (arith, q, lt)) (omega (arith, r, lt)) (λ rest. some rest (ne_eqb b 0 ne))
+]
   where
     d : Division
     d = record { quotient = a / b; remainder = a % b }
@@ -180,10 +180,10 @@ module _ (w : Width) (n a b : ℕ) (la : a < modulus w) (lb : b < modulus w) (do
 
   by_other : (b ≡ 0 → ⊥) → Agrees true w n a b
   by_other ne = elim (cases_Bool (overflows w a b)) [
-      | inl o ↦ NoAnswer (divided ∙ skipped (nat_eq b 0) None _ (ne_eqb b 0 ne) ∙ skipped (has_room (bits w) (differ s t) q) (Some answer) None (room ∙ ap not o)) (λ rest. none rest o)
-      | inr o ↦ SameAnswer answer (divided ∙ skipped (nat_eq b 0) None _ (ne_eqb b 0 ne) ∙ taken (has_room (bits w) (differ s t) q) (Some answer) None (room ∙ ap not o))
-          (signed_small (differ s t) q (let d = div-le_self (magnitude (bits w) a) (magnitude (bits w) b) in omega (arith, d, near))) (signed_small s r (let d = mod-le (magnitude (bits w) a) (magnitude (bits w) b) in omega (arith, d, near))) (λ rest. some rest o)
-    ]
+    | inl o ↦ NoAnswer (divided ∙ skipped (nat_eq b 0) None _ (ne_eqb b 0 ne) ∙ skipped (has_room (bits w) (differ s t) q) (Some answer) None (room ∙ ap not o)) (λ rest. none rest o)
+    | inr o ↦ SameAnswer answer (divided ∙ skipped (nat_eq b 0) None _ (ne_eqb b 0 ne) ∙ taken (has_room (bits w) (differ s t) q) (Some answer) None (room ∙ ap not o))
+        (signed_small (differ s t) q (let d = div-le_self (magnitude (bits w) a) (magnitude (bits w) b) in omega (arith, d, near))) (signed_small s r (let d = mod-le (magnitude (bits w) a) (magnitude (bits w) b) in omega (arith, d, near))) (λ rest. some rest o)
+  ]
     where
       near : magnitude (bits w) a < modulus w
       near = far_small (half w) (modulus w) a b (half_some w) (two_halves w) la lb ne s (on_side (half w) a)

@@ -114,14 +114,14 @@ module _ (w : Words) (f : Flags) (ss : List Segment) where
   bit_sign_makes to =
       let w1 : Words = record w { rcx = w.rcx % 2 } in
       let p = cut_passes w f ss W1 Rcx in
-      let zero_ = (w.rax % 2 ^ 32 + 2 ^ 32 - w.rax % 2 ^ 32) % 2 ^ 32 in
-      let w2 : Words = record w1 { rax = zero_ } in
+      let none = (w.rax % 2 ^ 32 + 2 ^ 32 - w.rax % 2 ^ 32) % 2 ^ 32 in
+      let w2 : Words = record w1 { rax = none } in
       let q = zero_passes w1 p.flags ss in
-      let n = (zero_ % 2 ^ 64 + 2 ^ 64 - w.rcx % 2 % 2 ^ 64) % 2 ^ 64 in
+      let n = (none % 2 ^ 64 + 2 ^ 64 - w.rcx % 2 % 2 ^ 64) % 2 ^ 64 in
       let w3 : Words = record w2 { rax = n } in
       let r = alu_passes w2 q.flags ss AluOp.Sub Wide.W64 refl in
       makes_is _ w f ss (n % modulus to) _ (bit_taken to w.rax w.rcx ∙ bit_cast to w.rcx)
       (makes_after (cut W1 Rcx) (Alu AluOp.Sub Wide.W32 Rax Rax ∷ Alu AluOp.Sub Wide.W64 Rax Rcx ∷ cut to Rax ∷ []) w f ss w1 _ p (scratch_same w w.rax w1.rcx w.rdx)
-      (makes_after (Alu AluOp.Sub Wide.W32 Rax Rax) (Alu AluOp.Sub Wide.W64 Rax Rcx ∷ cut to Rax ∷ []) w1 p.flags ss w2 _ q (scratch_same w1 zero_ w1.rcx w.rdx)
+      (makes_after (Alu AluOp.Sub Wide.W32 Rax Rax) (Alu AluOp.Sub Wide.W64 Rax Rcx ∷ cut to Rax ∷ []) w1 p.flags ss w2 _ q (scratch_same w1 none w1.rcx w.rdx)
       (makes_after (Alu AluOp.Sub Wide.W64 Rax Rcx) (cut to Rax ∷ []) w2 q.flags ss w3 _ r (scratch_same w2 n w1.rcx w.rdx)
       (makes_one (cut to Rax) w3 r.flags ss (record w3 { rax = n % modulus to }) (cut_passes w3 r.flags ss to Rax) (scratch_same w3 _ w1.rcx w.rdx)))))

@@ -80,9 +80,9 @@ module _ (w : Words) (f : Flags) (ss : List Segment) where
 
   -- the amount of a shift comes first
   amount_first : (wi : Width) (row : List Instr) (n : ℕ) → ((g : Flags) → Makes row (record w { rcx = w.rcx % bits wi }) g ss n) → Makes (amount wi ∷ row) w f ss n
-  amount_first wi row n then_ =
+  amount_first wi row n made =
       let p = amount_passes w f ss wi in
-      makes_after (amount wi) row w f ss (record w { rcx = w.rcx % bits wi }) n p (scratch_same w w.rax (w.rcx % bits wi) w.rdx) (then_ p.flags)
+      makes_after (amount wi) row w f ss (record w { rcx = w.rcx % bits wi }) n p (scratch_same w w.rax (w.rcx % bits wi) w.rdx) (made p.flags)
 
 module _ (w : Words) (ss : List Segment) (wi : Width) where
   -- the words once the amount is there

@@ -10,7 +10,7 @@ use Rattle.ir_core.specs.Stops.{Left, Malformed, Answer, and_then, found_or}
 use Rattle.x86_core.specs.declared.flags.Flags.{Flags}
 use Rattle.x86_core.specs.declared.reg.Reg.TheVariants.{Rax}
 use Rattle.x86_core.specs.declared.image.Segment.{Segment}
-use Rattle.x86_core.specs.declared.instr.Instr.TheVariants as do_
+use Rattle.x86_core.specs.declared.instr.Instr.TheVariants as instr
 use Rattle.x86_rows.proofs.Rows.{exec-first}
 use Rattle.low_core.specs.declared.sel.Sel.{Sel}
 use Rattle.low_core.specs.declared.sel.SelAlu.{SelAlu}
@@ -94,14 +94,14 @@ module _ (homes : ℕ → Spot) (base words own : ℕ) (plan : Plan) (live after
   pub global_law : (r g : ℕ) → Law (GlobalAt r g)
   global_law r g ready a = elim (entry_cases plan.globals g) [
     | inl p ↦ made_met homes base words live after s f callers spans w fl ss tied r (result_row homes plan own (GlobalAt r g)) (found_or Malformed (slice_get plan.globals g)) p.0 (free_of homes base words live after (GlobalAt r g) r a refl) (ap (found_or Malformed) p.1.0) (ready p.0 p.1.0)
-        (subst (λ n. Makes (do_.MovImm64 Rax (get_or plan.globals g 0) ∷ []) w fl ss n) p.1.1 (set_makes w fl ss (get_or plan.globals g 0)))
+        (subst (λ n. Makes (instr.MovImm64 Rax (get_or plan.globals g 0) ∷ []) w fl ss n) p.1.1 (set_makes w fl ss (get_or plan.globals g 0)))
     | inr e ↦ left_met homes base words live after s f callers spans w fl ss (op_row homes plan own (GlobalAt r g)) r _ Malformed (ap (found_or Malformed) e) refl
   ]
 
   pub function_law : (r g : ℕ) → Law (FunctionAt r g)
   function_law r g ready a = elim (entry_cases plan.functions g) [
     | inl p ↦ made_met homes base words live after s f callers spans w fl ss tied r (result_row homes plan own (FunctionAt r g)) (found_or Malformed (slice_get plan.functions g)) p.0 (free_of homes base words live after (FunctionAt r g) r a refl) (ap (found_or Malformed) p.1.0) (ready p.0 p.1.0)
-        (subst (λ n. Makes (do_.MovImm64 Rax (get_or plan.functions g 0) ∷ []) w fl ss n) p.1.1 (set_makes w fl ss (get_or plan.functions g 0)))
+        (subst (λ n. Makes (instr.MovImm64 Rax (get_or plan.functions g 0) ∷ []) w fl ss n) p.1.1 (set_makes w fl ss (get_or plan.functions g 0)))
     | inr e ↦ left_met homes base words live after s f callers spans w fl ss (op_row homes plan own (FunctionAt r g)) r _ Malformed (ap (found_or Malformed) e) refl
   ]
 

@@ -4,7 +4,7 @@ ghost use Rattle.std.specs.Prelude.{◌≡◌, ◌<◌, ◌^◌, ◌++◌, [], �
 ghost use Rattle.rd_num.specs.declared.width.Width.TheVariants.{W1, W8};
 ghost use Rattle.x86_core.specs.declared.reg.Reg.TheVariants.{Rax, Rcx, Rsp};
 ghost use Rattle.x86_core.specs.declared.instr.Instr.TheVariants.{MovImm64, Alu, Shift, Lea, SetCond, Widen};
-ghost use Rattle.low_core.specs.declared.sel.SelOp.TheVariants.{Pick, Load, Store};
+ghost use Rattle.low_core.specs.declared.sel.SelOp.TheVariants as op;
 ghost use Rattle.frame_rows.specs.Code as code;
 ghost use Rattle.frame_rows.specs.Bodies.{AreNear, Reaches, spot_of, addresses_of};
 
@@ -31,35 +31,30 @@ pub fn put_op(
     globals: &[u64],
     functions: &[u64],
     own: u32,
-    op: &SelOp,
+    operation: &SelOp,
 ) -> Result<(), NoMemory>
     requires near { AreNear homes.now }
-    requires reaches { Reaches own op.now }
+    requires reaches { Reaches own operation.now }
     ensures { OnOk result (all.new ≡ all.old ++ code.op_row (spot_of homes.now)
-        (addresses_of globals.now functions.now) own op.now) }
+        (addresses_of globals.now functions.now) own operation.now) }
 {
-    match op {
+    match operation {
         SelOp::Set(r, n) => put_constant(all, homes, *r, *n),
         SelOp::Copy(r, s) => put_copy(all, homes, *r, *s),
-        SelOp::Alu(op, w, r, s, t) => {
-            put_both(all, homes, *s, *t)?;
-            put_alu(all, *op, *w)?;
-            put_result(all, homes, *r)
-        }
-        SelOp::Div(signed, rest, w, r, s, t) => {
-            put_both(all, homes, *s, *t)?;
-            put_div(all, *signed, *rest, *w)?;
-            put_result(all, homes, *r)
-        }
-        SelOp::Widen(signed, from, to, r, s) => {
-            put_widen(all, homes, (*signed, *from, *to), *s)?;
-            put_result(all, homes, *r)
-        }
-        SelOp::Test(p, w, r, s, t) => {
-            put_both(all, homes, *s, *t)?;
-            put_test(all, *p, *w)?;
-            put_result(all, homes, *r)
-        }
+        SelOp::Alu(op, w, r, s, t) => put_alu_op(all, homes, (*op, *w), (*r, *s, *t)),
+        SelOp::Div(signed, rest, w, r, s, t) => put_div_op(
+            all,
+            homes,
+            (*signed, *rest, *w),
+            (*r, *s, *t),
+        ),
+        SelOp::Widen(signed, from, to, r, s) => put_widen_op(
+            all,
+            homes,
+            (*signed, *from, *to),
+            (*r, *s),
+        ),
+        SelOp::Test(p, w, r, s, t) => put_test_op(all, homes, (*p, *w), (*r, *s, *t)),
         SelOp::Pick(r, c, s, t) => put_pick(all, homes, *r, (*c, *s, *t)),
         SelOp::Load(w, r, s) => put_load(all, homes, *w, *r, *s),
         SelOp::Store(w, s, t) => put_store(all, homes, *w, *s, *t),
@@ -70,6 +65,69 @@ pub fn put_op(
         SelOp::CallAt(_, _, _) => Ok(()),
         SelOp::Outside(_, _, _) => Ok(()),
     }
+}
+
+/// An operation on two registers, after the one that is assigned.
+fn put_alu_op(
+    all: &mut List<Instr>,
+    homes: &[Spot],
+    kind: (SelAlu, Width),
+    of: (u32, u32, u32),
+) -> Result<(), NoMemory>
+    requires { AreNear homes.now }
+    ensures { OnOk result (all.new ≡ all.old ++ code.op_row (spot_of homes.now)
+        (addresses_of [] []) 0 (op.Alu kind.0 kind.1 of.0 of.1 of.2)) }
+{
+    put_both(all, homes, of.1, of.2)?;
+    put_alu(all, kind.0, kind.1)?;
+    put_result(all, homes, of.0)
+}
+
+/// A division of two registers, after the one that is assigned.
+fn put_div_op(
+    all: &mut List<Instr>,
+    homes: &[Spot],
+    kind: (bool, bool, Width),
+    of: (u32, u32, u32),
+) -> Result<(), NoMemory>
+    requires { AreNear homes.now }
+    ensures { OnOk result (all.new ≡ all.old ++ code.op_row (spot_of homes.now)
+        (addresses_of [] []) 0 (op.Div kind.0 kind.1 kind.2 of.0 of.1 of.2)) }
+{
+    put_both(all, homes, of.1, of.2)?;
+    put_div(all, kind.0, kind.1, kind.2)?;
+    put_result(all, homes, of.0)
+}
+
+/// A comparison of two registers, after the one that is assigned.
+fn put_test_op(
+    all: &mut List<Instr>,
+    homes: &[Spot],
+    kind: (Pred, Width),
+    of: (u32, u32, u32),
+) -> Result<(), NoMemory>
+    requires { AreNear homes.now }
+    ensures { OnOk result (all.new ≡ all.old ++ code.op_row (spot_of homes.now)
+        (addresses_of [] []) 0 (op.Test kind.0 kind.1 of.0 of.1 of.2)) }
+{
+    put_both(all, homes, of.1, of.2)?;
+    put_test(all, kind.0, kind.1)?;
+    put_result(all, homes, of.0)
+}
+
+/// An extension of a register, after the one that is assigned.
+fn put_widen_op(
+    all: &mut List<Instr>,
+    homes: &[Spot],
+    kind: (bool, Width, Width),
+    of: (u32, u32),
+) -> Result<(), NoMemory>
+    requires { AreNear homes.now }
+    ensures { OnOk result (all.new ≡ all.old ++ code.op_row (spot_of homes.now)
+        (addresses_of [] []) 0 (op.Widen kind.0 kind.1 kind.2 of.0 of.1)) }
+{
+    put_widen(all, homes, kind, of.1)?;
+    put_result(all, homes, of.0)
 }
 
 /// An entry of a list of addresses, and 0 past its end.
@@ -195,7 +253,7 @@ fn put_pick(
 ) -> Result<(), NoMemory>
     requires { AreNear homes.now }
     ensures { OnOk result (all.new ≡ all.old ++ code.op_row (spot_of homes.now)
-        (addresses_of [] []) 0 (Pick r from.0 from.1 from.2)) }
+        (addresses_of [] []) 0 (op.Pick r from.0 from.1 from.2)) }
 {
     put_row(
         all,
@@ -214,7 +272,7 @@ fn put_pick(
 fn put_load(all: &mut List<Instr>, homes: &[Spot], w: Width, r: u32, s: u32) -> Result<(), NoMemory>
     requires { AreNear homes.now }
     ensures { OnOk result (all.new ≡ all.old ++ code.op_row (spot_of homes.now)
-        (addresses_of [] []) 0 (Load w r s)) }
+        (addresses_of [] []) 0 (op.Load w r s)) }
 {
     let first = home_read(spot(homes, s), Reg::Rax);
     let load = Instr::Load(access_size(w), Reg::Rax, at_rax());
@@ -223,10 +281,16 @@ fn put_load(all: &mut List<Instr>, homes: &[Spot], w: Width, r: u32, s: u32) -> 
 }
 
 /// A word to the address in a register.
-fn put_store(all: &mut List<Instr>, homes: &[Spot], w: Width, s: u32, t: u32) -> Result<(), NoMemory>
+fn put_store(
+    all: &mut List<Instr>,
+    homes: &[Spot],
+    w: Width,
+    s: u32,
+    t: u32,
+) -> Result<(), NoMemory>
     requires { AreNear homes.now }
     ensures { OnOk result (all.new ≡ all.old ++ code.op_row (spot_of homes.now)
-        (addresses_of [] []) 0 (Store w s t)) }
+        (addresses_of [] []) 0 (op.Store w s t)) }
 {
     let first = home_read(spot(homes, s), Reg::Rax);
     let second = home_read(spot(homes, t), Reg::Rcx);
