@@ -1,10 +1,10 @@
 -- The laws of comparisons, choices and extensions.
-use Rattle.std.proofs.Common.{◌≡◌, ℕ, ◌+◌, ◌%◌, ◌^◌, ◌<◌, Bool, true, false, nat_eq, if◌then◌else◌, List, [], ◌∷◌, Ok, refl, sym, ◌∙◌, ap, inl, inr, arith}
+use Rattle.std.proofs.Common.{◌≡◌, ℕ, ◌+◌, ◌%◌, ◌^◌, ◌<◌, Bool, true, false, nat_eq, if◌then◌else◌, List, [], ◌∷◌, Ok, refl, inl, inr}
 use Rattle.std.specs.Prelude.{pos}
 use Rattle.rd_num.specs.declared.width.Width.{Width}
 use Rattle.rd_num.specs.declared.width.Width.TheVariants.{W1, W8, W16, W32, W64}
 use Rattle.ir_core.specs.declared.instruction.Pred.{Pred}
-use Rattle.ir_core.specs.Arithmetic.{modulus, compared, cast}
+use Rattle.ir_core.specs.Arithmetic.{compared, cast}
 use Rattle.ir_core.specs.Stops.{and_then}
 use Rattle.x86_core.specs.declared.flags.Flags.{Flags}
 use Rattle.x86_core.specs.declared.reg.Reg.{Reg}
@@ -18,22 +18,20 @@ use Rattle.x86_core.specs.declared.instr.Instr.{Instr}
 use Rattle.x86_core.specs.declared.instr.Instr.TheVariants as instr
 use Rattle.low_core.specs.declared.sel.Sel.{Sel}
 use Rattle.low_core.specs.declared.sel.SelOp.TheVariants.{Widen, Test, Pick}
-use Rattle.low_core.specs.Flat.{Span, Flat}
+use Rattle.low_core.specs.Flat.{Span}
 use Rattle.low_core.specs.Plan.{Plan}
-use Rattle.low_core.specs.SelShaped.{IsWide}
 use Rattle.low_core.specs.SelState.{SelFrame, SelState, word_in}
 use Rattle.low_core.specs.SelStep.{low_bits, widening}
 use Rattle.frame_rows.specs.declared.spot.Spot.{Spot}
 use Rattle.frame_rows.specs.Words.{Words, with_held}
 use Rattle.frame_rows.specs.Code.{home_read, cut, filled, result_row, op_row, test_row, both}
 use Rattle.frame_rows.specs.Ties.{is_scratch, Tied}
-use Rattle.frame_rows.proofs.Registers.{Same, scratch_written}
+use Rattle.frame_rows.proofs.Registers.{scratch_written}
 use Rattle.frame_rows.proofs.Kept.{tied_same}
 use Rattle.frame_rows.proofs.Results.{Makes, reads_one}
-use Rattle.frame_rows.proofs.Leaves.{Passes}
 use Rattle.frame_rows.proofs.Numbers.{low_small}
-use Rattle.frame_rows.proofs.Plain.{makes_after, makes_is, scratch_same}
-use Rattle.frame_rows.proofs.Meeting.{free_of, Met, given, made_met, one_met, two_met, makes_both}
+use Rattle.frame_rows.proofs.Plain.{makes_after, scratch_same}
+use Rattle.frame_rows.proofs.Meeting.{free_of, made_met, one_met, two_met, makes_both}
 use Rattle.frame_rows.proofs.Choices.{truth, truth_small, test_makes, pick_makes}
 use Rattle.frame_rows.proofs.Extends.{fill_makes, bit_fill_makes, bit_sign_makes}
 use Rattle.frame_rows.proofs.Simple.{Law}

@@ -1,6 +1,5 @@
 -- Extensions from one width to another.
-use Rattle.std.proofs.Common.{◌≡◌, ℕ, ◌+◌, ◌-◌, ◌*◌, ◌%◌, ◌^◌, ◌<◌, ◌≤◌, Bool, true, false, nat_le, if◌then◌else◌, List, [], ◌∷◌, refl, sym, ◌∙◌, ap, inl, inr, arith}
-use Rattle.std.specs.Prelude.{pos}
+use Rattle.std.proofs.Common.{◌≡◌, ℕ, ◌+◌, ◌-◌, ◌*◌, ◌%◌, ◌^◌, ◌<◌, ◌≤◌, Bool, true, false, if◌then◌else◌, List, [], ◌∷◌, refl, sym, ◌∙◌, ap, inl, inr, arith}
 use Rattle.std.proofs.lemmas.Bool.{cases_lt, lt-leb, le-leb}
 use Rattle.std.proofs.Math.Nat.{mod-lt}
 use Rattle.rd_num.specs.declared.width.Width.{Width}
@@ -19,7 +18,7 @@ use Rattle.frame_rows.specs.Words.{Words}
 use Rattle.frame_rows.specs.Code.{cut, filled}
 use Rattle.frame_rows.proofs.Results.{Makes}
 use Rattle.frame_rows.proofs.Leaves.{sign_of, fill_of, cut_passes, fill_passes, alu_passes}
-use Rattle.frame_rows.proofs.Numbers.{half, low_small, sign_low, sign_high, modulus_some}
+use Rattle.frame_rows.proofs.Numbers.{half, sign_low, sign_high, modulus_some}
 use Rattle.frame_rows.proofs.Plain.{makes_one, makes_after, makes_is, scratch_same}
 use Rattle.frame_rows.proofs.Choices.{zero_passes}
 

@@ -1,6 +1,5 @@
 -- How many bytes and how many instructions rows have: no more than operations weigh.
-use Rattle.std.proofs.Common.{◌≡◌, ℕ, ◌+◌, ◌*◌, ◌<◌, ◌≤◌, ◌^◌, Bool, true, false, if◌then◌else◌, List, [], ◌∷◌, ◌++◌, length, get_or, refl, ◌∙◌, ap, arith, length-append}
-use Rattle.std.specs.Prelude.{pos}
+use Rattle.std.proofs.Common.{◌≡◌, ℕ, ◌+◌, ◌≤◌, Bool, true, false, List, [], ◌∷◌, ◌++◌, length, refl, arith, length-append}
 use Rattle.std.proofs.lemmas.Bool.{leb-true}
 use Rattle.rd_num.specs.declared.width.Width.{Width}
 use Rattle.rd_num.specs.declared.width.Width.TheVariants.{W1, W8, W16, W32, W64}
@@ -23,7 +22,7 @@ use Rattle.low_core.specs.SelWeights.{alu_weight, sel_op_weight}
 use Rattle.low_core.specs.Plan.{Plan}
 use Rattle.frame_rows.specs.declared.spot.Spot.{Spot}
 use Rattle.frame_rows.specs.declared.spot.Spot.TheVariants.{Own, Frame}
-use Rattle.frame_rows.specs.Code.{home_read, home_write, cut, filled, alu_row, is_signed, condition, ready, test_row, widen_row, access_size, at_rax, div_row, both, result_row, assigned_row, op_row}
+use Rattle.frame_rows.specs.Code.{home_read, home_write, cut, filled, alu_row, is_signed, condition, test_row, widen_row, access_size, at_rax, div_row, both, result_row, assigned_row, op_row}
 use Rattle.frame_rows.specs.Sizes.{row_bytes, IsSized, IsNoCall}
 
 -- a number that is told

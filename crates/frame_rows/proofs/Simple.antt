@@ -1,7 +1,6 @@
 -- The laws of constants, copies, operations on two words, places, loads and stores.
-use Rattle.std.proofs.Common.{◌≡◌, ◌≢◌, ℕ, ◌+◌, ◌^◌, ◌<◌, zero, suc, List, [], ◌∷◌, Option, Some, None, Ok, Err, get_or, refl, sym, ◌∙◌, ap, subst, inl, inr, ◌⊎◌, arith}
+use Rattle.std.proofs.Common.{◌≡◌, ℕ, ◌+◌, zero, suc, List, [], ◌∷◌, Some, None, Ok, get_or, refl, ◌∙◌, ap, subst, inl, inr, ◌⊎◌, arith}
 use Rattle.std.specs.Prelude.{slice_get}
-use Rattle.behavior.specs.Ending.{is_left}
 use Rattle.rd_num.specs.declared.width.Width.{Width}
 use Rattle.ir_core.specs.declared.memory.Reason.TheVariants.{Bounds, Unset}
 use Rattle.ir_core.specs.Arithmetic.{binary}
@@ -16,22 +15,20 @@ use Rattle.low_core.specs.declared.sel.Sel.{Sel}
 use Rattle.low_core.specs.declared.sel.SelAlu.{SelAlu}
 use Rattle.low_core.specs.declared.sel.SelOp.{SelOp}
 use Rattle.low_core.specs.declared.sel.SelOp.TheVariants.{Set, Copy, Alu, Load, Store, FrameAt, GlobalAt, FunctionAt}
-use Rattle.low_core.specs.Flat.{Bytes, Span, Flat, word_at, with_word_at}
+use Rattle.low_core.specs.Flat.{Span, word_at, with_word_at}
 use Rattle.low_core.specs.Plan.{Plan}
-use Rattle.low_core.specs.SelParts.{assigns_of}
 use Rattle.low_core.specs.SelState.{SelFrame, SelState, SelTurn, word_in}
 use Rattle.low_core.specs.SelStep.{low_bits, alu_op, op_turn, puts_bytes}
 use Rattle.frame_rows.specs.declared.spot.Spot.{Spot}
 use Rattle.frame_rows.specs.Words.{Words, core_of}
 use Rattle.frame_rows.specs.Code.{home_read, result_row, op_row, alu_row}
 use Rattle.frame_rows.specs.Ties.{Tied}
-use Rattle.frame_rows.specs.Steps.{IsReady, IsAllocated, Meets, IsLeft, GoesOn, Divides}
-use Rattle.frame_rows.proofs.Registers.{Same}
+use Rattle.frame_rows.specs.Steps.{IsReady, IsAllocated, Meets, IsLeft, GoesOn}
 use Rattle.frame_rows.proofs.Results.{Makes, reads_one}
 use Rattle.frame_rows.proofs.Numbers.{alu_word, alu_answer, alu_small}
 use Rattle.frame_rows.proofs.Plain.{set_makes, place_makes, alu_makes, scratch_same}
-use Rattle.frame_rows.proofs.Meeting.{word_cases, free_of, flat, Met, given, met_as, left_met, made_met, one_met, two_met, makes_both}
-use Rattle.frame_rows.proofs.Accesses.{LoadsWord, load_cases, load_makes, load_small}
+use Rattle.frame_rows.proofs.Meeting.{word_cases, free_of, Met, given, left_met, made_met, one_met, two_met, makes_both}
+use Rattle.frame_rows.proofs.Accesses.{load_cases, load_makes, load_small}
 use Rattle.frame_rows.proofs.Stores.{put_word, store_cases, store_leads}
 
 -- an entry of a list, or nothing

@@ -14,7 +14,7 @@ use Rattle.low_core.specs.declared.sel.SelOp.{SelOp}
 use Rattle.low_core.specs.declared.sel.SelOp.TheVariants.{Set, Copy, Alu, Div, Widen, Test, Pick, Load, Store, FrameAt, GlobalAt}
 use Rattle.frame_rows.specs.declared.spot.Spot.{Spot}
 use Rattle.frame_rows.specs.declared.spot.Spot.TheVariants.{Own, Frame}
-use Rattle.frame_rows.specs.Words.{Words, core_of}
+use Rattle.frame_rows.specs.Words.{core_of}
 use Rattle.frame_rows.specs.Code.{op_row}
 use Rattle.frame_rows.specs.Sizes.{row_bytes}
 use Rattle.frame_rows.specs.Bodies.{addresses_of}

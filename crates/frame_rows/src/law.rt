@@ -13,8 +13,8 @@ ghost use Rattle.frame_rows.specs.Sizes.{IsNoCall, IsSized, AreInstrs};
 ghost use Rattle.frame_rows.specs.Steps.{IsReady};
 ghost use Rattle.frame_rows.specs.Ties.{IsHome};
 
-/// A row has at least one instruction and at most nine, and no more bytes than its operation weighs,
-/// wherever registers live.
+/// A row has at least one instruction and at most nine, and no more bytes than its operation
+/// weighs, wherever registers live.
 pub fn rows_are_short()
     ensures { (homes : ℕ → Spot) (plan : Plan) (own : ℕ) (op : SelOp) → IsNoCall op →
         IsSized (op_row homes plan own op) 9 (sel_op_weight op) }

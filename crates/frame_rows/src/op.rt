@@ -3,7 +3,8 @@
 ghost use Rattle.std.specs.Prelude.{◌≡◌, ◌<◌, ◌^◌, ◌++◌, [], ◌∷◌, true, get_or, pos, OnOk};
 ghost use Rattle.rd_num.specs.declared.width.Width.TheVariants.{W1, W8};
 ghost use Rattle.x86_core.specs.declared.reg.Reg.TheVariants.{Rax, Rcx, Rsp};
-ghost use Rattle.x86_core.specs.declared.instr.Instr.TheVariants.{MovImm64, Alu, Shift, Lea, SetCond, Widen};
+ghost use Rattle.x86_core.specs.declared.instr.Instr.TheVariants.{MovImm64, Alu, Shift, Lea};
+ghost use Rattle.x86_core.specs.declared.instr.Instr.TheVariants.{SetCond, Widen};
 ghost use Rattle.low_core.specs.declared.sel.SelOp.TheVariants as op;
 ghost use Rattle.frame_rows.specs.Code as code;
 ghost use Rattle.frame_rows.specs.Bodies.{AreNear, Reaches, spot_of, addresses_of};
@@ -61,9 +62,7 @@ pub fn put_op(
         SelOp::FrameAt(r, at) => put_place(all, homes, *r, own + *at),
         SelOp::GlobalAt(r, g) => put_constant(all, homes, *r, entry(globals, *g)),
         SelOp::FunctionAt(r, f) => put_constant(all, homes, *r, entry(functions, *f)),
-        SelOp::Call(_, _, _) => Ok(()),
-        SelOp::CallAt(_, _, _) => Ok(()),
-        SelOp::Outside(_, _, _) => Ok(()),
+        SelOp::Call(_, _, _) | SelOp::CallAt(_, _, _) | SelOp::Outside(_, _, _) => Ok(()),
     }
 }
 

@@ -161,7 +161,7 @@ pub fn condition(p: Pred) -> Cond
     }
 }
 
-/// The condition after a comparison of single bits, of which the set one is the lesser signed number.
+/// The condition after a comparison of single bits: as a signed number, the set one is the lesser.
 pub fn bit_condition(p: Pred) -> Cond
     ensures { result ≡ code.bit_condition p }
 {
