@@ -11,8 +11,8 @@ ghost use Rattle.ir_program.specs.Paths.{empty_path, farther as farther_by, with
 
 use crate::context::Context;
 use crate::origin::Origin;
-use ir_core::ty::{Name, Ty};
 use ir_core::stop::Stop;
+use ir_core::ty::{Name, Ty};
 use ir_core::values::index_word;
 use rd_num::list::List;
 use rd_num::width::NoMemory;

@@ -9,12 +9,12 @@ ghost use Rattle.ir_run.specs.Turns.{action_value};
 
 use crate::reading::value;
 use ir_core::memory::Value;
+use ir_core::stop::Stop;
+use ir_core::values::index_word;
 use ir_memory::memory::Memory;
 use ir_memory::pointer::moved;
 use ir_memory::registers::Registers;
-use ir_core::stop::Stop;
 use ir_memory::values::{binary_value, cast_value, compared_value, selected};
-use ir_core::values::index_word;
 use ir_program::action::Action;
 use ir_program::origin::Origin;
 use ir_program::path::{Path, Stride};

@@ -10,8 +10,8 @@ ghost use Rattle.ir_run.specs.Turns.{move_values};
 
 use crate::fault::Fault;
 use ir_core::memory::{Reason, Value};
-use ir_memory::registers::Registers;
 use ir_core::stop::Stop;
+use ir_memory::registers::Registers;
 use ir_program::action::Argument;
 use ir_program::exit::Move;
 use ir_program::origin::Origin;

@@ -1,17 +1,17 @@
 -- What the image of an object shows: nothing that is seen of a run tells where its code lies.
-use Rattle.std.specs.Prelude.{◌≡◌, ◌≢◌, ℕ, List, [], ◌∷◌, Option}
+use Rattle.std.specs.Prelude.{◌≡◌, ◌≢◌, ℕ, if◌then◌else◌, List, [], ◌∷◌, length, Option, Some, None}
 use Rattle.behavior.specs.Ending.{Strayed}
-use Rattle.behavior.specs.System.{iter}
 use Rattle.x86_core.specs.declared.image.Image.{Image}
-use Rattle.x86_core.specs.Memory.{data_of}
+use Rattle.x86_core.specs.Memory.{writes, is_allowed, data_of}
 use Rattle.x86_core.specs.Data.{data_segments}
+use Rattle.x86_core.specs.Step.{State}
 use Rattle.x86_core.specs.Run.{Act}
-use Rattle.x86_core.specs.Machine.{machine_segments, machine_start, machine_step, machine_run}
-use Rattle.x86_core.specs.Observation.{Observation, observe, reply_to}
+use Rattle.x86_core.specs.Machine.{machine_segments, machine_run}
+use Rattle.x86_core.specs.Observation.{observe, reply_to}
 use Rattle.obj_core.specs.declared.object.Object.{Object}
 use Rattle.obj_core.specs.Object.{Each}
 use Rattle.obj_core.specs.Slots.{slot_start}
-use Rattle.obj_core.specs.SymbolicMachine.{symbolic_start, symbolic_step, symbolic_run, symbolic_behavior}
+use Rattle.obj_core.specs.SymbolicMachine.{symbolic_run}
 
 -- each run of the image shows what the object's run shows, registers, flags and readable memory included, whatever
 -- somebody who looks on writes between the steps, as long as the object's run has not strayed
@@ -24,28 +24,39 @@ pub record HasDataOf (image : Image) (o : Object) : Type 0 where
   pub data_is : data_of (machine_segments image) ≡ data_segments o.ro o.rw
   pub entry : image.entry ≡ slot_start o 0
 
--- a read by somebody who looks on: after so many steps, so many bytes from an address on
+-- what somebody who looks on asks for: so many bytes from an address on, or that bytes are written from it on
+pub data Wish : Type 0 where
+  Reads : (at : ℕ) (len : ℕ) → Wish
+  Writes : (at : ℕ) (bytes : List ℕ) → Wish
+
+-- a wish, and all that was done to the run before it
 pub record Look : Type 0 where
-  pub after : ℕ
-  pub at : ℕ
-  pub len : ℕ
+  pub before : List Act
+  pub wish : Wish
 
--- what a run answers to reads
-abbrev pub replies : (ℕ → Observation) → List Look → List (Option (List ℕ))
-replies shown [] = []
-replies shown (l ∷ ls) = reply_to (shown l.after) l.at l.len ∷ replies shown ls
+-- what a wish is answered
+pub data Answer : Type 0 where
+  Bytes : (bytes : List ℕ) → Answer
+  Written : Answer
+  Refused : Answer
 
--- what the run of an image shows after so many steps
-abbrev pub image_shown : Image → List ℕ → ℕ → Observation
-image_shown image input n = observe (iter machine_step n (machine_start image input))
+abbrev pub answer_of : Option (List ℕ) → Answer
+answer_of None = Refused
+answer_of (Some bytes) = Bytes bytes
 
--- what the object's run shows after so many steps
-abbrev pub object_shown : Object → List ℕ → ℕ → Observation
-object_shown o input n = observe (iter (symbolic_step o) n (symbolic_start o input))
+-- a read is answered by what is seen, a write by whether one segment that may be written covers its range
+abbrev pub answer_in : {P : Type 0} → Wish → State P → Answer
+answer_in (Reads at len) s = answer_of (reply_to (observe s) at len)
+answer_in (Writes at bytes) s = if is_allowed writes s.segments at (length bytes) then Written else Refused
 
--- where no read comes after a stray, the image answers what the object answers
+-- what runs answer to looks
+abbrev pub answers : {P : Type 0} → (List Act → State P) → List Look → List Answer
+answers run [] = []
+answers run (l ∷ ls) = answer_in l.wish (run l.before) ∷ answers run ls
+
+-- where no look comes after a stray, the image answers what the object answers, whatever was written before
 abbrev pub RepliesAsObject : Image → Object → Type 0
-RepliesAsObject image o = (input : List ℕ) (looks : List Look) → Each (λ l. (symbolic_behavior o input l.after).ending ≢ Strayed) looks → replies (image_shown image input) looks ≡ replies (object_shown o input) looks
+RepliesAsObject image o = (input : List ℕ) (looks : List Look) → Each (λ l. (symbolic_run o input l.before).ending ≢ Strayed) looks → answers (machine_run image input) looks ≡ answers (symbolic_run o input) looks
 
 -- two images of one object show the same after each act, as long as the object's run has not strayed
 abbrev pub ShowTheSame : Image → Image → Object → Type 0

@@ -11,13 +11,13 @@ use Rattle.clap.specs.Walk.{Text, Row, Rule, Held, Walk, arg_by_id, answers_to, 
 use Rattle.clap.specs.declared.parser.matches.ValueSource.TheVariants.{CommandLine}
 use Rattle.rd_words.specs.Arguments.{Argument, File, Given, AllGiven, AreArguments, IsLine, files, same, values, with_value}
 use Rattle.rd_words.specs.Read.{ask, ask_file, if_number, with_file, with_one, with_three, with_two}
-use Rattle.rd_words.specs.Words.{Reading, Compile, Build, Lay, Run, Show, Eval, Watch, Check, Print, IsReading, number_of}
+use Rattle.rd_words.specs.Words.{Reading, Compile, Build, Lay, Run, Show, Eval, Watch, Check, Print, Certify, IsReading, number_of}
 use Rattle.rd_clap.specs.Found.{command_in, found_in}
 use Rattle.rd_clap.specs.Program.{program_app}
 use Rattle.rd_clap.proofs.Known.{AreApart, KnownOptions, line_is_known, none_apart, options}
 use Rattle.rd_clap.proofs.Turns.{between, same_self, single}
 use Rattle.rd_clap.proofs.Walks.{AllKnown, HasFile, IsKnown, Walks, args_walk, file_id, name_of, with_argument, with_arguments}
-use Rattle.rd_clap.proofs.Whole.{IsCommandOf, walk_stops, build_apart, build_is, build_options, check_is, compile_apart, compile_is, compile_options, lay_apart, lay_is, lay_options, print_is, run_apart, run_is, run_options, show_apart, show_is, show_options, eval_apart, eval_is, eval_options, watch_apart, watch_is, watch_options}
+use Rattle.rd_clap.proofs.Whole.{IsCommandOf, walk_stops, build_apart, build_is, build_options, certify_is, check_is, compile_apart, compile_is, compile_options, lay_apart, lay_is, lay_options, print_is, run_apart, run_is, run_options, show_apart, show_is, show_options, eval_apart, eval_is, eval_options, watch_apart, watch_is, watch_options}
 
 row_in : Text → List Row → Option Row
 row_in i rows = find (λ r. bytes_eq r.id i) rows
@@ -262,3 +262,4 @@ reading_is_found words (Watch file script) l =
     ap₂ (λ f x. with_file f x) (line_file (codes "watch") file _ _ words watch_is l refl watch_apart watch_options) (line_value (codes "watch") file _ _ words watch_is l refl watch_apart watch_options (codes "--script") script refl refl l.each_once.1.0)
 reading_is_found words (Check file) l = ap found_in (line_found (codes "check") file _ _ words check_is l refl none_apart tt) ∙ ap (ask_file Check) (line_file (codes "check") file _ _ words check_is l refl none_apart tt)
 reading_is_found words (Print file) l = ap found_in (line_found (codes "print") file _ _ words print_is l refl none_apart tt) ∙ ap (ask_file Print) (line_file (codes "print") file _ _ words print_is l refl none_apart tt)
+reading_is_found words (Certify file) l = ap found_in (line_found (codes "certify") file _ _ words certify_is l refl none_apart tt) ∙ ap (ask_file Certify) (line_file (codes "certify") file _ _ words certify_is l refl none_apart tt)

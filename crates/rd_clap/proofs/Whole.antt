@@ -8,7 +8,7 @@ use Rattle.clap.specs.Simple.{App, Shape, built, built_leaf, entered, inherited,
 use Rattle.clap.specs.Takes.{default_passes, entered_passes, is_valid, level_passes, settle_passes, takes, turn_passes, walk_passes}
 use Rattle.clap.specs.Walk.{Text, Row, Rule, Held, Names, Walk, Waiting, idle, answers_to, finished, is_empty, nothing_held, walk_from, walked}
 use Rattle.rd_words.specs.Arguments.{Argument, File, Given, IsLine, files}
-use Rattle.rd_words.specs.Words.{Reading, Compile, Build, Lay, Run, Show, Eval, Watch, Check, Print, IsReading}
+use Rattle.rd_words.specs.Words.{Reading, Compile, Build, Lay, Run, Show, Eval, Watch, Check, Print, Certify, IsReading}
 use Rattle.rd_clap.specs.Program.{bare_app, program_app, with_file, with_option, compile_app, build_app}
 use Rattle.rd_clap.proofs.Turns.{between, single}
 use Rattle.rd_clap.proofs.Walks.{AllKnown, HasFile, IsKnown, Walks, args_walk, with_arguments}
@@ -125,6 +125,10 @@ pub print_is : IsCommandOf (codes "print") (leaf (with_file (codes "print")))
 unfolding clap_on_literals
 print_is = record { walked_to = refl; turn = refl; found = refl; has = record { again = refl; by_index = refl; by_id = refl }; name = refl; bare = refl; defaults = refl; valid = λ rows. refl }
 
+pub certify_is : IsCommandOf (codes "certify") (leaf (with_file (codes "certify")))
+unfolding clap_on_literals
+certify_is = record { walked_to = refl; turn = refl; found = refl; has = record { again = refl; by_index = refl; by_id = refl }; name = refl; bare = refl; defaults = refl; valid = λ rows. refl }
+
 pub compile_options : KnownOptions (leaf compile_app) (codes "--slot-seed" ∷ codes "--reg-seed" ∷ [])
 compile_options = (record { alone = refl; whole = λ v. refl; dashes = refl; dashes_whole = λ v. refl; by_long = refl; by_id = refl }, (record { alone = refl; whole = λ v. refl; dashes = refl; dashes_whole = λ v. refl; by_long = refl; by_id = refl }, tt))
 
@@ -177,3 +181,4 @@ reading_is_taken words (Eval file n) (a, h) = line_takes (codes "eval") file _ _
 reading_is_taken words (Watch file script) l = line_takes (codes "watch") file _ _ words watch_is l refl watch_apart watch_options
 reading_is_taken words (Check file) l = line_takes (codes "check") file _ _ words check_is l refl none_apart tt
 reading_is_taken words (Print file) l = line_takes (codes "print") file _ _ words print_is l refl none_apart tt
+reading_is_taken words (Certify file) l = line_takes (codes "certify") file _ _ words certify_is l refl none_apart tt

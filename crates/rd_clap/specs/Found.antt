@@ -5,7 +5,7 @@ use Rattle.clap.specs.Walk.{Row, first_of}
 use Rattle.clap.specs.declared.parser.matches.ArgMatches.{ArgMatches}
 use Rattle.rd_words.specs.Arguments.{same}
 use Rattle.rd_words.specs.Read.{FileNumber, ask, ask_file, if_number, with_file, with_one, with_three, with_two}
-use Rattle.rd_words.specs.Words.{Reading, Lay, Run, Show, Eval, Check, Print}
+use Rattle.rd_words.specs.Words.{Reading, Lay, Run, Show, Eval, Check, Print, Certify}
 
 abbrev pub file_in : List Row → Option (List ℕ)
 file_in rows = first_of (codes "FILE") rows
@@ -37,7 +37,8 @@ command_in command rows =
     (if same command (codes "eval") then ask Eval (file_and_number_in (codes "steps") rows) else
     (if same command (codes "watch") then watch_in rows else
     (if same command (codes "check") then ask_file Check (file_in rows) else
-    (if same command (codes "print") then ask_file Print (file_in rows) else None))))))))
+    (if same command (codes "print") then ask_file Print (file_in rows) else
+    (if same command (codes "certify") then ask_file Certify (file_in rows) else None)))))))))
 
 abbrev pub found_in : Option (List ℕ × List Row) → Option Reading
 found_in None = None

@@ -87,5 +87,6 @@ pub fn program<'a>(alloc: Global) -> Result<Command<'a>, AllocError>
     let with_watch = with_eval.subcommand(option_command(alloc, "watch", "script")?)?;
     let with_check = with_watch.subcommand(file_command(alloc, "check")?)?;
     let with_print = with_check.subcommand(file_command(alloc, "print")?)?;
-    Ok(with_print)
+    let with_certify = with_print.subcommand(file_command(alloc, "certify")?)?;
+    Ok(with_certify)
 }

@@ -115,6 +115,10 @@ fn of_command<'a>(command: &str, matches: &ArgMatches<'a>) -> Option<Command<'a>
             let file = file(matches)?;
             Some(Command::Print { file })
         }
+        "certify" => {
+            let file = file(matches)?;
+            Some(Command::Certify { file })
+        }
         _ => None,
     }
 }

@@ -674,6 +674,34 @@ fn reads_of_an_image_have_this_report(rt: HostRuntime) -> Result<(), Fail> {
     Ok(())
 }
 
+/// A write to its data that a read sees, one past its end, and one to a slot.
+const WRITES: &[u8] = b"0 write 30000000 43
+0 read 30000000 2
+0 write 30000001 4344
+0 write 10000000 00
+";
+
+/// The report on them.
+const WRITTEN: &[u8] = b"0 0000000030000000 written
+0 0000000030000000 4342
+0 0000000030000001 refused
+0 0000000010000000 refused
+end 0 going out 0
+";
+
+#[test]
+fn writes_to_an_image_have_this_report(rt: HostRuntime) -> Result<(), Fail> {
+    let alloc = rt.alloc();
+    for layout_seed in ["0", "7"] {
+        let lay = ["lay", "m", "--layout-seed", layout_seed];
+        let laid = run_surely(alloc, &lay, &DATA_OBJECT)?;
+        let told = watched(alloc, laid.out.as_slice(), WRITES)?;
+        assert_eq!(rt; told.status, 0);
+        assert!(rt; told.out.as_slice() == WRITTEN);
+    }
+    Ok(())
+}
+
 #[test]
 fn an_outside_that_fails_is_named(rt: HostRuntime) -> Result<(), Fail> {
     let alloc = rt.alloc();

@@ -2,10 +2,12 @@
 //!
 //! They stand apart from the crates that they are about, since a crate with tests is proved once more
 //! with them. `decoded` is about `x86_decode`, `object_files` and `verified` about `obj_file` and
-//! `obj_check`, `machine` and `watched` about `xom_machine` and `watch_script`, `commands` and
-//! `evaluated` about `rd_top`. Tests of texts stand in `ir_tests`, those of passes in `low_tests`.
+//! `obj_check`, `machine` and `watched` about `xom_machine` and `watch_script`, `commands`,
+//! `certified` and `evaluated` about `rd_top`. Tests of texts stand in `ir_tests`, those of passes in `low_tests`.
 #![tactic(auto)]
 
+#[cfg(test)]
+mod certified;
 #[cfg(test)]
 mod commands;
 #[cfg(test)]

@@ -102,6 +102,16 @@ const SCRIPTS: &[(&[u8], u32)] = &[
     (b"18446744073709551616 read 0 1\n", 1),
     (b"0  read 0 1\n", 1),
     (b"0 write 0 1\n", 1),
+    (
+        b"0 write 0 00ff\n0 read 0 1\n0 write ffffffffffffffff a0\n",
+        0,
+    ),
+    (b"0 write 0 00f\n", 1),
+    (b"0 write 0 0A\n", 1),
+    (b"0 write 0 \n", 1),
+    (b"0 write 0 0x\n", 1),
+    (b"1 write 0 00\n0 read 0 1\n", 2),
+    (b"1 read 0 1\n0 write 0 00\n", 2),
 ];
 
 /// The first bad line of a script, or 0.
@@ -118,6 +128,22 @@ fn scripts_are_refused_by_their_first_bad_line(rt: HostRuntime) {
     for (bytes, line) in SCRIPTS {
         assert!(rt; bad_line(rt.alloc(), bytes) == Ok(*line));
     }
+}
+
+/// The first bad line of a script of one write of so many bytes, or 0.
+fn bad_line_of(alloc: Global, count: usize) -> Result<u32, NoMemory> {
+    let mut bytes = copy_list(alloc, b"0 write 0 ")?;
+    for _ in 0..count {
+        bytes.append(b"7f")?;
+    }
+    bytes.append(b"\n")?;
+    bad_line(alloc, bytes.as_slice())
+}
+
+#[test]
+fn a_write_has_4096_bytes_at_most(rt: HostRuntime) {
+    assert!(rt; bad_line_of(rt.alloc(), 4096) == Ok(0));
+    assert!(rt; bad_line_of(rt.alloc(), 4097) == Ok(1));
 }
 
 /// Reads of bytes, of a segment's end, and of code, before and after the invalid instruction.

@@ -2,7 +2,7 @@
 use Rattle.std.proofs.Common.{◌≡◌, ℕ, List, Some, inl, refl, subst, sym}
 use Rattle.rd_words.specs.declared.Command.{Command}
 use Rattle.rd_words.specs.Asked.{asked}
-use Rattle.rd_words.specs.Words.{Reading, IsReading, Compile, Build, Lay, Run, Show, Eval, Watch, Check, Print}
+use Rattle.rd_words.specs.Words.{Reading, IsReading, Compile, Build, Lay, Run, Show, Eval, Watch, Check, Print, Certify}
 use Rattle.rd_top.specs.declared.answer.Answer.{Answer}
 use Rattle.rd_top.specs.declared.answer.Answer.TheVariants.{Memory}
 use Rattle.rd_top.specs.Commands.{Means}
@@ -15,6 +15,7 @@ means_as c d w w2 a e h = subst (λ x. Means (Some (asked x)) w w2 a) (sym e) h
 -- want of memory before anything is touched is an answer to every command
 unread : (r : Reading) (w : World) → Means (Some r) w w Memory
 unread (Check file) w = (inl (tt, tt), (refl, refl))
+unread (Certify file) w = (inl (tt, tt), (refl, refl))
 unread (Print file) w = (inl (tt, refl), refl)
 unread (Compile file slot_seed reg_seed) w = (inl (tt, refl), refl)
 unread (Build file slot_seed reg_seed layout_seed) w = (inl (tt, refl), refl)

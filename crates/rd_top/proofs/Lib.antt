@@ -1,6 +1,7 @@
 pub mod Alike
 pub mod ByCommand
 mod Evaluated
+mod Guarded
 mod Invalid
 mod Made
 pub mod Runs

@@ -4,6 +4,8 @@ use Rattle.behavior.specs.Ending.{Ending}
 use Rattle.behavior.specs.Ending as ending
 use Rattle.obj_check.specs.declared.fault.ShapeSpot.{ShapeSpot}
 use Rattle.obj_check.specs.declared.fault.ShapeSpot.TheVariants.{Whole, Function, Slot}
+use Rattle.guard_check.specs.declared.fault.GuardFault.{GuardFault}
+use Rattle.guard_check.specs.declared.fault.GuardSpot.{GuardSpot}
 use Rattle.ir_core.specs.declared.memory.Reason.{Reason}
 use Rattle.ir_core.specs.declared.memory.Reason.TheVariants.{Bounds, Dead, Constant, Unset, Mixed, Order, Equal, Callee, Overlap, Gep}
 use Rattle.ir_core.specs.Stops.{reason_number}
@@ -24,7 +26,7 @@ use Rattle.rd_top.specs.declared.answer.ModuleFault.TheVariants.{Lex, Grammar, U
 use Rattle.rd_top.specs.declared.answer.ObjectFault.{ObjectFault}
 use Rattle.rd_top.specs.declared.answer.ObjectFault.TheVariants.{Form, Shape}
 use Rattle.rd_top.specs.declared.answer.Answer.{Answer}
-use Rattle.rd_top.specs.declared.answer.Answer.TheVariants.{Done, Valid, Ran, Words, File, Refused, Long, Out, Input, Memory}
+use Rattle.rd_top.specs.declared.answer.Answer.TheVariants.{Done, Valid, Guarded, Unguarded, Ran, Words, File, Refused, Long, Out, Input, Memory}
 
 -- by what is refused: a module, an object, an image, a script
 abbrev pub refusal_number : Refusal → ℕ
@@ -43,6 +45,8 @@ outcome_number (Left reason) = 23
 abbrev pub status_number : Answer → ℕ
 status_number Done = 0
 status_number Valid = 0
+status_number Guarded = 0
+status_number (Unguarded fault) = 24
 status_number (Ran outcome) = outcome_number outcome
 status_number Words = 2
 status_number File = 3
@@ -108,6 +112,18 @@ spot_number (Slot k) = k
 abbrev pub shape_text : ℕ → ShapeSpot → ℕ → List ℕ
 shape_text rule spot offset = (((((codes "shape " ++ decimal rule) ++ spot_word spot) ++ decimal (spot_number spot)) ++ codes " ") ++ decimal offset) ++ 10 ∷ []
 
+abbrev pub guard_spot_word : GuardSpot → List ℕ
+guard_spot_word (GuardSpot.Function n) = codes " function "
+guard_spot_word (GuardSpot.Slot k) = codes " slot "
+
+abbrev pub guard_spot_number : GuardSpot → ℕ
+guard_spot_number (GuardSpot.Function n) = n
+guard_spot_number (GuardSpot.Slot k) = k
+
+-- guard RULE function N OFFSET, or with `slot` and 0
+abbrev pub guard_text : ℕ → GuardSpot → ℕ → List ℕ
+guard_text rule spot offset = (((((codes "guard " ++ decimal rule) ++ guard_spot_word spot) ++ decimal (guard_spot_number spot)) ++ codes " ") ++ decimal offset) ++ 10 ∷ []
+
 -- unsupported PLACE WORD
 abbrev pub unsupported_text : ℕ → List ℕ → List ℕ
 unsupported_text place word = (((codes "unsupported " ++ decimal place) ++ codes " ") ++ word) ++ 10 ∷ []
@@ -157,6 +173,8 @@ refusal_text (Script line) = codes "script " ++ decimal line ++ 10 ∷ []
 abbrev pub line_of : Answer → List ℕ
 line_of Done = []
 line_of Valid = codes "valid\n"
+line_of Guarded = codes "guarded\n"
+line_of (Unguarded (GuardFault.Rule rule spot offset)) = guard_text rule spot offset
 line_of (Ran outcome) = outcome_text outcome
 line_of Words = codes "words\n"
 line_of File = codes "file\n"

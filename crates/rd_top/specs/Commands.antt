@@ -5,16 +5,17 @@ use Rattle.rd_io.specs.Told.{FilesTold, SinkTold}
 use Rattle.watch_script.specs.Events.{last_after}
 use Rattle.rd_top.specs.declared.answer.Answer.{Answer}
 use Rattle.rd_top.specs.declared.answer.Answer.TheVariants.{Words, Valid}
+use Rattle.rd_top.specs.Certifying.{Certified}
 use Rattle.rd_top.specs.Files.{OfFile}
 use Rattle.rd_top.specs.Kinds.{module_text, narrow_text, object_file, image_file, script_file}
 use Rattle.rd_top.specs.Puts.{Writes}
 use Rattle.rd_top.specs.Courses.{AnyInput, Streams}
 use Rattle.rd_top.specs.Reports.{Reports}
 use Rattle.rd_top.specs.Making.{IsPrinted, IsObjectFor, IsImageFor, IsLaid}
-use Rattle.rd_top.specs.Machines.{machine_course, shown_after, report_on}
+use Rattle.rd_top.specs.Machines.{machine_course, watched_course, shown_after, report_on}
 use Rattle.rd_top.specs.Modules.{module_course}
 use Rattle.rd_top.specs.World.{World}
-use Rattle.rd_words.specs.Words.{Reading, Check, Print, Compile, Build, Lay, Run, Show, Eval, Watch}
+use Rattle.rd_words.specs.Words.{Reading, Check, Print, Certify, Compile, Build, Lay, Run, Show, Eval, Watch}
 
 -- nothing was taken, and nothing was put
 abbrev pub Untouched : World → World → Type 0
@@ -22,6 +23,9 @@ Untouched before after = (after.input ≡ before.input) × (after.out ≡ before
 
 abbrev pub Checks : List ℕ → FilesTold → FilesTold → Answer → Type 0
 Checks file files files2 a = OfFile module_text file files files2 (Unit {0}) (λ v. a ≡ Valid) a
+
+abbrev pub Certifies : List ℕ → FilesTold → FilesTold → Answer → Type 0
+Certifies file files files2 a = OfFile object_file file files files2 (Unit {0}) (λ checked. Certified checked.object a) a
 
 abbrev pub Prints : List ℕ → FilesTold → FilesTold → SinkTold → SinkTold → Answer → Type 0
 Prints file files files2 out out2 a = OfFile module_text file files files2 (out2 ≡ out) (λ v. Writes (IsPrinted v.kept) out out2 a) a
@@ -56,12 +60,13 @@ abbrev pub Watches : List ℕ → List ℕ → World → World → Answer → Ty
 Watches file script w w2 a =
     OfFile image_file file w.files w2.files (Untouched w w2) (λ image.
     OfFile script_file script w.files w2.files (Untouched w w2) (λ s.
-    Reports (machine_course image) (last_after 0 s.events) (report_on image s.events) w.input w2.input w.out w2.out a) a) a
+    Reports (watched_course image s.events) (last_after 0 s.events) (report_on image s.events) w.input w2.input w.out w2.out a) a) a
 
 -- what an answer says, by what the words ask for
 abbrev pub Means : Option Reading → World → World → Answer → Type 0
 Means None w w2 a = (a ≡ Words) × (w2 ≡ w)
 Means (Some (Check file)) w w2 a = Checks file w.files w2.files a × Untouched w w2
+Means (Some (Certify file)) w w2 a = Certifies file w.files w2.files a × Untouched w w2
 Means (Some (Print file)) w w2 a = Prints file w.files w2.files w.out w2.out a × (w2.input ≡ w.input)
 Means (Some (Compile file slot_seed reg_seed)) w w2 a = Compiles file slot_seed reg_seed w.files w2.files w.out w2.out a × (w2.input ≡ w.input)
 Means (Some (Build file slot_seed reg_seed layout_seed)) w w2 a = Builds file slot_seed reg_seed layout_seed w.files w2.files w.out w2.out a × (w2.input ≡ w.input)

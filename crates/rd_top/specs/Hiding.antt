@@ -1,24 +1,24 @@
 -- What no image of an object tells about its layout, reports included.
-use Rattle.std.specs.Prelude.{◌≡◌, ◌≢◌, ◌≤◌, ℕ, List, true}
+use Rattle.std.specs.Prelude.{◌≡◌, ◌≢◌, ℕ, List, true}
 use Rattle.behavior.specs.Ending.{Strayed}
-use Rattle.behavior.specs.System.{iter}
 use Rattle.x86_core.specs.declared.image.Image.{Image}
 use Rattle.obj_core.specs.declared.object.Object.{Object}
 use Rattle.obj_core.specs.Layout.{layout}
-use Rattle.obj_core.specs.SymbolicMachine.{symbolic_step, symbolic_start}
-use Rattle.obj_lay.specs.Hidden.{HasDataOf, RepliesAsObject, ShowTheSame, ShowsObject, object_shown}
+use Rattle.obj_core.specs.SymbolicMachine.{symbolic_run}
+use Rattle.obj_lay.specs.Hidden.{HasDataOf, RepliesAsObject, ShowTheSame, ShowsObject}
 use Rattle.watch_script.specs.declared.event.Event.{Event}
-use Rattle.watch_script.specs.Events.{are_in_order, last_after}
-use Rattle.watch_script.specs.Report.{report_of}
+use Rattle.watch_script.specs.Events.{are_in_order}
+use Rattle.watch_script.specs.Report.{last_of, report_of}
 use Rattle.rd_top.specs.Machines.{report_on}
 
--- an object's run doesn't stray within a number of instructions
-abbrev pub StaysStraight : Object → List ℕ → ℕ → Type 0
-StaysStraight o input last = (n : ℕ) → n ≤ last → (iter (symbolic_step o) n (symbolic_start o input)).ending ≢ Strayed
+-- an object's run with a script's events hasn't strayed behind the last of them
+abbrev pub StaysStraight : Object → List ℕ → List Event → Type 0
+StaysStraight o input events = (last_of (symbolic_run o input) events).ending ≢ Strayed
 
--- the image gives the report that the object's own run gives, on every script by whose last read that hasn't strayed
+-- the image gives the report that the object's own run gives, on every script of reads and writes by whose last event that
+-- hasn't strayed
 abbrev pub ReportsAsObject : Image → Object → Type 0
-ReportsAsObject image o = (input : List ℕ) (events : List Event) → are_in_order 0 events ≡ true → StaysStraight o input (last_after 0 events) → report_on image events input ≡ report_of (object_shown o input) events
+ReportsAsObject image o = (input : List ℕ) (events : List Event) → are_in_order 0 events ≡ true → StaysStraight o input events → report_on image events input ≡ report_of (symbolic_run o input) events
 
 -- the layout of an object for a seed shows, answers and reports what the object does, has its data alone in what may be
 -- read, and shows the same as its layout for any other seed

@@ -1,4 +1,5 @@
 pub mod Answers
+pub mod Certifying
 pub mod Commands
 pub mod Courses
 pub mod Files

@@ -2,12 +2,12 @@
 use Rattle.std.specs.Prelude.{ℕ, List, [], ◌∷◌}
 use Rattle.x86_core.specs.declared.image.Image.{Image}
 use Rattle.x86_core.specs.Step.{State}
-use Rattle.x86_core.specs.Machine.{machine_step}
+use Rattle.x86_core.specs.Machine.{machine_step, machine_run}
 use Rattle.x86_core.specs.Observation.{observe}
 use Rattle.watch_script.specs.declared.event.Event.{Event}
 use Rattle.watch_script.specs.Report.{report_of}
 use Rattle.watch_script.specs.ShowText.{text_of}
-use Rattle.watch_script.specs.Watching.{run_to, seen_at}
+use Rattle.watch_script.specs.Watching.{run_to, watched_to}
 use Rattle.rd_top.specs.Courses.{Point, Course}
 
 -- what a machine does next, apart from what it did: the bytes that it prints, and how many it takes
@@ -24,10 +24,14 @@ point_of s = record { left = s.left; printed = s.printed; ending = s.ending; pri
 unfoldable pub machine_course : Image → Course
 machine_course image xs n = point_of (run_to image xs n)
 
+-- the same with a script's events
+unfoldable pub watched_course : Image → List Event → Course
+watched_course image events xs n = point_of (watched_to image events xs n)
+
 -- what an observer sees of an image after a number of instructions, as a text
 unfoldable pub shown_after : Image → ℕ → List ℕ → List ℕ
 shown_after image n xs = text_of (observe (run_to image xs n))
 
--- the report on a script's reads of an image, as a text
+-- the report on a script's reads of an image and writes to it, as a text
 abbrev pub report_on : Image → List Event → List ℕ → List ℕ
-report_on image events xs = report_of (seen_at image xs) events
+report_on image events xs = report_of (machine_run image xs) events

@@ -7,6 +7,7 @@
 ghost use Rattle.std.specs.Prelude.{◌≡◌};
 ghost use Rattle.rd_top.specs.Answers.{status_number, refusal_number, outcome_number};
 
+use guard_check::fault::GuardFault;
 use ir_core::limit::{Limit, Spot};
 use ir_core::memory::Reason;
 use ir_core::ty::Name;
@@ -19,6 +20,10 @@ pub enum Answer {
     Done,
     /// The module is valid, which is all that was asked.
     Valid,
+    /// The object is guarded, which is all that was asked.
+    Guarded,
+    /// The object is well formed, and this rule of guards fails first in it.
+    Unguarded(GuardFault),
     /// A run took its steps.
     Ran(Outcome),
     /// The words have no reading.
@@ -147,7 +152,8 @@ pub fn status(answer: &Answer) -> u8
     ensures { result ≡ status_number answer.now }
 {
     match answer {
-        Answer::Done | Answer::Valid => 0,
+        Answer::Done | Answer::Valid | Answer::Guarded => 0,
+        Answer::Unguarded(_) => 24,
         Answer::Ran(outcome) => outcome_status(*outcome),
         Answer::Words => 2,
         Answer::File => 3,

@@ -192,7 +192,7 @@ pub fn eval_file<F: Files, I: Source, O: Sink>(
     stream(alloc, &module, steps, input, out)
 }
 
-/// `watch`: writes the report on the reads of the script in one file of the image in another.
+/// `watch`: writes the report on the events of the script in one file of the image in another.
 pub fn watch_file<F: Files, I: Source, O: Sink>(
     alloc: Global,
     file: &str,

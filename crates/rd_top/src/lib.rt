@@ -9,9 +9,10 @@
 //!     read_main show FILE --steps N
 //!     read_main eval FILE --steps N
 //!     read_main watch FILE --script FILE
+//!     read_main certify FILE
 //!
-//! `rd_clap` reads the command line and `commands` does the work: over `file`, which reads a file of a
-//! kind, `put`, which puts a result at once, and `stream`, which puts a run's output as it comes.
+//! `rd_clap` reads the command line, `commands` and `certifying` do the work: over `file`, which reads a
+//! file of a kind, `put`, which puts a result at once, and `stream`, which puts a run's output as it comes.
 //! `answer` has the statuses and `lines` their lines. What a command does to the outside stands in
 //! `specs/Commands.antt`, and what the whole program does in `specs/Program.antt`.
 #![tactic(auto)]
@@ -24,6 +25,7 @@ ghost use Rattle.rd_top.specs.Telling.{Tells, TellsLine};
 ghost use Rattle.rd_top.specs.World.{KeepsCounts, world};
 
 use answer::{Answer, status};
+use certifying::certify_file;
 use commands::{
     build_file, check_file, compile_file, eval_file, lay_file, print_file, run_file, show_file,
     watch_file,
@@ -35,6 +37,7 @@ use rd_words::Command;
 use std::alloc::Global;
 
 pub mod answer;
+pub mod certifying;
 pub mod commands;
 pub mod file;
 pub mod kinds;
@@ -63,6 +66,7 @@ fn work<F: Files, I: Source, O: Sink>(
 {
     match command {
         Command::Check { file } => check_file(alloc, file, files),
+        Command::Certify { file } => certify_file(alloc, file, files),
         Command::Print { file } => print_file(alloc, file, files, out),
         Command::Compile {
             file,
@@ -136,8 +140,8 @@ fn finish<E: Sink>(alloc: Global, answer: &Answer, err: &mut E) -> u8
 
 /// The whole program: does what the words ask for, and answers the status: docs/command-line.md.
 ///
-/// `words` are the command line without the program's name. On statuses 2 to 8 nothing is written on
-/// `out`; on 9 and 11 a prefix is. `err` gets the line of the status.
+/// `words` are the command line without the program's name. On statuses 2 to 8 and 24 nothing is written
+/// on `out`; on 9 and 11 a prefix is. `err` gets the line of the status.
 pub fn top<F: Files, I: Source, O: Sink, E: Sink>(
     alloc: Global,
     words: &[String],

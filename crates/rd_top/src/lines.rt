@@ -5,8 +5,10 @@
 
 ghost use Rattle.std.specs.Prelude.{◌≡◌, ◌≢◌, ◌∷◌, ◌++◌, [], IfOk, OnOk, OnErr, decimal};
 ghost use Rattle.rd_top.specs.Answers.{left_text, line_of, outcome_text, refusal_text, module_fault_text, unsupported_text, named_text, limit_word, type_text, shape_text, spot_word, spot_number};
+ghost use Rattle.rd_top.specs.Answers.{guard_spot_number, guard_spot_word, guard_text};
 
 use crate::answer::{Answer, ModuleFault, ObjectFault, Outcome, Refusal, Stop, Trap};
+use guard_check::fault::{GuardFault, GuardSpot};
 use ir_core::limit::{Limit, Spot};
 use ir_core::memory::Reason;
 use ir_core::ty::Name;
@@ -65,6 +67,40 @@ fn shape_line(alloc: Global, rule: u8, spot: ShapeSpot, offset: u32) -> Result<L
     put_number(&mut line, u64::from(rule))?;
     line.append(spot_word_of(spot))?;
     put_number(&mut line, u64::from(spot_number_of(spot)))?;
+    line.append(b" ")?;
+    put_number(&mut line, u64::from(offset))?;
+    line.append(b"\n")?;
+    Ok(line)
+}
+
+/// The word of a function or a slot.
+fn guard_spot_word_of(spot: GuardSpot) -> &'static [u8]
+    ensures { result.now ≡ guard_spot_word spot }
+{
+    match spot {
+        GuardSpot::Function(_) => b" function ",
+        GuardSpot::Slot(_) => b" slot ",
+    }
+}
+
+/// The number of a function or a slot.
+fn guard_spot_number_of(spot: GuardSpot) -> u32
+    ensures { result ≡ guard_spot_number spot }
+{
+    match spot {
+        GuardSpot::Function(n) => n,
+        GuardSpot::Slot(k) => k,
+    }
+}
+
+/// The line of an object that isn't guarded.
+fn guard_line(alloc: Global, rule: u8, spot: GuardSpot, offset: u32) -> Result<List<u8>, NoMemory>
+    ensures { IfOk result (λ l. l ≡ guard_text rule spot offset) }
+{
+    let mut line = copy_list(alloc, b"guard ")?;
+    put_number(&mut line, u64::from(rule))?;
+    line.append(guard_spot_word_of(spot))?;
+    put_number(&mut line, u64::from(guard_spot_number_of(spot)))?;
     line.append(b" ")?;
     put_number(&mut line, u64::from(offset))?;
     line.append(b"\n")?;
@@ -210,6 +246,10 @@ pub fn line(alloc: Global, answer: &Answer) -> Result<List<u8>, NoMemory>
     match answer {
         Answer::Done => Ok(List::new(alloc)),
         Answer::Valid => copy_list(alloc, b"valid\n"),
+        Answer::Guarded => copy_list(alloc, b"guarded\n"),
+        Answer::Unguarded(GuardFault::Rule { rule, spot, offset }) => {
+            guard_line(alloc, *rule, *spot, *offset)
+        }
         Answer::Ran(outcome) => outcome_line(alloc, *outcome),
         Answer::Words => copy_list(alloc, b"words\n"),
         Answer::File => copy_list(alloc, b"file\n"),

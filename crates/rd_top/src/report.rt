@@ -8,7 +8,7 @@ ghost use Rattle.rd_io.specs.Told.{SourceTold};
 ghost use Rattle.watch_script.specs.Events.{last_after};
 ghost use Rattle.watch_script.specs.Watching.{InputCharged};
 ghost use Rattle.rd_top.specs.Courses.{Course};
-ghost use Rattle.rd_top.specs.Machines.{machine_course, report_on, shown_after};
+ghost use Rattle.rd_top.specs.Machines.{machine_course, watched_course, report_on, shown_after};
 ghost use Rattle.rd_top.specs.Reports.{Reported, Reports};
 ghost use Rattle.rd_top.specs.World.{KeepsOut};
 
@@ -51,15 +51,16 @@ pub fn seen_after<I: Source>(
     }
 }
 
-/// Makes the reads of a script, and the text of their report.
+/// Makes the reads and writes of a script, and the text of their report.
 pub fn reported<I: Source>(
     alloc: Global,
     image: &Image,
     script: &Script,
     input: &mut I,
 ) -> Result<List<u8>, RunFault>
-    ensures reported { Reported (machine_course image.now) (last_after 0 script.now.events)
-        (report_on image.now script.now.events) (I.told input.old) (I.told input.new) result }
+    ensures reported { Reported (watched_course image.now script.now.events)
+        (last_after 0 script.now.events) (report_on image.now script.now.events)
+        (I.told input.old) (I.told input.new) result }
     ensures charged { InputCharged (I.told input.old).faults (I.told input.new).faults result }
 {
     let report = match watch(alloc, image, script, input) {

@@ -5,7 +5,7 @@ use Rattle.std.specs.Cmp.Lexicographic.{same_text}
 use Rattle.std.proofs.lemmas.Bool.{eqb-true}
 use Rattle.std.proofs.lemmas.Bool.Decides.{nat_tests}
 use Rattle.rd_words.specs.Arguments.{Argument, File, Given, same, files, values, IsLine}
-use Rattle.rd_words.specs.Words.{Reading, Compile, Build, Lay, Run, Show, Eval, Watch, Check, Print, number_of, IsReading, IsReadingOf}
+use Rattle.rd_words.specs.Words.{Reading, Compile, Build, Lay, Run, Show, Eval, Watch, Check, Print, Certify, number_of, IsReading, IsReadingOf}
 use Rattle.rd_words.specs.Read.{arguments_of, only, file_behind, value_behind, count_behind, if_number, are, FileNumber, with_one, with_two, with_three, with_file, file_and_number, ask, file_alone, ask_file, by_command, reading_of}
 use Rattle.rd_words.proofs.Parts.{arguments_are, arguments_back}
 
@@ -221,6 +221,11 @@ module _ (rest : List (List ℕ)) (r : Reading) where
       let x = file_asked Print (file_alone rest) r k in
       subst (IsReading (codes "print" ∷ rest)) x.2 (alone_is rest (codes "print") (arguments_of rest) x.0 refl x.1)
 
+  certify_is : ask_file Certify (file_alone rest) ≡ Some r → IsReading (codes "certify" ∷ rest) r
+  certify_is k =
+      let x = file_asked Certify (file_alone rest) r k in
+      subst (IsReading (codes "certify" ∷ rest)) x.2 (alone_is rest (codes "certify") (arguments_of rest) x.0 refl x.1)
+
 command_is : (command : List ℕ) (rest : List (List ℕ)) (r : Reading) → by_command command rest ≡ Some r → IsReading (command ∷ rest) r
 command_is command rest r h =
     chosen command (codes "compile") rest _ _ r h (compile_is rest (arguments_of rest) r refl) (λ h1.
@@ -231,7 +236,8 @@ command_is command rest r h =
     chosen command (codes "eval") rest _ _ r h5 (eval_is rest r) (λ h6.
     chosen command (codes "watch") rest _ _ r h6 (watch_is rest (arguments_of rest) r refl) (λ h7.
     chosen command (codes "check") rest _ _ r h7 (check_is rest r) (λ h8.
-    chosen command (codes "print") rest _ _ r h8 (print_is rest r) (λ h9. absurd (cc))))))))))
+    chosen command (codes "print") rest _ _ r h8 (print_is rest r) (λ h9.
+    chosen command (codes "certify") rest _ _ r h9 (certify_is rest r) (λ h10. absurd (cc)))))))))))
 
 reading_is : (words : List (List ℕ)) (r : Reading) → reading_of words ≡ Some r → IsReading words r
 reading_is [] r h = absurd (cc)
@@ -285,6 +291,7 @@ reading_back words (Watch file script) l =
     file_form _ _ _ file script (count_back (length l.args) 2 l.no_more) (ap only l.each_once.0) (ap only l.each_once.1.0))
 reading_back words (Check file) l = ap reading_of l.command_first ∙ ap (ask_file Check) (alone_back words (codes "check") file l)
 reading_back words (Print file) l = ap reading_of l.command_first ∙ ap (ask_file Print) (alone_back words (codes "print") file l)
+reading_back words (Certify file) l = ap reading_of l.command_first ∙ ap (ask_file Certify) (alone_back words (codes "certify") file l)
 
 pub reading_exact : (words : List (List ℕ)) (o : Option Reading) → o ≡ reading_of words → IsReadingOf words o
 reading_exact words None e = λ r h. let some = reading_back words r h in absurd (cc)

@@ -3,7 +3,7 @@ use Rattle.std.specs.Prelude.{◌≡◌, ℕ, ◌+◌, ◌==◌, ◌&&◌, Bool,
 use Rattle.std.specs.Option.{option_to_list}
 use Rattle.std.specs.List.{position_or_len, before_first, after_first}
 use Rattle.rd_words.specs.Arguments.{Argument, File, Given, same, is_plain, files, values}
-use Rattle.rd_words.specs.Words.{Reading, Compile, Build, Lay, Run, Show, Eval, Watch, Check, Print, number_of}
+use Rattle.rd_words.specs.Words.{Reading, Compile, Build, Lay, Run, Show, Eval, Watch, Check, Print, Certify, number_of}
 
 -- an argument, and the words behind it
 pub record Next : Type 0 where
@@ -169,7 +169,8 @@ by_command command words =
     (if same command (codes "eval") then ask Eval (file_and_number (codes "--steps") words) else
     (if same command (codes "watch") then watch_of words else
     (if same command (codes "check") then ask_file Check (file_alone words) else
-    (if same command (codes "print") then ask_file Print (file_alone words) else None))))))))
+    (if same command (codes "print") then ask_file Print (file_alone words) else
+    (if same command (codes "certify") then ask_file Certify (file_alone words) else None)))))))))
 
 -- what words ask for
 abbrev pub reading_of : List (List ℕ) → Option Reading

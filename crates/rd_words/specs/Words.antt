@@ -14,6 +14,7 @@ pub data Reading : Type 0 where
   Watch : (file : List ℕ) → (script : List ℕ) → Reading
   Check : (file : List ℕ) → Reading
   Print : (file : List ℕ) → Reading
+  Certify : (file : List ℕ) → Reading
 
 -- 1 to 20 decimal digits of at most 2^64 - 1
 abbrev pub number_of : List ℕ → Option ℕ
@@ -32,6 +33,7 @@ IsReading words (Eval file steps) = (a : List ℕ) × (IsLine words (codes "eval
 IsReading words (Watch file script) = IsLine words (codes "watch") (File file ∷ Given (codes "--script") script ∷ [])
 IsReading words (Check file) = IsLine words (codes "check") (File file ∷ [])
 IsReading words (Print file) = IsLine words (codes "print") (File file ∷ [])
+IsReading words (Certify file) = IsLine words (codes "certify") (File file ∷ [])
 
 -- what words ask for, or that they ask for nothing
 abbrev pub IsReadingOf : List (List ℕ) → Option Reading → Type 0

@@ -62,6 +62,9 @@ pub enum Command<'a> {
     Print {
         file: &'a str,
     },
+    Certify {
+        file: &'a str,
+    },
 }
 
 /// The most digits of a number.
@@ -176,6 +179,10 @@ fn of_command<'a>(command: &str, words: &'a [String]) -> Option<Command<'a>>
         "print" => {
             let file = one_file(words)?;
             Some(Command::Print { file })
+        }
+        "certify" => {
+            let file = one_file(words)?;
+            Some(Command::Certify { file })
         }
         _ => None,
     }

@@ -34,12 +34,13 @@ fn told(alloc: Global, line: &str) -> Result<String, AllocError> {
         Some(Command::Watch { file, script }) => format!(in alloc; "watch {file} {script}"),
         Some(Command::Check { file }) => format!(in alloc; "check {file}"),
         Some(Command::Print { file }) => format!(in alloc; "print {file}"),
+        Some(Command::Certify { file }) => format!(in alloc; "certify {file}"),
         None => format!(in alloc; "nothing"),
     }
 }
 
 #[rattlefmt::skip]
-const LINES: [(&str, &str); 51] = [
+const LINES: [(&str, &str); 54] = [
     ("run|m|--steps|1", "run m 1"),
     ("run|--steps|1|m", "run m 1"),
     ("run|--steps=1|m", "run m 1"),
@@ -61,6 +62,7 @@ const LINES: [(&str, &str); 51] = [
     ("check|-", "check -"),
     ("check|", "check "),
     ("print|m", "print m"),
+    ("certify|m", "certify m"),
     ("", "nothing"),
     ("m", "nothing"),
     ("run", "nothing"),
@@ -91,6 +93,8 @@ const LINES: [(&str, &str); 51] = [
     ("check|--|m", "nothing"),
     ("print|-m", "nothing"),
     ("print|m|--script=s", "nothing"),
+    ("certify", "nothing"),
+    ("certify|m|--layout-seed|1", "nothing"),
 ];
 
 #[test]

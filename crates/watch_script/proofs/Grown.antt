@@ -24,6 +24,10 @@ use Rattle.x86_core.specs.Step.{State, Fetched, Request, act, by_access, by_chan
 use Rattle.xom_machine.specs.declared.machine.Machine.{Machine}
 use Rattle.xom_machine.specs.Standing.{state_of, StreamsTold, Stands}
 use Rattle.xom_machine.specs.Calls.{Took}
+use Rattle.x86_core.specs.Run.{Act, Step, Write, wrote, acted, run_over}
+use Rattle.x86_core.proofs.Acts.{run_over-append}
+use Rattle.xom_machine.proofs.Steps.{took_none}
+use Rattle.watch_script.specs.Watching.{Acted}
 
 -- a state with more printed and taken before
 abbrev pub grown : List ℕ → ℕ → State ℕ → State ℕ
@@ -115,19 +119,51 @@ steps_on s m n is =
     let start : grown s.printed s.taken fresh ≡ s = ap (λ p. state_of m s.left p (s.taken + 0)) (append-nil s.printed) ∙ (ap (λ n. state_of m s.left s.printed n) sum ∙ is) in
     ap (iter machine_step n) (sym start) ∙ steps_grown s.printed s.taken n fresh
 
--- steps in a row, and then some more
-pub took_on : (k n : ℕ) (m m2 m3 : Machine) (a b c : StreamsTold) → Took k m m2 a b → Took n m2 m3 b c → Took (k + n) m m3 a c
-unfolding Took
-took_on k n m m2 m3 a b c first then xs left =
+-- the same of any acts
+acts_grown : (p : List ℕ) (t : ℕ) (acts : List Act) (s : State ℕ) → run_over machine_step acts (grown p t s) ≡ grown p t (run_over machine_step acts s)
+acts_grown p t [] s = refl
+acts_grown p t (a ∷ acts) s = ap (run_over machine_step acts) (one a s) ∙ acts_grown p t acts (acted machine_step a s)
+  where
+    wrote_grown : (o : Option (List Segment)) (s : State ℕ) → wrote o (grown p t s) ≡ grown p t (wrote o s)
+    wrote_grown None s = refl
+    wrote_grown (Some segments) s = refl
+
+    one : (a : Act) (s : State ℕ) → acted machine_step a (grown p t s) ≡ grown p t (acted machine_step a s)
+    one Step s = step_grown p t s
+    one (Write at []) s = refl
+    one (Write at (b ∷ bs)) s = wrote_grown (write_at s.segments at (b ∷ bs)) s
+
+-- acts, and then steps, which are other acts
+pub acted_on : (acts more : List Act) (n : ℕ) → ((s : State ℕ) → run_over machine_step more s ≡ iter machine_step n (run_over machine_step acts s)) →
+    (m m2 m3 : Machine) (a b c : StreamsTold) → Acted acts m m2 a b → Took n m2 m3 b c → Acted more m m3 a c
+unfolding Took Acted
+acted_on acts more n is m m2 m3 a b c first then xs left =
     let start : State ℕ = state_of m xs [] 0 in
-    let s : State ℕ = iter machine_step k start in
+    let s : State ℕ = run_over machine_step acts start in
     let at : Stands s m2 a b = first xs left in
     let r : State ℕ = iter machine_step n (state_of m2 s.left [] 0) in
     let u : Stands r m3 b c = then s.left at.left in
-    let whole : iter machine_step (k + n) start ≡ grown s.printed s.taken r = sym (iter_add machine_step k n start) ∙ steps_on s m2 n at.machine in
+    let whole : run_over machine_step more start ≡ grown s.printed s.taken r = is start ∙ steps_on s m2 n at.machine in
     subst (λ x. Stands x m3 a c) (sym whole) (record {
       machine = ap (grown s.printed s.taken) u.machine;
       left = u.left;
       written = gets_both a.written b.written c.written s.printed r.printed at.written u.written;
       total = subst (λ x. Counts a.total c.total x) (sym (length-append s.printed r.printed)) (counts_both a.total b.total c.total (length s.printed) (length r.printed) at.total u.total);
     })
+
+-- acts, and then some in which the outside has no part
+pub acted_alone : (acts more whole : List Act) → whole ≡ acts ++ more → (m m2 m3 : Machine) (a b : StreamsTold) → Acted acts m m2 a b →
+    ((left printed : List ℕ) (taken : ℕ) → state_of m3 left printed taken ≡ run_over machine_step more (state_of m2 left printed taken)) → Acted whole m m3 a b
+unfolding Acted
+acted_alone acts more whole is m m2 m3 a b first then xs left =
+    let start : State ℕ = state_of m xs [] 0 in
+    let s : State ℕ = run_over machine_step acts start in
+    let at : Stands s m2 a b = first xs left in
+    let same : state_of m3 s.left s.printed s.taken ≡ run_over machine_step whole start =
+    then s.left s.printed s.taken ∙ (ap (run_over machine_step more) at.machine ∙ (sym (run_over-append machine_step acts more start) ∙ ap (λ rest. run_over machine_step rest start) (sym is))) in
+    subst (λ x. Stands x m3 a b) same (record { machine = refl; left = at.left; written = at.written; total = at.total })
+
+-- nothing was done
+pub acted_none : (m : Machine) (a : StreamsTold) (none : List Act) → none ≡ [] → Acted none m m a a
+unfolding Acted Took
+acted_none m a none is xs left = subst (λ acts. Stands (run_over machine_step acts (state_of m xs [] 0)) m a a) (sym is) (took_none m a xs left)

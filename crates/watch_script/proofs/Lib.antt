@@ -1,8 +1,11 @@
+pub mod Events
 pub mod Grown
 pub mod Lines
 pub mod Parting
+pub mod Pieces
+pub mod Replies
 pub mod Scripts
 pub mod Spelling
+pub mod Suits
 pub mod Unique
 pub mod Watches
-pub mod Pieces

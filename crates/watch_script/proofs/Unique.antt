@@ -2,7 +2,7 @@
 use Rattle.std.proofs.Common.{◌≡◌, ℕ, ◌+◌, ◌<◌, ◌≤◌, List, [], ◌∷◌, ◌++◌, length, Some, refl, sym, ap, subst, ◌∙◌, arith, inl, inr, append_assoc, length-append}
 use Rattle.std.proofs.lemmas.Bool.{cases_lt}
 use Rattle.watch_script.specs.declared.event.Event.{Event}
-use Rattle.watch_script.specs.Events.{last_after}
+use Rattle.watch_script.specs.Events.{after_of, last_after}
 use Rattle.watch_script.specs.Script.{IsLine, AreLines, ScriptOf, IsFirstBad}
 use Rattle.watch_script.specs.Reading.{split_at, event_of}
 use Rattle.watch_script.proofs.Parting.{split_found}
@@ -38,8 +38,8 @@ lines_are_one least bytes [] (f ∷ fs) h k = absurd (not_empty bytes k.0 k.1.0 
 lines_are_one least bytes (e ∷ es) [] h k = absurd (not_empty bytes h.0 h.1.0 k h.1.1.0)
 lines_are_one least bytes (e ∷ es) (f ∷ fs) h k =
     let same = first_line bytes h.0 h.1.0 k.0 k.1.0 e f h.1.1.0 h.1.1.1.0 k.1.1.0 k.1.1.1.0 in
-    let others : AreLines e.after h.1.0 fs = subst (λ n. AreLines n h.1.0 fs) (sym (ap (λ (e : Event). e.after) same.event)) (subst (λ b. AreLines f.after b fs) (sym same.rest_is) k.1.1.1.1.1) in
-    let rest : es ≡ fs = lines_are_one e.after h.1.0 es fs h.1.1.1.1.1 others in
+    let others : AreLines (after_of e) h.1.0 fs = subst (λ n. AreLines n h.1.0 fs) (sym (ap (λ (e : Event). (after_of e)) same.event)) (subst (λ b. AreLines (after_of f) b fs) (sym same.rest_is) k.1.1.1.1.1) in
+    let rest : es ≡ fs = lines_are_one (after_of e) h.1.0 es fs h.1.1.1.1.1 others in
     ap (λ (e : Event). e ∷ es) same.event ∙ ap (λ (es : List Event). f ∷ es) rest
 
 pub one_script : (bytes : List ℕ) (es fs : List Event) → ScriptOf bytes es → ScriptOf bytes fs → es ≡ fs
@@ -47,7 +47,7 @@ one_script bytes es fs h k = lines_are_one 0 bytes es fs h.lines k.lines
 
 -- no script goes on behind lines behind which no line may stand
 none_behind : (least : ℕ) (bytes before rest : List ℕ) (es fs : List Event) → AreLines least before es → bytes ≡ before ++ rest → AreLines least bytes fs → 0 < length rest →
-    ((e : Event) (next behind : List ℕ) → rest ≡ next ++ 10 ∷ behind → IsLine next e → last_after least es ≤ e.after → length es < length fs → ⊥) → ⊥
+    ((e : Event) (next behind : List ℕ) → rest ≡ next ++ 10 ∷ behind → IsLine next e → last_after least es ≤ (after_of e) → length es < length fs → ⊥) → ⊥
 none_behind least bytes before rest [] [] h is k some bad =
     let a : length bytes ≡ length before + length rest = ap length is ∙ length-append before rest in
     let b : length bytes ≡ 0 = ap length k in
@@ -62,8 +62,8 @@ none_behind least bytes before rest (e ∷ es) [] h is k some bad =
 none_behind least bytes before rest (e ∷ es) (f ∷ fs) h is k some bad =
     let whole : bytes ≡ h.0 ++ 10 ∷ (h.1.0 ++ rest) = is ∙ (ap (λ b. b ++ rest) h.1.1.0 ∙ append_assoc h.0 (10 ∷ h.1.0) rest) in
     let same = first_line bytes h.0 (h.1.0 ++ rest) k.0 k.1.0 e f whole h.1.1.1.0 k.1.1.0 k.1.1.1.0 in
-    let others : AreLines e.after (h.1.0 ++ rest) fs = subst (λ n. AreLines n (h.1.0 ++ rest) fs) (sym (ap (λ (e : Event). e.after) same.event)) (subst (λ b. AreLines f.after b fs) (sym same.rest_is) k.1.1.1.1.1) in
-    none_behind e.after (h.1.0 ++ rest) h.1.0 rest es fs h.1.1.1.1.1 refl others some (λ g next behind parts spelled late few. bad g next behind parts spelled late (omega arith))
+    let others : AreLines (after_of e) (h.1.0 ++ rest) fs = subst (λ n. AreLines n (h.1.0 ++ rest) fs) (sym (ap (λ (e : Event). (after_of e)) same.event)) (subst (λ b. AreLines (after_of f) b fs) (sym same.rest_is) k.1.1.1.1.1) in
+    none_behind (after_of e) (h.1.0 ++ rest) h.1.0 rest es fs h.1.1.1.1.1 refl others some (λ g next behind parts spelled late few. bad g next behind parts spelled late (omega arith))
 
 pub no_script : (bytes : List ℕ) (line : ℕ) (es : List Event) → IsFirstBad bytes line → ScriptOf bytes es → ⊥
 no_script bytes line es bad h =
@@ -72,7 +72,7 @@ no_script bytes line es bad h =
 
 -- lines behind which no line may stand aren't fewer than those with which other bytes begin
 none_within : (least : ℕ) (bytes before rest before2 rest2 : List ℕ) (es fs : List Event) → AreLines least before es → bytes ≡ before ++ rest → AreLines least before2 fs → bytes ≡ before2 ++ rest2 → length es < length fs →
-    ((e : Event) (next behind : List ℕ) → rest ≡ next ++ 10 ∷ behind → IsLine next e → last_after least es ≤ e.after → length es < length fs → ⊥) → ⊥
+    ((e : Event) (next behind : List ℕ) → rest ≡ next ++ 10 ∷ behind → IsLine next e → last_after least es ≤ (after_of e) → length es < length fs → ⊥) → ⊥
 none_within least bytes before rest before2 rest2 [] [] h is k is2 fewer bad = absurd (omega arith)
 none_within least bytes before rest before2 rest2 (e ∷ es) [] h is k is2 fewer bad = absurd (omega arith)
 none_within least bytes before rest before2 rest2 [] (f ∷ fs) h is k is2 fewer bad =
@@ -83,8 +83,8 @@ none_within least bytes before rest before2 rest2 (e ∷ es) (f ∷ fs) h is k i
     let whole : bytes ≡ h.0 ++ 10 ∷ (h.1.0 ++ rest) = is ∙ (ap (λ b. b ++ rest) h.1.1.0 ∙ append_assoc h.0 (10 ∷ h.1.0) rest) in
     let whole2 : bytes ≡ k.0 ++ 10 ∷ (k.1.0 ++ rest2) = is2 ∙ (ap (λ b. b ++ rest2) k.1.1.0 ∙ append_assoc k.0 (10 ∷ k.1.0) rest2) in
     let same = first_line bytes h.0 (h.1.0 ++ rest) k.0 (k.1.0 ++ rest2) e f whole h.1.1.1.0 whole2 k.1.1.1.0 in
-    let others : AreLines e.after k.1.0 fs = subst (λ n. AreLines n k.1.0 fs) (sym (ap (λ (e : Event). e.after) same.event)) k.1.1.1.1.1 in
-    none_within e.after (h.1.0 ++ rest) h.1.0 rest k.1.0 rest2 es fs h.1.1.1.1.1 refl others same.rest_is (omega arith) (λ g next behind parts spelled late few. bad g next behind parts spelled late (omega arith))
+    let others : AreLines (after_of e) k.1.0 fs = subst (λ n. AreLines n k.1.0 fs) (sym (ap (λ (e : Event). (after_of e)) same.event)) k.1.1.1.1.1 in
+    none_within (after_of e) (h.1.0 ++ rest) h.1.0 rest k.1.0 rest2 es fs h.1.1.1.1.1 refl others same.rest_is (omega arith) (λ g next behind parts spelled late few. bad g next behind parts spelled late (omega arith))
 
 not_fewer : (bytes : List ℕ) (line other : ℕ) (h : IsFirstBad bytes line) (k : IsFirstBad bytes other) → length h.events < length k.events → ⊥
 not_fewer bytes line other h k fewer =

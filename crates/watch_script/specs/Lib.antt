@@ -1,7 +1,9 @@
+pub mod Acts
 pub mod Events
 pub mod Faults
 pub mod Reading
 pub mod Report
 pub mod Script
 pub mod ShowText
+pub mod Suiting
 pub mod Watching

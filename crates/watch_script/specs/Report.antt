@@ -1,43 +1,58 @@
--- The replies to a script's reads, and the report's text, as functions of what is seen and of the script alone.
-use Rattle.std.specs.Prelude.{◌≡◌, ℕ, ◌-◌, ◌^◌, min, List, [], ◌∷◌, ◌++◌, length, codes, decimal, Option, Some, None}
+-- The replies to a script's events, and the report's text, as functions of the states of a run with these events.
+use Rattle.std.specs.Prelude.{◌≡◌, ℕ, ◌-◌, ◌^◌, min, if◌then◌else◌, List, [], ◌∷◌, ◌++◌, length, codes, decimal, Option, Some, None}
 use Rattle.hex.specs.Hex.{encode_lower}
 use Rattle.behavior.specs.Ending.{Ending}
-use Rattle.x86_core.specs.Observation.{Observation, reply_to}
+use Rattle.x86_core.specs.Memory.{writes, is_allowed}
+use Rattle.x86_core.specs.Observation.{observe, reply_to}
+use Rattle.x86_core.specs.Step.{State}
+use Rattle.x86_core.specs.Run.{Act}
 use Rattle.xom_machine.specs.Standing.{ending_of}
 use Rattle.watch_script.specs.declared.event.Event.{Event}
-use Rattle.watch_script.specs.declared.report.Reply.{Reply}
-use Rattle.watch_script.specs.declared.report.Reply.TheVariants.{Bytes, Refused}
+use Rattle.watch_script.specs.declared.event.Event.TheVariants.{Read, Write}
+use Rattle.watch_script.specs.declared.reply.Reply.{Reply}
+use Rattle.watch_script.specs.declared.reply.Reply.TheVariants.{Bytes, Written, Refused}
 use Rattle.watch_script.specs.declared.report.Report.{Report}
-use Rattle.watch_script.specs.Events.{last_after}
+use Rattle.watch_script.specs.Acts.{acts_to}
+use Rattle.watch_script.specs.Events.{after_of, at_of, last_after}
 use Rattle.watch_script.specs.ShowText.{word_text, ending_text}
 
 abbrev pub reply_of : Option (List ℕ) → Reply
 reply_of (Some bytes) = Bytes bytes
 reply_of None = Refused
 
--- a reply to each event, by what is seen after its number of instructions
-abbrev pub replies_of : (ℕ → Observation) → List Event → List Reply
-replies_of seen [] = []
-replies_of seen (e ∷ es) = reply_of (reply_to (seen e.after) e.at e.len) ∷ replies_of seen es
+-- what an event is answered in a state: a read by what is seen, a write by whether one segment that may be written covers it
+abbrev pub reply_in : {P : Type 0} → Event → State P → Reply
+reply_in (Read after at len) s = reply_of (reply_to (observe s) at len)
+reply_in (Write after at bytes) s = if is_allowed writes s.segments at (length bytes) then Written else Refused
+
+-- a reply to each event behind others, in the state by its number of steps and behind the events before it
+abbrev pub replies_of : {P : Type 0} → (List Act → State P) → List Event → List Event → List Reply
+replies_of run before [] = []
+replies_of run before (e ∷ es) = reply_in e (run (acts_to (after_of e) before)) ∷ replies_of run (before ++ e ∷ []) es
 
 -- a number as far as 2^64 - 1
 abbrev pub capped : ℕ → ℕ
 capped n = min n (2 ^ 64 - 1)
 
--- a report tells the replies, and the outcome and the number of printed bytes after the last event
-pub record IsReport (seen : ℕ → Observation) (events : List Event) (report : Report) : Type 0 where
+-- the state behind the last event
+abbrev pub last_of : {P : Type 0} → (List Act → State P) → List Event → State P
+last_of run events = run (acts_to (last_after 0 events) events)
+
+-- a report tells the replies, and the outcome and the number of printed bytes behind the last event
+pub record IsReport {P : Type 0} (run : List Act → State P) (events : List Event) (report : Report) : Type 0 where
   pub reads : report.events ≡ events
-  pub answers : report.replies ≡ replies_of seen events
-  pub outcome : ending_of report.outcome ≡ (seen (last_after 0 events)).ending
-  pub printed : report.printed ≡ capped (length (seen (last_after 0 events)).printed)
+  pub answers : report.replies ≡ replies_of run [] events
+  pub outcome : ending_of report.outcome ≡ (last_of run events).ending
+  pub printed : report.printed ≡ capped (length (last_of run events).printed)
 
 abbrev pub reply_text : Reply → List ℕ
 reply_text (Bytes bytes) = encode_lower bytes
+reply_text Written = codes "written"
 reply_text Refused = codes "refused"
 
--- STEPS ADDRESS BYTES, or STEPS ADDRESS refused
+-- STEPS ADDRESS BYTES, STEPS ADDRESS written, or STEPS ADDRESS refused
 unfoldable pub reply_line : Event → Reply → List ℕ
-reply_line e r = decimal e.after ++ 32 ∷ (word_text e.at ++ 32 ∷ (reply_text r ++ 10 ∷ []))
+reply_line e r = decimal (after_of e) ++ 32 ∷ (word_text (at_of e) ++ 32 ∷ (reply_text r ++ 10 ∷ []))
 
 -- a line for each event that has a reply
 abbrev pub reply_lines : List Event → List Reply → List ℕ
@@ -53,8 +68,7 @@ end_line steps ending printed = codes "end " ++ (decimal steps ++ 32 ∷ (ending
 abbrev pub told_text : Report → List ℕ
 told_text r = reply_lines r.events r.replies ++ end_line (last_after 0 r.events) (ending_of r.outcome) r.printed
 
--- the text of the report on what is seen after each number of instructions
-unfoldable pub report_of : (ℕ → Observation) → List Event → List ℕ
-report_of seen events =
-    let last : Observation = seen (last_after 0 events) in
-    reply_lines events (replies_of seen events) ++ end_line (last_after 0 events) last.ending (capped (length last.printed))
+-- the text of the report on a run with the script's events
+unfoldable pub report_of : {P : Type 0} → (List Act → State P) → List Event → List ℕ
+report_of run events =
+    reply_lines events (replies_of run [] events) ++ end_line (last_after 0 events) (last_of run events).ending (capped (length (last_of run events).printed))

@@ -1,7 +1,7 @@
 //! Scripts from bytes.
 
 ghost use Rattle.std.specs.Prelude.{◌≡◌, ℕ, List as Row, MatchResult};
-ghost use Rattle.watch_script.specs.declared.event.Event.{Event as Read};
+ghost use Rattle.watch_script.specs.declared.event.Event.{Event as Happening};
 ghost use Rattle.watch_script.specs.Faults.{FaultOf};
 ghost use Rattle.watch_script.specs.Script.{ScriptOf, IsFirstBad};
 
@@ -34,15 +34,18 @@ pub fn parse_script(alloc: Global, bytes: &[u8]) -> Result<Script, ScriptFault>
         if rest.is_empty() {
             return Ok(Script::new(events));
         }
-        let Some((event, behind)) = next_event(rest, least) else {
-            return Err(ScriptFault::Line { line: count + 1 });
-        };
-        match events.add(event) {
-            Ok(()) => {}
+        match next_event(alloc, rest, least) {
+            Ok(Some((event, behind))) => {
+                least = event.after();
+                match events.add(event) {
+                    Ok(()) => {}
+                    Err(_) => return Err(ScriptFault::NoMemory),
+                }
+                rest = behind;
+            }
+            Ok(None) => return Err(ScriptFault::Line { line: count + 1 }),
             Err(_) => return Err(ScriptFault::NoMemory),
         }
-        least = event.after;
-        rest = behind;
     }
     if rest.is_empty() {
         Ok(Script::new(events))
@@ -53,9 +56,9 @@ pub fn parse_script(alloc: Global, bytes: &[u8]) -> Result<Script, ScriptFault>
 
 /// A law: bytes are one script at most, no script where a line is the first bad one, and have one such line at most.
 pub fn scripts_are_told_apart()
-    ensures one { (bytes : Row ℕ) (events others : Row Read) → ScriptOf bytes events →
+    ensures one { (bytes : Row ℕ) (events others : Row Happening) → ScriptOf bytes events →
         ScriptOf bytes others → events ≡ others }
-    ensures none { (bytes : Row ℕ) (line : ℕ) (events : Row Read) → IsFirstBad bytes line →
+    ensures none { (bytes : Row ℕ) (line : ℕ) (events : Row Happening) → IsFirstBad bytes line →
         ScriptOf bytes events → ⊥ }
     ensures line { (bytes : Row ℕ) (line : ℕ) (other : ℕ) → IsFirstBad bytes line →
         IsFirstBad bytes other → line ≡ other }

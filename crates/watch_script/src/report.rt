@@ -1,22 +1,15 @@
-//! What an observer's reads gave.
+//! What an observer's reads and writes gave.
 
-ghost use Rattle.std.specs.Prelude.{◌≡◌, length};
+ghost use Rattle.std.specs.Prelude.{◌≡◌, true};
+ghost use Rattle.watch_script.specs.Suiting.{are_suited};
 
 use crate::event::Event;
+use crate::reply::Reply;
 use rd_num::list::List;
 use x86_core::image::MachOutcome;
 
-/// What a read answers.
-#[derive(Drop)]
-pub enum Reply {
-    /// The bytes of the range.
-    Bytes(List<u8>),
-    /// No one segment that may be read holds the range.
-    Refused,
-}
-
 /// The replies to the events of a script, one for each in their order, and how the machine stands
-/// after the last one.
+/// after the last one. No read has the reply `Written`, and no write the reply `Bytes`.
 #[derive(Drop)]
 pub struct Report {
     pub events: List<Event>,
@@ -24,5 +17,5 @@ pub struct Report {
     pub outcome: MachOutcome,
     /// How many bytes were printed, as far as 2^64 - 1.
     pub printed: u64,
-    ghost answered: { length replies ≡ length events },
+    ghost answered: { are_suited events replies ≡ true },
 }

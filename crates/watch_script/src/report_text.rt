@@ -1,4 +1,4 @@
-//! The text of a report: a line for each read, and one for the end.
+//! The text of a report: a line for each event, and one for the end.
 
 ghost use Rattle.std.specs.Prelude.{◌≡◌, ◌++◌, IfOk, OnOk, length};
 ghost use Rattle.xom_machine.specs.Standing.{ending_of};
@@ -7,7 +7,8 @@ ghost use Rattle.watch_script.specs.Report.{reply_text, reply_line, reply_lines,
 
 use crate::digits::{put_number, put_word};
 use crate::event::Event;
-use crate::report::{Reply, Report};
+use crate::reply::Reply;
+use crate::report::Report;
 use crate::state::put_ending;
 use hex::encode;
 use rd_num::list::List;
@@ -15,7 +16,7 @@ use rd_num::width::NoMemory;
 use std::alloc::Global;
 use x86_core::image::MachOutcome;
 
-/// Appends the bytes of a reply as digits, or that it was refused.
+/// Appends the bytes of a reply as digits, or what a write or a refused event is told.
 fn put_reply(alloc: Global, text: &mut List<u8>, reply: &Reply) -> Result<(), NoMemory>
     ensures { OnOk result (text.new ≡ text.old ++ reply_text reply.now) }
 {
@@ -24,18 +25,24 @@ fn put_reply(alloc: Global, text: &mut List<u8>, reply: &Reply) -> Result<(), No
             Ok(digits) => text.append(digits.as_str().as_bytes()),
             Err(_) => Err(NoMemory),
         },
+        Reply::Written => text.append(b"written"),
         Reply::Refused => text.append(b"refused"),
     }
 }
 
 /// Appends the line of an event and its reply.
 #[tactic(auto, unfolding(crate::specs::Report::reply_line))]
-fn put_line(alloc: Global, text: &mut List<u8>, event: Event, reply: &Reply) -> Result<(), NoMemory>
-    ensures { OnOk result (text.new ≡ text.old ++ reply_line event reply.now) }
+fn put_line(
+    alloc: Global,
+    text: &mut List<u8>,
+    event: &Event,
+    reply: &Reply,
+) -> Result<(), NoMemory>
+    ensures { OnOk result (text.new ≡ text.old ++ reply_line event.now reply.now) }
 {
-    put_number(text, event.after)?;
+    put_number(text, event.after())?;
     text.append(b" ")?;
-    put_word(text, event.at)?;
+    put_word(text, event.at())?;
     text.append(b" ")?;
     put_reply(alloc, text, reply)?;
     text.append(b"\n")
@@ -73,9 +80,9 @@ fn put_lines(
 {
     let mut last = 0;
     for i in 0..events.len() {
-        let event = events[i];
+        let event = &events[i];
         put_line(alloc, text, event, &replies[i])?;
-        last = event.after;
+        last = event.after();
     }
     Ok(last)
 }
@@ -83,6 +90,7 @@ fn put_lines(
 /// The text of a report: docs/command-line.md, "Reports".
 ///
 /// Each byte of a reply is looked at once.
+#[tactic(auto, using(crate::proofs::Suits::suited_length))]
 pub fn report_text(alloc: Global, report: &Report) -> Result<List<u8>, NoMemory>
     ensures { IfOk result (λ text. text ≡ told_text report.now) }
 {

@@ -1,4 +1,4 @@
-//! The reads of an observer, in the order in which they are made.
+//! The reads and writes of an observer, in the order in which they are made.
 
 ghost use Rattle.std.specs.Prelude.{◌≡◌, true};
 ghost use Rattle.watch_script.specs.Events.{is_script};
@@ -6,7 +6,8 @@ ghost use Rattle.watch_script.specs.Events.{is_script};
 use crate::event::Event;
 use rd_num::list::List;
 
-/// At most 4,096 events, of which none comes before an earlier one, and each reads 1 to 4,096 bytes.
+/// At most 4,096 events, of which none comes before an earlier one, and each reads or writes
+/// 1 to 4,096 bytes.
 #[derive(Drop)]
 pub struct Script {
     events: List<Event>,

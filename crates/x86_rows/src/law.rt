@@ -36,8 +36,8 @@ pub fn reading()
         one_covers reads ss at n ≡ false → read_at ss at n ≡ None }
 {}
 
-/// A write that is allowed changes the bytes of its range and no others; starts, lengths and rights
-/// of segments stay.
+/// A write that is allowed changes the bytes of its range and no others; starts, lengths and
+/// rights of segments stay.
 pub fn writing()
     ensures allowed { (ss : List Segment) (at : ℕ) (bs : List ℕ) → AreDisjoint ss →
         1 ≤ length bs → one_covers writes ss at (length bs) ≡ true → Written ss at bs }
@@ -107,7 +107,8 @@ pub fn divisions()
         ≡ Through (record c { regs = with_division size c.regs d; flags = unknown_flags }) }
     ensures none { (c : Core) (signed : Bool) (size : Size) (s : Reg) →
         division signed (size_bits size) (dividend size c.regs)
-        (low (size_bits size) (word c.regs s)) ≡ None → ran (Div signed size s) c ≡ Stopped Divide }
+        (low (size_bits size) (word c.regs s)) ≡ None →
+        ran (Div signed size s) c ≡ Stopped Divide }
 {}
 
 /// Loads and stores, where they are allowed.

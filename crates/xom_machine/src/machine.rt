@@ -1,9 +1,12 @@
 //! A machine, from its start to where it stops.
 
-ghost use Rattle.std.specs.Prelude.{◌≡◌, ℕ, List, [], IfOk, OnOk, OnErr, IfErr};
+ghost use Rattle.std.specs.Prelude.{◌≡◌, ℕ, List, [], length, IfOk, OnOk, OnErr, IfErr};
 ghost use Rattle.x86_core.specs.Machine.{machine_start, machine_step};
+ghost use Rattle.x86_core.specs.Memory.{writes, is_allowed};
+ghost use Rattle.x86_core.specs.Run.{Write, acted};
+ghost use Rattle.xom_memory.specs.Access.{Permits};
 ghost use Rattle.xom_machine.specs.Standing.{state_of, streams_told};
-ghost use Rattle.xom_machine.specs.Calls.{Took, Charged, Kept, CutOff};
+ghost use Rattle.xom_machine.specs.Calls.{Becomes, Took, Charged, Kept, CutOff};
 
 use crate::context::Context;
 use rd_io::{RunFault, Sink, Source};
@@ -13,7 +16,7 @@ use std::marker::Model;
 use x86_core::flags::Flags;
 use x86_core::image::{Image, MachOutcome, STACK_END};
 use x86_core::reg::Regs;
-use xom_memory::memory::Memory;
+use xom_memory::memory::{Memory, WriteFault};
 
 /// A machine: its memory, its registers and flags, where the next instruction stands, and whether
 /// it goes on.
@@ -112,5 +115,22 @@ impl Machine {
             (O.told sink.new) result }
     {
         self.context.run(&mut self.memory, input, sink, n)
+    }
+
+    /// Writes bytes from the address `at` on, for somebody who looks on. A machine that has stopped
+    /// is written to as any other.
+    ///
+    /// `Refused` comes exactly where no one segment that may be written covers the whole range;
+    /// nothing changes after an error. Else these bytes of memory alone change. No bytes may be
+    /// written anywhere.
+    #[tactic(auto, using(crate::proofs::Pokes::poked))]
+    pub fn poke(&mut self, at: u64, bytes: &[u8]) -> Result<(), WriteFault>
+        ensures allowed { Permits result
+            (is_allowed writes self.old.memory at (length bytes.now)) }
+        ensures did { OnOk result (Becomes (acted machine_step (Write at bytes.now))
+            self.old self.new) }
+        ensures unchanged { OnErr result (self.new ≡ self.old) }
+    {
+        self.memory.write_from(at, bytes)
     }
 }

@@ -1,28 +1,26 @@
 -- Each layout of a well-formed object is an image of it.
-use Rattle.std.proofs.Common.{◌≡◌, ◌≢◌, ℕ, List, [], ◌∷◌, refl, sym, ◌∙◌, ap, subst, arith}
-use Rattle.std.specs.Prelude.{replicate}
+use Rattle.std.proofs.Common.{◌≡◌, ◌≢◌, ℕ, List, [], ◌∷◌, length, if◌then◌else◌, refl, sym, ◌∙◌, ap, subst, arith}
 use Rattle.std.proofs.Math.Logic.{∥∥₁_elim}
 use Rattle.std.proofs.Props.{props}
 use Rattle.behavior.specs.Ending.{Strayed}
 use Rattle.behavior.specs.Moment.{Agrees, AreBytes, Behavior}
 use Rattle.behavior.specs.Preserves.{Preserves}
-use Rattle.x86_core.specs.Memory.{code_of, data_of}
+use Rattle.x86_core.specs.declared.image.Image.{Image}
+use Rattle.x86_core.specs.Memory.{writes, is_allowed, code_of, data_of}
 use Rattle.x86_core.specs.Data.{data_segments}
-use Rattle.x86_core.specs.Machine.{machine_segments, machine_start, machine_step, machine_run, machine_behavior}
-use Rattle.x86_core.specs.Step.{State}
-use Rattle.x86_core.specs.Observation.{Observation, observe, reply_to}
-use Rattle.x86_core.specs.Run.{Act, Step}
-use Rattle.x86_core.proofs.Acts.{steps_are_acts}
+use Rattle.x86_core.specs.Machine.{machine_segments, machine_run, machine_behavior}
+use Rattle.x86_core.specs.Observation.{observe, reply_to}
+use Rattle.x86_core.specs.Run.{Act}
 use Rattle.obj_core.specs.declared.object.Object.{Object}
 use Rattle.obj_core.specs.declared.object.Place.{Place}
 use Rattle.obj_core.specs.Slots.{slot_start}
 use Rattle.obj_core.specs.WellFormed.{IsWellFormed}
-use Rattle.obj_core.specs.SymbolicMachine.{symbolic_start, symbolic_step, symbolic_run, symbolic_behavior}
+use Rattle.obj_core.specs.SymbolicMachine.{symbolic_run, symbolic_behavior}
 use Rattle.obj_lay.specs.Held.{HoldsPlaces, HoldsObject}
 use Rattle.obj_lay.specs.Places.{is_step_place, HoldsInstrs}
-use Rattle.obj_lay.specs.Hidden.{ShowsObject, HasDataOf, replies, image_shown, object_shown, RepliesAsObject, ShowTheSame}
+use Rattle.obj_lay.specs.Hidden.{ShowsObject, HasDataOf, Wish, Reads, Writes, Written, Refused, answer_of, answer_in, answers, RepliesAsObject, ShowTheSame}
 use Rattle.obj_lay.proofs.lockstep.Closed.{instrs_held}
-use Rattle.obj_lay.proofs.lockstep.Images.{image_shows, image_agrees, image_preserves}
+use Rattle.obj_lay.proofs.lockstep.Images.{image_shows, image_allows, image_agrees, image_preserves}
 use Rattle.obj_core.specs.Placement.{code_base}
 use Rattle.obj_core.specs.Layout.{layout, code_bytes, trampoline_bytes}
 use Rattle.obj_lay.proofs.hidden.Executable.{executable, all_code, all_data, all_hidden}
@@ -65,6 +63,28 @@ module _ (o : Object) (w : IsWellFormed o) (seed : ℕ) where
 pub hidden_layout : (o : Object) → IsWellFormed o → (seed : ℕ) (input : List ℕ) (acts : List Act) → (symbolic_run o input acts).ending ≢ Strayed → observe (machine_run (layout o seed) input acts) ≡ observe (symbolic_run o input acts)
 hidden_layout o w seed input acts straight = image_shows (layout o seed) (at_place o w seed) (is_step_place o w.disassemblies) o (is_image o w seed) input acts straight
 
+-- the image allows the writes that the object allows
+abbrev Allows : Image → Object → Type 0
+Allows image o = (input : List ℕ) (acts : List Act) → (symbolic_run o input acts).ending ≢ Strayed → (at n : ℕ) → is_allowed writes (machine_run image input acts).segments at n ≡ is_allowed writes (symbolic_run o input acts).segments at n
+
+allowed_layout : (o : Object) → IsWellFormed o → (seed : ℕ) → Allows (layout o seed) o
+allowed_layout o w seed input acts straight = image_allows (layout o seed) (at_place o w seed) (is_step_place o w.disassemblies) o (is_image o w seed) input acts straight
+
+-- what shows the same and allows the same writes answers the same
+module _ (image : Image) (o : Object) (shows : ShowsObject image o) (allows : Allows image o) where
+  answer_alike : (input : List ℕ) (acts : List Act) → (symbolic_run o input acts).ending ≢ Strayed → (wish : Wish) → answer_in wish (machine_run image input acts) ≡ answer_in wish (symbolic_run o input acts)
+  answer_alike input acts straight (Reads at len) = ap (λ seen. answer_of (reply_to seen at len)) (shows input acts straight)
+  answer_alike input acts straight (Writes at bytes) = ap (λ t. if t then Written else Refused) (allows input acts straight at (length bytes))
+
+  replies_alike : RepliesAsObject image o
+  replies_alike input [] straight = refl
+  replies_alike input (l ∷ ls) straight =
+      ap (λ a. a ∷ answers (machine_run image input) ls) (answer_alike input l.before straight.0 l.wish) ∙
+      ap (λ rest. answer_in l.wish (symbolic_run o input l.before) ∷ rest) (replies_alike input ls straight.1)
+
+pub hidden_replies : (o : Object) → IsWellFormed o → (seed : ℕ) → RepliesAsObject (layout o seed) o
+hidden_replies o w seed = replies_alike (layout o seed) o (hidden_layout o w seed) (allowed_layout o w seed)
+
 -- after each step the same moment
 pub layout_agrees : (o : Object) → IsWellFormed o → (seed : ℕ) (input : List ℕ) (n : ℕ) → (symbolic_behavior o input n).ending ≢ Strayed → Agrees (symbolic_behavior o input n) (machine_behavior (layout o seed) input n)
 layout_agrees o w seed input n straight = image_agrees (layout o seed) (at_place o w seed) (is_step_place o w.disassemblies) o (is_image o w seed) input n straight
@@ -78,19 +98,13 @@ module _ (o : Object) (known : ∥ IsWellFormed o ∥₁) where
   pub layout_shows : (seed : ℕ) → ShowsObject (layout o seed) o
   layout_shows seed input acts straight = ∥∥₁_elim known (hlevel props) (λ w. hidden_layout o w seed input acts straight)
 
-  -- after so many steps
-  seen_alike : (seed : ℕ) (input : List ℕ) (n : ℕ) → (symbolic_behavior o input n).ending ≢ Strayed → image_shown (layout o seed) input n ≡ object_shown o input n
-  seen_alike seed input n straight =
-      let m = steps_are_acts machine_step n (machine_start (layout o seed) input) in
-      let s = steps_are_acts (symbolic_step o) n (symbolic_start o input) in
-      ap observe (sym m) ∙ layout_shows seed input (replicate n Step) (λ e. straight (ap (λ (t : State Place). t.ending) (sym s) ∙ e)) ∙ ap observe s
+  -- it allows the same writes
+  layout_allows : (seed : ℕ) → Allows (layout o seed) o
+  layout_allows seed input acts straight at n = ∥∥₁_elim known (hlevel props) (λ w. allowed_layout o w seed input acts straight at n)
 
-  -- and at each read
+  -- and so it answers the same
   pub layout_replies : (seed : ℕ) → RepliesAsObject (layout o seed) o
-  layout_replies seed input [] straight = refl
-  layout_replies seed input (l ∷ ls) straight =
-      ap (λ (seen : Observation). reply_to seen l.at l.len ∷ replies (image_shown (layout o seed) input) ls) (seen_alike seed input l.after straight.0) ∙
-      ap (λ rs. reply_to (object_shown o input l.after) l.at l.len ∷ rs) (layout_replies seed input ls straight.1)
+  layout_replies seed = replies_alike (layout o seed) o (layout_shows seed) (layout_allows seed)
 
   -- and so do two of them
   pub layouts_alike : (seed other : ℕ) → ShowTheSame (layout o seed) (layout o other) o

@@ -7,7 +7,7 @@ use Rattle.behavior.specs.Preserves.{Preserves}
 use Rattle.behavior.proofs.Laws.{preserves_straight}
 use Rattle.x86_core.proofs.Acts.{steps_are_acts}
 use Rattle.x86_core.specs.declared.image.Image.{Image}
-use Rattle.x86_core.specs.Memory.{code_of}
+use Rattle.x86_core.specs.Memory.{writes, is_allowed, code_of}
 use Rattle.x86_core.specs.Data.{stack_end}
 use Rattle.x86_core.specs.Observation.{Observation, observe}
 use Rattle.x86_core.specs.Run.{Act, Step, started}
@@ -18,7 +18,7 @@ use Rattle.obj_core.specs.declared.object.Place.{Place}
 use Rattle.obj_core.specs.SymbolicMachine.{symbolic_step, symbolic_start, symbolic_run, symbolic_behavior}
 use Rattle.obj_lay.specs.Held.{HoldsObject}
 use Rattle.obj_lay.specs.Mirrors.{Mirrors}
-use Rattle.obj_lay.proofs.lockstep.Lockstep.{run_shows}
+use Rattle.obj_lay.proofs.lockstep.Lockstep.{run_shows, run_allows}
 
 module _ (image : Image) (place : Place → ℕ) (is_place : Place → Bool) (o : Object) (h : HoldsObject image place is_place o) where
   -- both begin at slot 0
@@ -37,6 +37,9 @@ module _ (image : Image) (place : Place → ℕ) (is_place : Place → Bool) (o 
 
   pub image_shows : (input : List ℕ) (acts : List Act) → (symbolic_run o input acts).ending ≢ Strayed → observe (machine_run image input acts) ≡ observe (symbolic_run o input acts)
   image_shows input acts straight = run_shows (code_of (machine_segments image)) place is_place o h.places acts (symbolic_start o input) (machine_start image input) (start_mirrors input) straight
+
+  pub image_allows : (input : List ℕ) (acts : List Act) → (symbolic_run o input acts).ending ≢ Strayed → (at n : ℕ) → is_allowed writes (machine_run image input acts).segments at n ≡ is_allowed writes (symbolic_run o input acts).segments at n
+  image_allows input acts straight = run_allows (code_of (machine_segments image)) place is_place o h.places acts (symbolic_start o input) (machine_start image input) (start_mirrors input) straight
 
   -- after each step the same moment
   pub image_agrees : (input : List ℕ) (n : ℕ) → (symbolic_behavior o input n).ending ≢ Strayed → Agrees (symbolic_behavior o input n) (machine_behavior image input n)

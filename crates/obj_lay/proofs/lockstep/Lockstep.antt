@@ -4,7 +4,7 @@ use Rattle.std.specs.Prelude.{slice_index, nat_eq}
 use Rattle.std.proofs.lemmas.Bool.{eqb-true}
 use Rattle.behavior.specs.Ending.{Ending, Going, Strayed, if_going}
 use Rattle.x86_core.specs.declared.image.Segment.{Segment}
-use Rattle.x86_core.specs.Memory.{write_at, code_at, data_of, code_of}
+use Rattle.x86_core.specs.Memory.{writes, is_allowed, write_at, code_at, data_of, code_of}
 use Rattle.x86_core.specs.Observation.{observe, readable as readable_of}
 use Rattle.x86_core.specs.Run.{Act, Step, Write, wrote, acted, run_over}
 use Rattle.x86_core.specs.Step.{State, act}
@@ -15,7 +15,7 @@ use Rattle.obj_core.specs.Slots.{slot_base, positions}
 use Rattle.obj_core.specs.SymbolicMachine.{landing_from, symbolic_fetch, symbolic_land, symbolic_step}
 use Rattle.obj_lay.specs.Held.{HoldsPlaces}
 use Rattle.obj_lay.specs.Mirrors.{at_address, Mirrors}
-use Rattle.obj_lay.proofs.lockstep.Segments.{code_same, readable_same}
+use Rattle.obj_lay.proofs.lockstep.Segments.{code_same, readable_same, allowed_same}
 use Rattle.obj_lay.proofs.lockstep.Natural.{addressed, IsPlaceAt, act_mirrors, write_act_mirrors}
 use Rattle.obj_core.proofs.Landing.{positions_long}
 use Rattle.obj_core.proofs.Strays.{strayed_over}
@@ -102,3 +102,10 @@ module _ (exec : List Segment) (place : Place → ℕ) (is_place : Place → Boo
 
   pub run_shows : (acts : List Act) (a : State Place) (b : State ℕ) → Mirrors exec place is_place a b → (run_over (symbolic_step o) acts a).ending ≢ Strayed → observe (run_over machine_step acts b) ≡ observe (run_over (symbolic_step o) acts a)
   run_shows acts a b r straight = mirrors_shows _ _ (run_mirrors acts a b r straight)
+
+  -- and allows the same writes
+  pub run_allows : (acts : List Act) (a : State Place) (b : State ℕ) → Mirrors exec place is_place a b → (run_over (symbolic_step o) acts a).ending ≢ Strayed →
+      (at n : ℕ) → is_allowed writes (run_over machine_step acts b).segments at n ≡ is_allowed writes (run_over (symbolic_step o) acts a).segments at n
+  run_allows acts a b r straight at n =
+      let m = run_mirrors acts a b r straight in
+      ap (λ (s : State ℕ). is_allowed writes s.segments at n) m.same ∙ (sym (allowed_same m.segments at n) ∙ ap (λ ss. is_allowed writes ss at n) m.readable)

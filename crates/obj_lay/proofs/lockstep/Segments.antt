@@ -1,7 +1,7 @@
 -- Reads and writes see data alone, fetches see code alone, and a write leaves hidden code as it is.
-use Rattle.std.proofs.Common.{◌≡◌, ℕ, Bool, true, false, ◌&&◌, ◌||◌, List, [], ◌∷◌, length, Option, Some, None, if◌then◌else◌, refl, sym, ◌∙◌, ap, subst, arith}
+use Rattle.std.proofs.Common.{◌≡◌, ℕ, Bool, true, false, ◌&&◌, ◌||◌, List, [], ◌∷◌, length, Option, Some, None, if◌then◌else◌, nat_eq, refl, sym, ◌∙◌, ap, subst, arith}
 use Rattle.x86_core.specs.declared.image.Segment.{Segment}
-use Rattle.x86_core.specs.Memory.{executes, reads, writes, covers, read_at, with_bytes, behind, write_at, code_at, data_of, code_of}
+use Rattle.x86_core.specs.Memory.{executes, reads, writes, covers, one_covers, is_allowed, read_at, with_bytes, behind, write_at, code_at, data_of, code_of}
 use Rattle.x86_core.specs.Observation.{readable}
 use Rattle.obj_lay.specs.Held.{AreHidden}
 
@@ -78,3 +78,17 @@ module _ (s : Segment) (ss : List Segment) (at : ℕ) (bs : List ℕ) (others : 
 pub code_stays : (ss : List Segment) (at : ℕ) (bs : List ℕ) → AreHidden (code_of ss) → CodeStays (code_of ss) (write_at ss at bs)
 code_stays [] at bs hidden = tt
 code_stays (s ∷ ss) at bs hidden = by_right s ss at bs (code_stays ss at bs) (executes s.rights) refl hidden
+
+-- a write is allowed by what may be read or written
+covered_same : (ss : List Segment) (at n : ℕ) → one_covers writes (data_of ss) at n ≡ one_covers writes ss at n
+covered_same [] at n = refl
+covered_same (s ∷ ss) at n = by (reads s.rights) (writes s.rights) refl (covered_same ss at n)
+  where
+    by : (r w : Bool) → writes s.rights ≡ w → one_covers writes (data_of ss) at n ≡ one_covers writes ss at n →
+        one_covers writes (if r || w then s ∷ data_of ss else data_of ss) at n ≡ ((w && covers s at n) || one_covers writes ss at n)
+    by true w e h = rw (e, h) refl
+    by false true e h = rw (e, h) refl
+    by false false e h = h
+
+pub allowed_same : (ss : List Segment) (at n : ℕ) → is_allowed writes (data_of ss) at n ≡ is_allowed writes ss at n
+allowed_same ss at n = ap (λ t. nat_eq n 0 || t) (covered_same ss at n)

@@ -4,7 +4,7 @@ use Rattle.std.proofs.lemmas.List.{length-replicate, length-take-le}
 use Rattle.x86_core.specs.declared.image.Segment.{Segment}
 use Rattle.x86_core.specs.Memory.{read_at}
 use Rattle.x86_core.specs.Observation.{readable}
-use Rattle.watch_script.specs.declared.report.Reply.TheVariants.{Bytes, Refused}
+use Rattle.watch_script.specs.declared.reply.Reply.TheVariants.{Bytes, Refused}
 use Rattle.watch_script.specs.Report.{reply_of}
 use Rattle.watch_script.proofs.Watches.{read_readable}
 use Rattle.watch_script.proofs.watch.reply.Goals as goal
@@ -30,12 +30,12 @@ whole_as_front-bytes g c = omega (arith, size g.row.N, c.requires.room, c.requir
 
 pub returns-in_ok-own-in-Ok : goal.returns-in_ok-own-in-Ok
 returns-in_ok-own-in-Ok g c =
-    let count : length (take c.args.event.len (room g.row.N)) ≡ c.args.event.len = count_of g.row.N c.args.event.len c.requires.room in
-    let some : 0 < length (take c.args.event.len (room g.row.N)) = omega (arith, count, c.requires.some) in
-    answered c.args.machine.now.memory c.memory.result.now c.args.event.at c.args.event.len (length (take c.args.event.len (room g.row.N))) c.in_ok-own-in-Ok.own c.read_into.new.out c.memory.ensures count (c.in-Ok.ensures.some some) c.in_ok-own-in-Ok.ensures
+    let count : length (take c.args.len (room g.row.N)) ≡ c.args.len = count_of g.row.N c.args.len c.requires.room in
+    let some : 0 < length (take c.args.len (room g.row.N)) = omega (arith, count, c.requires.some) in
+    answered c.args.machine.now.memory c.memory.result.now c.args.at c.args.len (length (take c.args.len (room g.row.N))) c.in_ok-own-in-Ok.own c.read_into.new.out c.memory.ensures count (c.in-Ok.ensures.some some) c.in_ok-own-in-Ok.ensures
 
 pub returns-in-Err : goal.returns-in-Err
 returns-in-Err g c =
-    let count : length (take c.args.event.len (room g.row.N)) ≡ c.args.event.len = count_of g.row.N c.args.event.len c.requires.room in
-    let some : 0 < length (take c.args.event.len (room g.row.N)) = omega (arith, count, c.requires.some) in
-    refused c.args.machine.now.memory c.memory.result.now c.args.event.at c.args.event.len (length (take c.args.event.len (room g.row.N))) c.memory.ensures count (c.in-Err.ensures.some some)
+    let count : length (take c.args.len (room g.row.N)) ≡ c.args.len = count_of g.row.N c.args.len c.requires.room in
+    let some : 0 < length (take c.args.len (room g.row.N)) = omega (arith, count, c.requires.some) in
+    refused c.args.machine.now.memory c.memory.result.now c.args.at c.args.len (length (take c.args.len (room g.row.N))) c.memory.ensures count (c.in-Err.ensures.some some)
