@@ -1,42 +1,33 @@
 -- Loads and stores: what the flat memory has, the segments have.
-use Rattle.std.proofs.Common.{◌≡◌, ℕ, zero, suc, ◌+◌, ◌-◌, ◌*◌, ◌/◌, ◌%◌, ◌^◌, ◌<◌, ◌≤◌, Bool, true, false, ◌&&◌, ◌||◌, nat_eq, nat_le, option_map, if◌then◌else◌, List, [], ◌∷◌, length, map, get_or, Option, Some, None, Ok, Err, refl, sym, ◌∙◌, ap, subst, inl, inr, ◌⊎◌, arith, lit<}
-use Rattle.std.specs.Prelude.{pos, slice_index}
-use Rattle.std.proofs.lemmas.Bool.{cases_lt, or_cases, and_parts, and_from, leb-true, le-leb, eq-eqb, ne_eqb}
-use Rattle.std.proofs.Math.Arith.{mod-mul}
+use Rattle.std.proofs.Common.{◌≡◌, ℕ, zero, suc, ◌+◌, ◌*◌, ◌^◌, ◌<◌, ◌≤◌, Bool, true, false, ◌&&◌, ◌||◌, nat_le, option_map, List, [], ◌∷◌, length, Option, Some, None, Ok, Err, refl, sym, ◌∙◌, ap, subst, inl, inr, ◌⊎◌, arith}
+use Rattle.std.specs.Prelude.{pos}
+use Rattle.std.proofs.lemmas.Bool.{or_cases, and_parts, and_from, leb-true, le-leb}
 use Rattle.rd_num.specs.declared.width.Width.{Width}
 use Rattle.rd_num.specs.declared.width.Width.TheVariants.{W1, W8, W16, W32, W64}
-use Rattle.rd_num.specs.Number.{le_bytes, le_number}
+use Rattle.rd_num.specs.Number.{le_number}
 use Rattle.ir_core.specs.declared.memory.Reason.TheVariants.{Bounds, Unset}
 use Rattle.ir_core.specs.Shapes.{bytes_of}
 use Rattle.ir_core.specs.Stops.{Answer, Left, and_then, found_or}
 use Rattle.x86_core.specs.declared.flags.Flags.{Flags}
-use Rattle.x86_core.specs.declared.reg.Reg.TheVariants.{Rax, Rcx}
+use Rattle.x86_core.specs.declared.reg.Reg.TheVariants.{Rax}
 use Rattle.x86_core.specs.declared.image.Segment.{Segment}
-use Rattle.x86_core.specs.declared.instr.Instr.{Instr}
-use Rattle.x86_core.specs.declared.instr.Instr.TheVariants.{Load, Store}
-use Rattle.x86_core.specs.Arithmetic.{moved, size_bits}
+use Rattle.x86_core.specs.declared.instr.Instr.TheVariants.{Load}
+use Rattle.x86_core.specs.Arithmetic.{moved}
 use Rattle.x86_core.specs.Effect.{effect_of}
-use Rattle.x86_core.specs.Memory.{read_at, write_at, reads, writes, one_covers}
+use Rattle.x86_core.specs.Memory.{read_at}
 use Rattle.x86_core.specs.Step.{size_bytes}
-use Rattle.x86_rows.specs.Addresses.{byte_at, range_at, Written}
-use Rattle.x86_rows.specs.Straight.{Through, loaded, stored, ran, exec}
-use Rattle.x86_rows.proofs.Covers.{range_same, chosen, passed_over}
+use Rattle.x86_rows.specs.Addresses.{range_at}
+use Rattle.x86_rows.specs.Straight.{Through, loaded, ran}
+use Rattle.x86_rows.proofs.Covers.{chosen, passed_over}
 use Rattle.x86_rows.proofs.Reading.{read_range}
-use Rattle.x86_rows.proofs.Writing.{write_range}
-use Rattle.x86_rows.proofs.Shapes.{one_same}
 use Rattle.x86_rows.proofs.Rows.{exec-first}
-use Rattle.low_core.specs.Flat.{Span, Bytes, Flat, covers, is_inside, is_writable, bytes_from, all_set, with_byte, with_bytes, word_at, with_word_at}
+use Rattle.low_core.specs.Flat.{Span, Flat, covers, is_inside, is_writable, bytes_from, all_set, word_at}
 use Rattle.low_core.specs.SelState.{word_in}
 use Rattle.frame_rows.specs.declared.spot.Spot.{Spot}
-use Rattle.frame_rows.specs.declared.spot.Spot.TheVariants.{Own, Frame}
 use Rattle.frame_rows.specs.Words.{Words, in_order, core_of}
-use Rattle.frame_rows.specs.Code.{access_size, at_rax, home_read, both}
-use Rattle.frame_rows.specs.Ties.{IsHome, Keeps, Contains, Tied}
-use Rattle.frame_rows.specs.Steps.{Leads}
-use Rattle.frame_rows.proofs.Registers.{Same}
-use Rattle.frame_rows.proofs.Homes.{room_same}
-use Rattle.frame_rows.proofs.Kept.{keeps_same}
-use Rattle.frame_rows.proofs.Results.{Makes, reads_one, reads_both}
+use Rattle.frame_rows.specs.Code.{access_size, at_rax, home_read}
+use Rattle.frame_rows.specs.Ties.{Contains, Tied}
+use Rattle.frame_rows.proofs.Results.{Makes, reads_one}
 
 -- a part of a range that a span covers
 covers_part : (s : Span) (p n q m : ℕ) → p ≤ q → q + m ≤ p + n → covers p n s ≡ true → covers q m s ≡ true

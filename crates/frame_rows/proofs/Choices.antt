@@ -1,13 +1,11 @@
 -- What comparisons, choices and extensions make in rax.
-use Rattle.std.proofs.Common.{◌≡◌, ℕ, zero, suc, ◌+◌, ◌-◌, ◌*◌, ◌/◌, ◌%◌, ◌^◌, ◌<◌, ◌≤◌, Bool, true, false, nat_eq, nat_le, if◌then◌else◌, List, [], ◌∷◌, ◌++◌, Some, refl, sym, ◌∙◌, ap, inl, inr, arith}
+use Rattle.std.proofs.Common.{◌≡◌, ℕ, ◌+◌, ◌-◌, ◌*◌, ◌/◌, ◌%◌, ◌^◌, ◌<◌, Bool, true, false, nat_eq, if◌then◌else◌, List, [], ◌∷◌, Some, refl, ◌∙◌, ap, arith}
 use Rattle.std.specs.Prelude.{bit_and, pos}
 use Rattle.std.proofs.lemmas.Nat.{and_mask}
-use Rattle.std.proofs.lemmas.Bool.{cases_lt, lt-leb, le-leb}
 use Rattle.rd_num.specs.declared.width.Width.{Width}
 use Rattle.rd_num.specs.declared.width.Width.TheVariants.{W1, W8, W16, W32, W64}
-use Rattle.rd_num.specs.Number.{bits}
 use Rattle.ir_core.specs.declared.instruction.Pred.{Pred}
-use Rattle.ir_core.specs.Arithmetic.{modulus, is_negative, compared, cast}
+use Rattle.ir_core.specs.Arithmetic.{compared}
 use Rattle.x86_core.specs.declared.flags.Flags.{Flags}
 use Rattle.x86_core.specs.declared.reg.Reg.TheVariants.{Rax, Rcx, Rdx}
 use Rattle.x86_core.specs.declared.image.Segment.{Segment}
@@ -18,18 +16,15 @@ use Rattle.x86_core.specs.declared.instr.WidenKind.{WidenKind}
 use Rattle.x86_core.specs.declared.instr.Cond.{Cond}
 use Rattle.x86_core.specs.declared.instr.Instr.{Instr}
 use Rattle.x86_core.specs.declared.instr.Instr.TheVariants.{MovImm32, Alu, AluImm, Widen, SetCond, Cmov}
-use Rattle.x86_core.specs.Arithmetic.{alu_result, alu_flags, flag_if, known, holds}
+use Rattle.x86_core.specs.Arithmetic.{alu_flags, flag_if, known, holds}
 use Rattle.x86_core.specs.Effect.{effect_of, set_effect, cmov_effect}
-use Rattle.x86_rows.specs.Straight.{Through, by_change, ran, and_on, exec}
-use Rattle.x86_rows.proofs.Rows.{exec-first, exec-through}
+use Rattle.x86_rows.specs.Straight.{Through, by_change, ran}
 use Rattle.low_core.specs.SelShaped.{IsWide}
-use Rattle.low_core.specs.SelStep.{low_bits, widening}
-use Rattle.frame_rows.specs.Words.{Words, in_order, with_held, core_of}
-use Rattle.frame_rows.specs.Code.{cut, filled, is_signed, ready, condition, bit_condition, condition_at, test_row}
-use Rattle.frame_rows.proofs.Registers.{Same}
+use Rattle.low_core.specs.SelStep.{low_bits}
+use Rattle.frame_rows.specs.Words.{Words, in_order, core_of}
+use Rattle.frame_rows.specs.Code.{filled, is_signed, condition, bit_condition, test_row}
 use Rattle.frame_rows.proofs.Results.{Makes}
-use Rattle.frame_rows.proofs.Leaves.{Passes, sign_of, fill_of, cut_passes, fill_passes, alu_passes}
-use Rattle.frame_rows.proofs.Numbers.{half, sign_low, sign_high}
+use Rattle.frame_rows.proofs.Leaves.{Passes, fill_of, cut_passes, fill_passes}
 use Rattle.frame_rows.proofs.Plain.{makes_one, makes_after, makes_is, scratch_same}
 use Rattle.frame_rows.proofs.Compares.{compare_flags, condition_says, fill_small, filled_compared, bit_condition_says}
 

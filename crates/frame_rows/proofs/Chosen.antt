@@ -1,10 +1,10 @@
 -- The laws of comparisons, choices and extensions.
-use Rattle.std.proofs.Common.{◌≡◌, ℕ, ◌+◌, ◌%◌, ◌^◌, ◌<◌, Bool, true, false, nat_eq, if◌then◌else◌, List, [], ◌∷◌, Ok, refl, sym, ◌∙◌, ap, inl, inr, arith}
+use Rattle.std.proofs.Common.{◌≡◌, ℕ, ◌+◌, ◌%◌, ◌^◌, ◌<◌, Bool, true, false, nat_eq, if◌then◌else◌, List, [], ◌∷◌, Ok, refl, inl, inr}
 use Rattle.std.specs.Prelude.{pos}
 use Rattle.rd_num.specs.declared.width.Width.{Width}
 use Rattle.rd_num.specs.declared.width.Width.TheVariants.{W1, W8, W16, W32, W64}
 use Rattle.ir_core.specs.declared.instruction.Pred.{Pred}
-use Rattle.ir_core.specs.Arithmetic.{modulus, compared, cast}
+use Rattle.ir_core.specs.Arithmetic.{compared, cast}
 use Rattle.ir_core.specs.Stops.{and_then}
 use Rattle.x86_core.specs.declared.flags.Flags.{Flags}
 use Rattle.x86_core.specs.declared.reg.Reg.{Reg}
@@ -15,25 +15,23 @@ use Rattle.x86_core.specs.declared.instr.AluOp.{AluOp}
 use Rattle.x86_core.specs.declared.instr.ImmOp.{ImmOp}
 use Rattle.x86_core.specs.declared.instr.Cond.{Cond}
 use Rattle.x86_core.specs.declared.instr.Instr.{Instr}
-use Rattle.x86_core.specs.declared.instr.Instr.TheVariants as do_
+use Rattle.x86_core.specs.declared.instr.Instr.TheVariants as instr
 use Rattle.low_core.specs.declared.sel.Sel.{Sel}
 use Rattle.low_core.specs.declared.sel.SelOp.TheVariants.{Widen, Test, Pick}
-use Rattle.low_core.specs.Flat.{Span, Flat}
+use Rattle.low_core.specs.Flat.{Span}
 use Rattle.low_core.specs.Plan.{Plan}
-use Rattle.low_core.specs.SelShaped.{IsWide}
 use Rattle.low_core.specs.SelState.{SelFrame, SelState, word_in}
 use Rattle.low_core.specs.SelStep.{low_bits, widening}
 use Rattle.frame_rows.specs.declared.spot.Spot.{Spot}
 use Rattle.frame_rows.specs.Words.{Words, with_held}
 use Rattle.frame_rows.specs.Code.{home_read, cut, filled, result_row, op_row, test_row, both}
 use Rattle.frame_rows.specs.Ties.{is_scratch, Tied}
-use Rattle.frame_rows.proofs.Registers.{Same, scratch_written}
+use Rattle.frame_rows.proofs.Registers.{scratch_written}
 use Rattle.frame_rows.proofs.Kept.{tied_same}
 use Rattle.frame_rows.proofs.Results.{Makes, reads_one}
-use Rattle.frame_rows.proofs.Leaves.{Passes}
 use Rattle.frame_rows.proofs.Numbers.{low_small}
-use Rattle.frame_rows.proofs.Plain.{makes_after, makes_is, scratch_same}
-use Rattle.frame_rows.proofs.Meeting.{free_of, Met, given, made_met, one_met, two_met, makes_both}
+use Rattle.frame_rows.proofs.Plain.{makes_after, scratch_same}
+use Rattle.frame_rows.proofs.Meeting.{free_of, made_met, one_met, two_met, makes_both}
 use Rattle.frame_rows.proofs.Choices.{truth, truth_small, test_makes, pick_makes}
 use Rattle.frame_rows.proofs.Extends.{fill_makes, bit_fill_makes, bit_sign_makes}
 use Rattle.frame_rows.proofs.Simple.{Law}
@@ -71,8 +69,8 @@ module _ (homes : ℕ → Spot) (base words own : ℕ) (plan : Plan) (live after
       makes k m n ks ms ns =
           let w1 : Words = record w { rdx = k } in
           let t1 = tied_same homes base words live f.registers (record { spans = spans; bytes = s.bytes }) w w1 ss (scratch_same w w.rax w.rcx k) tied in
-          read_first c k Rdx (both homes x y (do_.AluImm ImmOp.And Wide.W32 Rdx (pos 1) ∷ do_.Cmov Cond.E Rax Rcx ∷ [])) _ (a.reads c (inl refl)) refl ks
-          (makes_both homes base words live after s f callers spans w1 fl ss t1 x y m n (do_.AluImm ImmOp.And Wide.W32 Rdx (pos 1) ∷ do_.Cmov Cond.E Rax Rcx ∷ []) _ (a.reads x (inr (inl refl))) (a.reads y (inr (inr (inl refl)))) ms ns
+          read_first c k Rdx (both homes x y (instr.AluImm ImmOp.And Wide.W32 Rdx (pos 1) ∷ instr.Cmov Cond.E Rax Rcx ∷ [])) _ (a.reads c (inl refl)) refl ks
+          (makes_both homes base words live after s f callers spans w1 fl ss t1 x y m n (instr.AluImm ImmOp.And Wide.W32 Rdx (pos 1) ∷ instr.Cmov Cond.E Rax Rcx ∷ []) _ (a.reads x (inr (inl refl))) (a.reads y (inr (inr (inl refl)))) ms ns
           (pick_makes (record w1 { rax = m; rcx = n }) fl ss))
 
   -- an extension of one operand
@@ -88,7 +86,7 @@ module _ (homes : ℕ → Spot) (base words own : ℕ) (plan : Plan) (live after
       cast_small false from to n = low_small to n
 
   pub widen_law : (signed : Bool) (from to : Width) (r x : ℕ) → Law homes base words own plan live after sel input s f callers spans w fl ss tied at_own (Widen signed from to r x)
-  widen_law true W1 to r x ready a = widen_met true W1 to r x (λ n is. read_first x n Rcx (cut W1 Rcx ∷ do_.Alu AluOp.Sub Wide.W32 Rax Rax ∷ do_.Alu AluOp.Sub Wide.W64 Rax Rcx ∷ cut to Rax ∷ []) _ (a.reads x (inl refl)) refl is (bit_sign_makes (record w { rcx = n }) fl ss to)) ready a
+  widen_law true W1 to r x ready a = widen_met true W1 to r x (λ n is. read_first x n Rcx (cut W1 Rcx ∷ instr.Alu AluOp.Sub Wide.W32 Rax Rax ∷ instr.Alu AluOp.Sub Wide.W64 Rax Rcx ∷ cut to Rax ∷ []) _ (a.reads x (inl refl)) refl is (bit_sign_makes (record w { rcx = n }) fl ss to)) ready a
   widen_law false W1 to r x ready a = widen_met false W1 to r x (λ n is. read_first x n Rax (filled false W1 Rax ∷ cut to Rax ∷ []) _ (a.reads x (inl refl)) refl is (bit_fill_makes (record w { rax = n }) fl ss to)) ready a
   widen_law true W8 to r x ready a = widen_met true W8 to r x (λ n is. read_first x n Rax (filled true W8 Rax ∷ cut to Rax ∷ []) _ (a.reads x (inl refl)) refl is (fill_makes (record w { rax = n }) fl ss true W8 to tt)) ready a
   widen_law false W8 to r x ready a = widen_met false W8 to r x (λ n is. read_first x n Rax (filled false W8 Rax ∷ cut to Rax ∷ []) _ (a.reads x (inl refl)) refl is (fill_makes (record w { rax = n }) fl ss false W8 to tt)) ready a

@@ -1,5 +1,5 @@
 -- What divisions make in rax, or that they stop.
-use Rattle.std.proofs.Common.{◌≡◌, ℕ, ◌+◌, ◌-◌, ◌*◌, ◌/◌, ◌%◌, ◌^◌, ◌<◌, ◌≤◌, ◌⊎◌, Bool, true, false, nat_le, if◌then◌else◌, List, [], ◌∷◌, ◌++◌, Option, Some, None, Ok, Err, refl, sym, ◌∙◌, ap, subst, inl, inr, arith}
+use Rattle.std.proofs.Common.{◌≡◌, ℕ, ◌+◌, ◌-◌, ◌*◌, ◌/◌, ◌%◌, ◌^◌, ◌<◌, ◌≤◌, Bool, true, false, nat_le, if◌then◌else◌, List, [], ◌∷◌, Some, None, Ok, Err, refl, sym, ◌∙◌, ap, subst, inl, inr, arith}
 use Rattle.std.proofs.lemmas.Bool.{cases_lt, lt-leb, le-leb}
 use Rattle.std.proofs.Math.Nat.{mod-lt}
 use Rattle.behavior.specs.Ending as ending
@@ -26,11 +26,11 @@ use Rattle.x86_rows.proofs.Rows.{exec-first}
 use Rattle.low_core.specs.SelShaped.{IsWide}
 use Rattle.low_core.specs.SelStep.{low_bits, division}
 use Rattle.frame_rows.specs.Words.{Words, in_order, core_of}
-use Rattle.frame_rows.specs.Code.{cut, filled, high_half, divided_in, divided_bytes, div_row}
+use Rattle.frame_rows.specs.Code.{cut, filled, div_row}
 use Rattle.frame_rows.proofs.Registers.{Same}
 use Rattle.frame_rows.proofs.Results.{Makes}
 use Rattle.frame_rows.proofs.Leaves.{Passes, sign_of, fill_of, cut_passes, fill_passes, shift_passes}
-use Rattle.frame_rows.proofs.Numbers.{half, low_small, modulus_some, modulus_most, sign_low, sign_high}
+use Rattle.frame_rows.proofs.Numbers.{modulus_some, modulus_most, sign_low, sign_high}
 use Rattle.frame_rows.proofs.Plain.{makes_one, makes_after, makes_is, scratch_same}
 use Rattle.frame_rows.proofs.Division.{part, Agrees, NoAnswer, SameAnswer, unsigned_agrees, IsDouble, signed_agrees}
 

@@ -1,5 +1,5 @@
 -- Divisions in numbers: of a dividend with twice the width, that has the sign or zeros above the number, they are those of the width.
-use Rattle.std.proofs.Common.{◌≡◌, ◌≢◌, ℕ, zero, suc, ◌+◌, ◌-◌, ◌*◌, ◌/◌, ◌%◌, ◌^◌, ◌<◌, ◌≤◌, ◌⊎◌, Bool, true, false, not, ◌&&◌, nat_eq, nat_lt, nat_le, if◌then◌else◌, Option, Some, None, Ok, Err, refl, sym, ◌∙◌, ap, subst, inl, inr, arith}
+use Rattle.std.proofs.Common.{◌≡◌, ℕ, zero, suc, ◌+◌, ◌-◌, ◌*◌, ◌/◌, ◌%◌, ◌<◌, ◌≤◌, ◌⊎◌, Bool, true, false, not, ◌&&◌, nat_eq, nat_lt, nat_le, if◌then◌else◌, Option, Some, None, Ok, Err, refl, sym, ◌∙◌, ap, subst, inl, inr, arith}
 use Rattle.std.proofs.lemmas.Bool.{cases_lt, cases_eq, cases_Bool, eq-eqb, ne_eqb, lt-ltb, le-ltb, le-leb, lt-leb}
 use Rattle.std.proofs.Math.Nat.{div-le_self, mod-le, div-lt_iff_lt-mul, mod-lt}
 use Rattle.rd_num.specs.declared.width.Width.{Width}
@@ -7,11 +7,10 @@ use Rattle.rd_num.specs.declared.width.Width.TheVariants.{W1, W8, W16, W32, W64}
 use Rattle.rd_num.specs.Number.{bits}
 use Rattle.ir_core.specs.Arithmetic.{modulus, binary, overflows, or_divide, signed_quotient, signed_remainder, negated}
 use Rattle.ir_core.specs.Arithmetic as ir
-use Rattle.ir_core.specs.Stops.{Divide, Answer}
+use Rattle.ir_core.specs.Stops.{Divide}
 use Rattle.x86_core.specs.declared.divide.Division.{Division}
 use Rattle.x86_core.specs.Arithmetic.{is_negative, magnitude, with_sign, has_room, differ, unsigned_division, signed_division}
 use Rattle.x86_core.specs.Arithmetic as x86
-use Rattle.low_core.specs.SelShaped.{IsWide}
 use Rattle.low_core.specs.SelStep.{division}
 use Rattle.frame_rows.proofs.Numbers.{half, two_halves, modulus_some}
 

@@ -1,6 +1,5 @@
 -- Extensions from one width to another.
-use Rattle.std.proofs.Common.{◌≡◌, ℕ, ◌+◌, ◌-◌, ◌*◌, ◌%◌, ◌^◌, ◌<◌, ◌≤◌, Bool, true, false, nat_le, if◌then◌else◌, List, [], ◌∷◌, refl, sym, ◌∙◌, ap, inl, inr, arith}
-use Rattle.std.specs.Prelude.{pos}
+use Rattle.std.proofs.Common.{◌≡◌, ℕ, ◌+◌, ◌-◌, ◌*◌, ◌%◌, ◌^◌, ◌<◌, ◌≤◌, Bool, true, false, if◌then◌else◌, List, [], ◌∷◌, refl, sym, ◌∙◌, ap, inl, inr, arith}
 use Rattle.std.proofs.lemmas.Bool.{cases_lt, lt-leb, le-leb}
 use Rattle.std.proofs.Math.Nat.{mod-lt}
 use Rattle.rd_num.specs.declared.width.Width.{Width}
@@ -19,7 +18,7 @@ use Rattle.frame_rows.specs.Words.{Words}
 use Rattle.frame_rows.specs.Code.{cut, filled}
 use Rattle.frame_rows.proofs.Results.{Makes}
 use Rattle.frame_rows.proofs.Leaves.{sign_of, fill_of, cut_passes, fill_passes, alu_passes}
-use Rattle.frame_rows.proofs.Numbers.{half, low_small, sign_low, sign_high, modulus_some}
+use Rattle.frame_rows.proofs.Numbers.{half, sign_low, sign_high, modulus_some}
 use Rattle.frame_rows.proofs.Plain.{makes_one, makes_after, makes_is, scratch_same}
 use Rattle.frame_rows.proofs.Choices.{zero_passes}
 
@@ -114,14 +113,14 @@ module _ (w : Words) (f : Flags) (ss : List Segment) where
   bit_sign_makes to =
       let w1 : Words = record w { rcx = w.rcx % 2 } in
       let p = cut_passes w f ss W1 Rcx in
-      let zero_ = (w.rax % 2 ^ 32 + 2 ^ 32 - w.rax % 2 ^ 32) % 2 ^ 32 in
-      let w2 : Words = record w1 { rax = zero_ } in
+      let none = (w.rax % 2 ^ 32 + 2 ^ 32 - w.rax % 2 ^ 32) % 2 ^ 32 in
+      let w2 : Words = record w1 { rax = none } in
       let q = zero_passes w1 p.flags ss in
-      let n = (zero_ % 2 ^ 64 + 2 ^ 64 - w.rcx % 2 % 2 ^ 64) % 2 ^ 64 in
+      let n = (none % 2 ^ 64 + 2 ^ 64 - w.rcx % 2 % 2 ^ 64) % 2 ^ 64 in
       let w3 : Words = record w2 { rax = n } in
       let r = alu_passes w2 q.flags ss AluOp.Sub Wide.W64 refl in
       makes_is _ w f ss (n % modulus to) _ (bit_taken to w.rax w.rcx ∙ bit_cast to w.rcx)
       (makes_after (cut W1 Rcx) (Alu AluOp.Sub Wide.W32 Rax Rax ∷ Alu AluOp.Sub Wide.W64 Rax Rcx ∷ cut to Rax ∷ []) w f ss w1 _ p (scratch_same w w.rax w1.rcx w.rdx)
-      (makes_after (Alu AluOp.Sub Wide.W32 Rax Rax) (Alu AluOp.Sub Wide.W64 Rax Rcx ∷ cut to Rax ∷ []) w1 p.flags ss w2 _ q (scratch_same w1 zero_ w1.rcx w.rdx)
+      (makes_after (Alu AluOp.Sub Wide.W32 Rax Rax) (Alu AluOp.Sub Wide.W64 Rax Rcx ∷ cut to Rax ∷ []) w1 p.flags ss w2 _ q (scratch_same w1 none w1.rcx w.rdx)
       (makes_after (Alu AluOp.Sub Wide.W64 Rax Rcx) (cut to Rax ∷ []) w2 q.flags ss w3 _ r (scratch_same w2 n w1.rcx w.rdx)
       (makes_one (cut to Rax) w3 r.flags ss (record w3 { rax = n % modulus to }) (cut_passes w3 r.flags ss to Rax) (scratch_same w3 _ w1.rcx w.rdx)))))

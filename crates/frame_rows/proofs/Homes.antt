@@ -37,24 +37,23 @@ room_same base words ss ts same room = record {
   writable = λ k lt. sym (one_same writes ss ts (base + 8 * k) 8 same) ∙ room.writable k lt;
 }
 
-module _ (base words : ℕ) (w : Words) (f : Flags) (ss : List Segment) (h : Spot) (t : Reg) (n : ℕ) (room : Room base words ss) (at : w.rsp ≡ base) (small : n < 2 ^ 64) where
-  -- the registers with a word that is known
-  known : (k : ℕ) → k ≡ n → let c : ℕ → Core = λ m. record { regs = with_word (in_order w) t m; flags = f; segments = ss } in Through (c k) ≡ Through (core_of (with_held w t n) f ss)
-  known k e = ap (λ m. Through (record { regs = with_word (in_order w) t m; flags = f; segments = ss })) e ∙ ap (λ l. Through (record { regs = l; flags = f; segments = ss })) (with_word_held w t n)
+-- the registers with a word that is known
+known : (w : Words) (f : Flags) (ss : List Segment) (t : Reg) (n k : ℕ) → k ≡ n → let c : ℕ → Core = λ m. record { regs = with_word (in_order w) t m; flags = f; segments = ss } in Through (c k) ≡ Through (core_of (with_held w t n) f ss)
+known w f ss t n k e = ap (λ m. Through (record { regs = with_word (in_order w) t m; flags = f; segments = ss })) e ∙ ap (λ l. Through (record { regs = l; flags = f; segments = ss })) (with_word_held w t n)
 
 -- a home into a register
 pub home_read_law : (base words : ℕ) (w : Words) (f : Flags) (ss : List Segment) (h : Spot) (t : Reg) (n : ℕ) → Room base words ss → w.rsp ≡ base → n < 2 ^ 64 → IsHome words h → Keeps w ss h n →
     ran (home_read h t) (core_of w f ss) ≡ Through (core_of (with_held w t n) f ss)
 unfolding effect_of
 home_read_law base words w f ss (Own r) t n room at small is keeps =
-    known base words w f ss (Own r) t n room at small (word (in_order w) r % 2 ^ 64) (ap (λ m. m % 2 ^ 64) (word_held w r ∙ keeps) ∙ omega arith)
+    known w f ss t n (word (in_order w) r % 2 ^ 64) (ap (λ m. m % 2 ^ 64) (word_held w r ∙ keeps) ∙ omega arith)
 home_read_law base words w f ss (Frame k) t n room at small is keeps =
     let place : moved w.rsp (pos (8 * k)) ≡ base + 8 * k = ap (λ b. moved b (pos (8 * k))) at ∙ frame_address base words k ss room is in
     let bytes : range_at ss (base + 8 * k) 8 ≡ le_bytes 8 n = subst (λ b. range_at ss (b + 8 * k) 8 ≡ le_bytes 8 n) at keeps in
     let read : read_at ss (moved w.rsp (pos (8 * k))) 8 ≡ Some (le_bytes 8 n) =
     ap (λ p. read_at ss p 8) place ∙ read_range ss (base + 8 * k) 8 room.disjoint (omega arith) (room.readable k is) ∙ ap Some bytes in
     ap (λ r. loaded r (effect_of (home_read (Frame k) t) (in_order w) f) t ss) read ∙
-    known base words w f ss (Frame k) t n room at small _ (number_back8 n small)
+    known w f ss t n _ (number_back8 n small)
 
 -- what a write of a register to a home leaves
 pub record Put (base words : ℕ) (w : Words) (f : Flags) (ss : List Segment) (h : Spot) (t : Reg) (n : ℕ) : Type 0 where
@@ -77,7 +76,7 @@ home_write_law base words w f ss (Own r) t n room at small is from =
     record {
       after = with_held w r n;
       segments = ss;
-      runs = known base words w f ss (Own r) r n room at small _ same;
+      runs = known w f ss r n _ same;
       at_base = home_at_base w r n is ∙ at;
       depth = home_depth w r n is;
       scratch = λ s scratch. home_scratch w r s n is scratch;

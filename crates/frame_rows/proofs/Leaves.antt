@@ -1,5 +1,5 @@
 -- What the instructions of rows do to scratch registers. The table of effects is opened here, in `Homes` and in `Accesses` alone.
-use Rattle.std.proofs.Common.{◌≡◌, ℕ, ◌+◌, ◌-◌, ◌*◌, ◌/◌, ◌%◌, ◌^◌, ◌<◌, Bool, true, false, if◌then◌else◌, List, [], ◌∷◌, Some, refl, ◌∙◌, ap, arith}
+use Rattle.std.proofs.Common.{◌≡◌, ℕ, ◌*◌, ◌%◌, ◌^◌, Bool, true, false, List, refl, ◌∙◌, ap, arith}
 use Rattle.std.specs.Prelude.{bit_and, pos}
 use Rattle.std.proofs.lemmas.Nat.{and_mask}
 use Rattle.rd_num.specs.declared.width.Width.{Width}
@@ -7,20 +7,17 @@ use Rattle.rd_num.specs.declared.width.Width.TheVariants.{W1, W8, W16, W32, W64}
 use Rattle.rd_num.specs.Number.{bits}
 use Rattle.x86_core.specs.declared.flags.Flags.{Flags}
 use Rattle.x86_core.specs.declared.reg.Reg.{Reg}
-use Rattle.x86_core.specs.declared.reg.Reg.TheVariants.{Rax, Rcx, Rdx, Rsp}
+use Rattle.x86_core.specs.declared.reg.Reg.TheVariants.{Rax, Rcx, Rsp}
 use Rattle.x86_core.specs.declared.image.Segment.{Segment}
 use Rattle.x86_core.specs.declared.instr.Wide.{Wide}
 use Rattle.x86_core.specs.declared.instr.AluOp.{AluOp}
-use Rattle.x86_core.specs.declared.instr.ImmOp.{ImmOp}
 use Rattle.x86_core.specs.declared.instr.ShiftOp.{ShiftOp}
-use Rattle.x86_core.specs.declared.instr.WidenKind.{WidenKind}
-use Rattle.x86_core.specs.declared.instr.Cond.{Cond}
 use Rattle.x86_core.specs.declared.instr.Instr.{Instr}
-use Rattle.x86_core.specs.declared.instr.Instr.TheVariants.{Mov, MovImm64, MovImm32, Alu, AluImm, Imul, Shift, Widen, Lea, SetCond, Cmov}
+use Rattle.x86_core.specs.declared.instr.Instr.TheVariants.{MovImm64, Alu, Imul, Shift, Lea}
 use Rattle.x86_core.specs.Registers.{word, with_word}
-use Rattle.x86_core.specs.Arithmetic.{wide_bits, alu_result, alu_flags, is_written, shift_count, shifted, sign_extended, moved, holds}
-use Rattle.x86_core.specs.Effect.{effect_of, set_effect, cmov_effect}
-use Rattle.x86_rows.specs.Straight.{Core, Through, by_change, ran, and_on, exec}
+use Rattle.x86_core.specs.Arithmetic.{wide_bits, alu_result, alu_flags, is_written, shift_count, shifted, sign_extended, moved}
+use Rattle.x86_core.specs.Effect.{effect_of}
+use Rattle.x86_rows.specs.Straight.{Core, Through, ran}
 use Rattle.frame_rows.specs.Words.{Words, in_order, held_in, with_held, core_of}
 use Rattle.frame_rows.specs.Code.{cut, sign_filled, filled, amount}
 use Rattle.frame_rows.proofs.Registers.{word_held, with_word_held}

@@ -1,6 +1,5 @@
 -- How many bytes and how many instructions rows have: no more than operations weigh.
-use Rattle.std.proofs.Common.{◌≡◌, ℕ, ◌+◌, ◌*◌, ◌<◌, ◌≤◌, ◌^◌, Bool, true, false, if◌then◌else◌, List, [], ◌∷◌, ◌++◌, length, get_or, refl, ◌∙◌, ap, arith, length-append}
-use Rattle.std.specs.Prelude.{pos}
+use Rattle.std.proofs.Common.{◌≡◌, ℕ, ◌+◌, ◌≤◌, Bool, true, false, List, [], ◌∷◌, ◌++◌, length, refl, arith, length-append}
 use Rattle.std.proofs.lemmas.Bool.{leb-true}
 use Rattle.rd_num.specs.declared.width.Width.{Width}
 use Rattle.rd_num.specs.declared.width.Width.TheVariants.{W1, W8, W16, W32, W64}
@@ -12,7 +11,7 @@ use Rattle.x86_core.specs.declared.instr.AluOp.{AluOp}
 use Rattle.x86_core.specs.declared.instr.WidenKind.{WidenKind}
 use Rattle.x86_core.specs.declared.instr.Cond.{Cond}
 use Rattle.x86_core.specs.declared.instr.Instr.{Instr}
-use Rattle.x86_core.specs.declared.instr.Instr.TheVariants as do_
+use Rattle.x86_core.specs.declared.instr.Instr.TheVariants as instr
 use Rattle.x86_core.specs.Encoding.{encoding}
 use Rattle.low_core.specs.declared.sel.SelAlu.{SelAlu}
 use Rattle.low_core.specs.declared.sel.SelAlu.TheVariants.{Add, Sub, Mul, And, Or, Xor, Shl, Shr, Sar}
@@ -23,7 +22,7 @@ use Rattle.low_core.specs.SelWeights.{alu_weight, sel_op_weight}
 use Rattle.low_core.specs.Plan.{Plan}
 use Rattle.frame_rows.specs.declared.spot.Spot.{Spot}
 use Rattle.frame_rows.specs.declared.spot.Spot.TheVariants.{Own, Frame}
-use Rattle.frame_rows.specs.Code.{home_read, home_write, cut, filled, alu_row, is_signed, condition, ready, test_row, widen_row, access_size, at_rax, div_row, both, result_row, assigned_row, op_row}
+use Rattle.frame_rows.specs.Code.{home_read, home_write, cut, filled, alu_row, is_signed, condition, test_row, widen_row, access_size, at_rax, div_row, both, result_row, assigned_row, op_row}
 use Rattle.frame_rows.specs.Sizes.{row_bytes, IsSized, IsNoCall}
 
 -- a number that is told
@@ -113,7 +112,7 @@ div_bytes false false W16 = leb-true _ _ refl
 div_bytes false false W32 = leb-true _ _ refl
 div_bytes false false W64 = leb-true _ _ refl
 
-compare_bytes : (signed : Bool) (c : Cond) (w : Width) → IsWide w → row_bytes (filled signed w Rax ∷ filled signed w Rcx ∷ do_.Alu AluOp.Cmp Wide.W64 Rax Rcx ∷ do_.SetCond c Rax ∷ do_.Widen WidenKind.Zero8 Rax Rax ∷ []) ≤ 20
+compare_bytes : (signed : Bool) (c : Cond) (w : Width) → IsWide w → row_bytes (filled signed w Rax ∷ filled signed w Rcx ∷ instr.Alu AluOp.Cmp Wide.W64 Rax Rcx ∷ instr.SetCond c Rax ∷ instr.Widen WidenKind.Zero8 Rax Rax ∷ []) ≤ 20
 compare_bytes true c W1 wide = absurd wide
 compare_bytes true c W8 wide = leb-true _ _ refl
 compare_bytes true c W16 wide = leb-true _ _ refl
@@ -151,14 +150,14 @@ filled_bytes false W16 = leb-true _ _ refl
 filled_bytes false W32 = leb-true _ _ refl
 filled_bytes false W64 = leb-true _ _ refl
 
-load_bytes : (w : Width) → length (encoding (do_.Load (access_size w) Rax at_rax)) ≤ 7
+load_bytes : (w : Width) → length (encoding (instr.Load (access_size w) Rax at_rax)) ≤ 7
 load_bytes W1 = leb-true _ _ refl
 load_bytes W8 = leb-true _ _ refl
 load_bytes W16 = leb-true _ _ refl
 load_bytes W32 = leb-true _ _ refl
 load_bytes W64 = leb-true _ _ refl
 
-store_bytes : (w : Width) → length (encoding (do_.Store (access_size w) at_rax Rcx)) ≤ 7
+store_bytes : (w : Width) → length (encoding (instr.Store (access_size w) at_rax Rcx)) ≤ 7
 store_bytes W1 = leb-true _ _ refl
 store_bytes W8 = leb-true _ _ refl
 store_bytes W16 = leb-true _ _ refl
@@ -276,7 +275,7 @@ module _ (homes : ℕ → Spot) (plan : Plan) (own : ℕ) where
       let lp = p.most in
       let l = load_bytes w in
       let row = result_row homes plan own (Load w r x) in
-      let e : row_bytes row ≡ length (encoding (home_read (homes x) Rax)) + (length (encoding (do_.Load (access_size w) Rax at_rax)) + 0) = refl in
+      let e : row_bytes row ≡ length (encoding (home_read (homes x) Rax)) + (length (encoding (instr.Load (access_size w) Rax at_rax)) + 0) = refl in
       assigned_sized r row 8 24 (leb-true _ _ refl) (omega (arith, e, lp, l))
 
   store_sized : (w : Width) (x y : ℕ) → IsSized (op_row homes plan own (Store w x y)) 9 24
@@ -287,7 +286,7 @@ module _ (homes : ℕ → Spot) (plan : Plan) (own : ℕ) where
       let lq = q.most in
       let ls = p.least in
       let l = store_bytes w in
-      let e : row_bytes (op_row homes plan own (Store w x y)) ≡ length (encoding (home_read (homes x) Rax)) + (length (encoding (home_read (homes y) Rcx)) + (length (encoding (do_.Store (access_size w) at_rax Rcx)) + 0)) = refl in
+      let e : row_bytes (op_row homes plan own (Store w x y)) ≡ length (encoding (home_read (homes x) Rax)) + (length (encoding (home_read (homes y) Rcx)) + (length (encoding (instr.Store (access_size w) at_rax Rcx)) + 0)) = refl in
       record { some = leb-true _ _ refl; count = leb-true _ _ refl; long = omega (arith, e, lp, lq, l); some_bytes = omega (arith, e, ls) }
 
   copy_sized : (r x : ℕ) → IsSized (op_row homes plan own (Copy r x)) 9 16

@@ -18,3 +18,4 @@ pub mod Divides
 pub mod Operations
 pub mod Lengths
 pub mod Ranges
+pub mod Worked

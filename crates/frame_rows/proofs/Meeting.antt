@@ -1,5 +1,5 @@
 -- Operations that assign, by the words of their operands: a register without one leaves the step.
-use Rattle.std.proofs.Common.{◌≡◌, ◌≢◌, ℕ, true, ◌+◌, ◌^◌, ◌<◌, List, Option, Some, None, Ok, Err, refl, sym, ◌∙◌, ap, subst, inl, inr, ◌⊎◌}
+use Rattle.std.proofs.Common.{◌≡◌, ℕ, true, ◌^◌, ◌<◌, List, Option, Some, None, Ok, Err, refl, sym, ◌∙◌, ap, subst, inl, inr, ◌⊎◌}
 use Rattle.std.specs.Prelude.{slice_get}
 use Rattle.behavior.specs.Ending.{is_left}
 use Rattle.behavior.specs.Ending as ending
@@ -19,7 +19,7 @@ use Rattle.low_core.specs.SelState.{SelFrame, SelState, SelTurn, held, word_in, 
 use Rattle.low_core.specs.SelStep.{low_bits, of_two, gives_word}
 use Rattle.frame_rows.specs.declared.spot.Spot.{Spot}
 use Rattle.frame_rows.specs.Words.{Words, core_of}
-use Rattle.frame_rows.specs.Code.{both, assigned_row, home_write}
+use Rattle.frame_rows.specs.Code.{both, assigned_row}
 use Rattle.frame_rows.specs.Ties.{Tied}
 use Rattle.frame_rows.specs.Steps.{IsAllocated, Meets, IsLeft, GoesOn, Divides}
 use Rattle.frame_rows.proofs.Kept.{IsFree}

@@ -10,7 +10,7 @@ use Rattle.rd_num.specs.Number.{bits}
 use Rattle.ir_core.specs.Arithmetic.{modulus, binary, sign_shifted, is_negative}
 use Rattle.x86_core.specs.declared.instr.AluOp.{AluOp}
 use Rattle.x86_core.specs.declared.instr.ShiftOp.{ShiftOp}
-use Rattle.x86_core.specs.Arithmetic.{wide_bits, alu_result, shift_count, shifted, sign_extended}
+use Rattle.x86_core.specs.Arithmetic.{wide_bits, alu_result, shift_count, shifted}
 use Rattle.low_core.specs.declared.sel.SelAlu.{SelAlu}
 use Rattle.low_core.specs.declared.sel.SelAlu.TheVariants.{Add, Sub, Mul, And, Or, Xor, Shl, Shr, Sar}
 use Rattle.low_core.specs.SelShaped.{IsWide}

@@ -1,5 +1,5 @@
 -- The law of a division, and that of every operation but calls.
-use Rattle.std.proofs.Common.{◌≡◌, ℕ, ◌+◌, Bool, List, [], ◌∷◌, Ok, refl, ◌∙◌, inl, inr}
+use Rattle.std.proofs.Common.{◌≡◌, ℕ, ◌+◌, Bool, List, Ok, refl, ◌∙◌, inl, inr}
 use Rattle.rd_num.specs.declared.width.Width.{Width}
 use Rattle.ir_core.specs.Arithmetic.{binary}
 use Rattle.x86_core.specs.declared.flags.Flags.{Flags}
@@ -7,7 +7,7 @@ use Rattle.x86_core.specs.declared.image.Segment.{Segment}
 use Rattle.low_core.specs.declared.sel.Sel.{Sel}
 use Rattle.low_core.specs.declared.sel.SelOp.{SelOp}
 use Rattle.low_core.specs.declared.sel.SelOp.TheVariants.{Set, Copy, Alu, Div, Widen, Test, Pick, Load, Store, FrameAt, GlobalAt, FunctionAt, Call, CallAt, Outside}
-use Rattle.low_core.specs.Flat.{Span, Flat}
+use Rattle.low_core.specs.Flat.{Span}
 use Rattle.low_core.specs.Plan.{Plan}
 use Rattle.low_core.specs.SelState.{SelFrame, SelState, word_in}
 use Rattle.low_core.specs.SelStep.{low_bits, division}
@@ -15,8 +15,7 @@ use Rattle.frame_rows.specs.declared.spot.Spot.{Spot}
 use Rattle.frame_rows.specs.Words.{Words}
 use Rattle.frame_rows.specs.Code.{result_row, op_row, div_row}
 use Rattle.frame_rows.specs.Ties.{Tied}
-use Rattle.frame_rows.specs.Steps.{IsAllocated}
-use Rattle.frame_rows.proofs.Results.{Makes, reads_both}
+use Rattle.frame_rows.proofs.Results.{reads_both}
 use Rattle.frame_rows.proofs.Meeting.{free_of, Met, given, made_met, divided_met, two_met, makes_both}
 use Rattle.frame_rows.proofs.Divides.{Answers, Stops, Gives, div_makes}
 use Rattle.frame_rows.proofs.Simple.{Law, set_law, copy_law, alu_law, load_law, store_law, frame_law, global_law, function_law}

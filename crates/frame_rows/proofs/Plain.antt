@@ -1,5 +1,5 @@
 -- Constants, copies, places and operations on two words.
-use Rattle.std.proofs.Common.{◌≡◌, ℕ, true, ◌+◌, ◌*◌, ◌%◌, ◌^◌, ◌<◌, List, [], ◌∷◌, Option, Some, Ok, refl, sym, ◌∙◌, ap, arith}
+use Rattle.std.proofs.Common.{◌≡◌, ℕ, ◌+◌, ◌%◌, ◌^◌, ◌<◌, List, [], ◌∷◌, refl, ◌∙◌, ap, arith}
 use Rattle.std.specs.Prelude.{pos}
 use Rattle.rd_num.specs.declared.width.Width.{Width}
 use Rattle.rd_num.specs.declared.width.Width.TheVariants.{W1, W8, W16, W32, W64}
@@ -12,19 +12,18 @@ use Rattle.x86_core.specs.declared.instr.Wide.{Wide}
 use Rattle.x86_core.specs.declared.instr.AluOp.{AluOp}
 use Rattle.x86_core.specs.declared.instr.ShiftOp.{ShiftOp}
 use Rattle.x86_core.specs.declared.instr.Instr.{Instr}
-use Rattle.x86_core.specs.declared.instr.Instr.TheVariants.{MovImm64, Alu, Imul, Shift, Lea}
-use Rattle.x86_core.specs.Arithmetic.{wide_bits, alu_result, shift_count, shifted, moved}
-use Rattle.x86_rows.specs.Straight.{Through, exec}
+use Rattle.x86_core.specs.declared.instr.Instr.TheVariants.{MovImm64, Alu, Shift, Lea}
+use Rattle.x86_core.specs.Arithmetic.{shifted, moved}
 use Rattle.x86_rows.proofs.Rows.{exec-first}
 use Rattle.low_core.specs.declared.sel.SelAlu.{SelAlu}
 use Rattle.low_core.specs.declared.sel.SelAlu.TheVariants.{Add, Sub, Mul, And, Or, Xor, Shl, Shr, Sar}
 use Rattle.low_core.specs.SelStep.{low_bits}
-use Rattle.frame_rows.specs.Words.{Words, held_in, with_held, core_of}
+use Rattle.frame_rows.specs.Words.{Words, core_of}
 use Rattle.frame_rows.specs.Code.{cut, sign_filled, wide_of, multiply, amount, alu_row}
 use Rattle.frame_rows.proofs.Registers.{Same}
 use Rattle.frame_rows.proofs.Results.{Makes}
 use Rattle.frame_rows.proofs.Leaves.{Passes, sign_of, alu_passes, imul_passes, shift_passes, constant_passes, place_passes, cut_passes, sign_passes, amount_passes}
-use Rattle.frame_rows.proofs.Numbers.{whole, alu_word, sum_cut, difference_cut, and_cut, or_cut, xor_cut, product_cut, bits_product, amount_is, left_cut, right_of, sign_cut, amount_small}
+use Rattle.frame_rows.proofs.Numbers.{alu_word, sum_cut, difference_cut, and_cut, or_cut, xor_cut, product_cut, bits_product, amount_is, left_cut, right_of, sign_cut, amount_small}
 
 -- a row of one instruction, and one more instruction in front of a row
 pub makes_one : (i : Instr) (w : Words) (f : Flags) (ss : List Segment) (after : Words) → Passes i w f ss after → Same w after → Makes (i ∷ []) w f ss after.rax
@@ -80,9 +79,9 @@ module _ (w : Words) (f : Flags) (ss : List Segment) where
 
   -- the amount of a shift comes first
   amount_first : (wi : Width) (row : List Instr) (n : ℕ) → ((g : Flags) → Makes row (record w { rcx = w.rcx % bits wi }) g ss n) → Makes (amount wi ∷ row) w f ss n
-  amount_first wi row n then_ =
+  amount_first wi row n made =
       let p = amount_passes w f ss wi in
-      makes_after (amount wi) row w f ss (record w { rcx = w.rcx % bits wi }) n p (scratch_same w w.rax (w.rcx % bits wi) w.rdx) (then_ p.flags)
+      makes_after (amount wi) row w f ss (record w { rcx = w.rcx % bits wi }) n p (scratch_same w w.rax (w.rcx % bits wi) w.rdx) (made p.flags)
 
 module _ (w : Words) (ss : List Segment) (wi : Width) where
   -- the words once the amount is there

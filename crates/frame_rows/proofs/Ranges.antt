@@ -1,6 +1,6 @@
 -- Constants and displacements of rows are in range.
-use Rattle.std.proofs.Common.{◌≡◌, ℕ, zero, suc, ◌+◌, ◌*◌, ◌-◌, ◌<◌, ◌≤◌, ◌^◌, Bool, true, false, List, [], ◌∷◌, ◌++◌, get_or, Some, refl, arith}
-use Rattle.std.specs.Prelude.{pos, slice_get}
+use Rattle.std.proofs.Common.{◌≡◌, ℕ, zero, suc, ◌*◌, ◌<◌, ◌^◌, Bool, true, false, List, [], ◌∷◌, ◌++◌, get_or, Some, refl, arith}
+use Rattle.std.specs.Prelude.{slice_get}
 use Rattle.rd_num.specs.declared.width.Width.{Width}
 use Rattle.rd_num.specs.declared.width.Width.TheVariants.{W1, W8, W16, W32, W64}
 use Rattle.ir_core.specs.declared.instruction.Pred.{Pred}
@@ -16,7 +16,7 @@ use Rattle.low_core.specs.declared.sel.SelOp.TheVariants.{Set, Copy, Alu, Div, W
 use Rattle.low_core.specs.Plan.{Plan}
 use Rattle.frame_rows.specs.declared.spot.Spot.{Spot}
 use Rattle.frame_rows.specs.declared.spot.Spot.TheVariants.{Own, Frame}
-use Rattle.frame_rows.specs.Code.{home_read, home_write, cut, sign_filled, filled, multiply, amount, alu_row, is_signed, ready, test_row, widen_row, access_size, at_rax, high_half, divided_in, divided_bytes, div_row, both, result_row, assigned_row, op_row}
+use Rattle.frame_rows.specs.Code.{home_read, home_write, cut, sign_filled, filled, multiply, amount, alu_row, is_signed, test_row, widen_row, high_half, div_row, both, result_row, assigned_row, op_row}
 use Rattle.frame_rows.specs.Ties.{IsHome}
 use Rattle.frame_rows.specs.Sizes.{AreInstrs}
 use Rattle.frame_rows.specs.Steps.{IsReady}

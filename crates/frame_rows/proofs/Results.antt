@@ -1,14 +1,13 @@
 -- The form of each law: a row that makes a word in rax, and a row that leads from ties to ties.
-use Rattle.std.proofs.Common.{◌≡◌, ℕ, true, ◌⊎◌, ◌+◌, ◌*◌, ◌≤◌, ◌^◌, ◌<◌, List, [], ◌∷◌, ◌++◌, Option, Some, Ok, refl, ◌∙◌, ap}
+use Rattle.std.proofs.Common.{◌≡◌, ℕ, ◌^◌, ◌<◌, List, [], ◌∷◌, Option, Ok, refl, ◌∙◌}
 use Rattle.x86_core.specs.declared.flags.Flags.{Flags}
 use Rattle.x86_core.specs.declared.reg.Reg.{Reg}
 use Rattle.x86_core.specs.declared.reg.Reg.TheVariants.{Rax, Rcx}
 use Rattle.x86_core.specs.declared.image.Segment.{Segment}
 use Rattle.x86_core.specs.declared.instr.Instr.{Instr}
-use Rattle.x86_rows.specs.Addresses.{byte_at, SameShape}
 use Rattle.x86_rows.specs.Straight.{Through, ran, exec}
 use Rattle.x86_rows.proofs.Rows.{exec-first, exec-through}
-use Rattle.low_core.specs.Flat.{Flat, is_inside}
+use Rattle.low_core.specs.Flat.{Flat}
 use Rattle.low_core.specs.SelState.{word_in, with_register}
 use Rattle.frame_rows.specs.declared.spot.Spot.{Spot}
 use Rattle.frame_rows.specs.Words.{Words, with_held, core_of}

@@ -1,7 +1,6 @@
 -- The laws of constants, copies, operations on two words, places, loads and stores.
-use Rattle.std.proofs.Common.{◌≡◌, ◌≢◌, ℕ, ◌+◌, ◌^◌, ◌<◌, zero, suc, List, [], ◌∷◌, Option, Some, None, Ok, Err, get_or, refl, sym, ◌∙◌, ap, subst, inl, inr, ◌⊎◌, arith}
+use Rattle.std.proofs.Common.{◌≡◌, ℕ, ◌+◌, zero, suc, List, [], ◌∷◌, Some, None, Ok, get_or, refl, ◌∙◌, ap, subst, inl, inr, ◌⊎◌, arith}
 use Rattle.std.specs.Prelude.{slice_get}
-use Rattle.behavior.specs.Ending.{is_left}
 use Rattle.rd_num.specs.declared.width.Width.{Width}
 use Rattle.ir_core.specs.declared.memory.Reason.TheVariants.{Bounds, Unset}
 use Rattle.ir_core.specs.Arithmetic.{binary}
@@ -10,28 +9,26 @@ use Rattle.ir_core.specs.Stops.{Left, Malformed, Answer, and_then, found_or}
 use Rattle.x86_core.specs.declared.flags.Flags.{Flags}
 use Rattle.x86_core.specs.declared.reg.Reg.TheVariants.{Rax}
 use Rattle.x86_core.specs.declared.image.Segment.{Segment}
-use Rattle.x86_core.specs.declared.instr.Instr.TheVariants as do_
+use Rattle.x86_core.specs.declared.instr.Instr.TheVariants as instr
 use Rattle.x86_rows.proofs.Rows.{exec-first}
 use Rattle.low_core.specs.declared.sel.Sel.{Sel}
 use Rattle.low_core.specs.declared.sel.SelAlu.{SelAlu}
 use Rattle.low_core.specs.declared.sel.SelOp.{SelOp}
 use Rattle.low_core.specs.declared.sel.SelOp.TheVariants.{Set, Copy, Alu, Load, Store, FrameAt, GlobalAt, FunctionAt}
-use Rattle.low_core.specs.Flat.{Bytes, Span, Flat, word_at, with_word_at}
+use Rattle.low_core.specs.Flat.{Span, word_at, with_word_at}
 use Rattle.low_core.specs.Plan.{Plan}
-use Rattle.low_core.specs.SelParts.{assigns_of}
 use Rattle.low_core.specs.SelState.{SelFrame, SelState, SelTurn, word_in}
 use Rattle.low_core.specs.SelStep.{low_bits, alu_op, op_turn, puts_bytes}
 use Rattle.frame_rows.specs.declared.spot.Spot.{Spot}
 use Rattle.frame_rows.specs.Words.{Words, core_of}
 use Rattle.frame_rows.specs.Code.{home_read, result_row, op_row, alu_row}
 use Rattle.frame_rows.specs.Ties.{Tied}
-use Rattle.frame_rows.specs.Steps.{IsReady, IsAllocated, Meets, IsLeft, GoesOn, Divides}
-use Rattle.frame_rows.proofs.Registers.{Same}
+use Rattle.frame_rows.specs.Steps.{IsReady, IsAllocated, Meets, IsLeft, GoesOn}
 use Rattle.frame_rows.proofs.Results.{Makes, reads_one}
 use Rattle.frame_rows.proofs.Numbers.{alu_word, alu_answer, alu_small}
 use Rattle.frame_rows.proofs.Plain.{set_makes, place_makes, alu_makes, scratch_same}
-use Rattle.frame_rows.proofs.Meeting.{word_cases, free_of, flat, Met, given, met_as, left_met, made_met, one_met, two_met, makes_both}
-use Rattle.frame_rows.proofs.Accesses.{LoadsWord, load_cases, load_makes, load_small}
+use Rattle.frame_rows.proofs.Meeting.{word_cases, free_of, Met, given, left_met, made_met, one_met, two_met, makes_both}
+use Rattle.frame_rows.proofs.Accesses.{load_cases, load_makes, load_small}
 use Rattle.frame_rows.proofs.Stores.{put_word, store_cases, store_leads}
 
 -- an entry of a list, or nothing
@@ -94,14 +91,14 @@ module _ (homes : ℕ → Spot) (base words own : ℕ) (plan : Plan) (live after
   pub global_law : (r g : ℕ) → Law (GlobalAt r g)
   global_law r g ready a = elim (entry_cases plan.globals g) [
     | inl p ↦ made_met homes base words live after s f callers spans w fl ss tied r (result_row homes plan own (GlobalAt r g)) (found_or Malformed (slice_get plan.globals g)) p.0 (free_of homes base words live after (GlobalAt r g) r a refl) (ap (found_or Malformed) p.1.0) (ready p.0 p.1.0)
-        (subst (λ n. Makes (do_.MovImm64 Rax (get_or plan.globals g 0) ∷ []) w fl ss n) p.1.1 (set_makes w fl ss (get_or plan.globals g 0)))
+        (subst (λ n. Makes (instr.MovImm64 Rax (get_or plan.globals g 0) ∷ []) w fl ss n) p.1.1 (set_makes w fl ss (get_or plan.globals g 0)))
     | inr e ↦ left_met homes base words live after s f callers spans w fl ss (op_row homes plan own (GlobalAt r g)) r _ Malformed (ap (found_or Malformed) e) refl
   ]
 
   pub function_law : (r g : ℕ) → Law (FunctionAt r g)
   function_law r g ready a = elim (entry_cases plan.functions g) [
     | inl p ↦ made_met homes base words live after s f callers spans w fl ss tied r (result_row homes plan own (FunctionAt r g)) (found_or Malformed (slice_get plan.functions g)) p.0 (free_of homes base words live after (FunctionAt r g) r a refl) (ap (found_or Malformed) p.1.0) (ready p.0 p.1.0)
-        (subst (λ n. Makes (do_.MovImm64 Rax (get_or plan.functions g 0) ∷ []) w fl ss n) p.1.1 (set_makes w fl ss (get_or plan.functions g 0)))
+        (subst (λ n. Makes (instr.MovImm64 Rax (get_or plan.functions g 0) ∷ []) w fl ss n) p.1.1 (set_makes w fl ss (get_or plan.functions g 0)))
     | inr e ↦ left_met homes base words live after s f callers spans w fl ss (op_row homes plan own (FunctionAt r g)) r _ Malformed (ap (found_or Malformed) e) refl
   ]
 

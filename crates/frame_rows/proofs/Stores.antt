@@ -1,5 +1,5 @@
 -- A store changes the same bytes of the flat memory and of the segments.
-use Rattle.std.proofs.Common.{◌≡◌, ℕ, zero, suc, ◌+◌, ◌-◌, ◌*◌, ◌/◌, ◌%◌, ◌^◌, ◌<◌, ◌≤◌, Bool, true, false, nat_eq, if◌then◌else◌, List, [], ◌∷◌, length, map, get_or, Option, Some, Ok, Err, refl, sym, ◌∙◌, ap, subst, inl, inr, ◌⊎◌, arith, lit<}
+use Rattle.std.proofs.Common.{◌≡◌, ℕ, zero, suc, ◌+◌, ◌-◌, ◌*◌, ◌/◌, ◌%◌, ◌^◌, ◌<◌, ◌≤◌, Bool, true, false, nat_eq, List, [], ◌∷◌, length, map, get_or, Option, Some, Ok, Err, refl, sym, ◌∙◌, ap, subst, inl, inr, ◌⊎◌, arith, lit<}
 use Rattle.std.specs.Prelude.{pos}
 use Rattle.std.proofs.lemmas.Bool.{cases_lt, eq-eqb, ne_eqb}
 use Rattle.std.proofs.Math.Arith.{mod-mul}
@@ -8,17 +8,17 @@ use Rattle.rd_num.specs.declared.width.Width.TheVariants.{W1, W8, W16, W32, W64}
 use Rattle.rd_num.specs.Number.{le_bytes}
 use Rattle.ir_core.specs.declared.memory.Reason.TheVariants.{Bounds}
 use Rattle.ir_core.specs.Shapes.{bytes_of}
-use Rattle.ir_core.specs.Stops.{Answer, Left}
+use Rattle.ir_core.specs.Stops.{Left}
 use Rattle.x86_core.specs.declared.flags.Flags.{Flags}
-use Rattle.x86_core.specs.declared.reg.Reg.TheVariants.{Rax, Rcx}
+use Rattle.x86_core.specs.declared.reg.Reg.TheVariants.{Rcx}
 use Rattle.x86_core.specs.declared.image.Segment.{Segment}
 use Rattle.x86_core.specs.declared.instr.Instr.TheVariants.{Store}
 use Rattle.x86_core.specs.Arithmetic.{moved, size_bits}
 use Rattle.x86_core.specs.Effect.{effect_of}
 use Rattle.x86_core.specs.Memory.{write_at, reads, writes, one_covers}
 use Rattle.x86_core.specs.Step.{size_bytes}
-use Rattle.x86_rows.specs.Addresses.{byte_at, range_at, Written}
-use Rattle.x86_rows.specs.Straight.{Through, stored, ran, exec}
+use Rattle.x86_rows.specs.Addresses.{byte_at, Written}
+use Rattle.x86_rows.specs.Straight.{Through, stored, ran}
 use Rattle.x86_rows.proofs.Covers.{range_same, chosen, passed_over}
 use Rattle.x86_rows.proofs.Writing.{write_range}
 use Rattle.x86_rows.proofs.Shapes.{one_same}

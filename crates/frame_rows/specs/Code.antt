@@ -18,7 +18,7 @@ use Rattle.x86_core.specs.declared.instr.WidenKind.{WidenKind}
 use Rattle.x86_core.specs.declared.instr.Cond.{Cond}
 use Rattle.x86_core.specs.declared.instr.Mem.{Mem}
 use Rattle.x86_core.specs.declared.instr.Instr.{Instr}
-use Rattle.x86_core.specs.declared.instr.Instr.TheVariants as do_
+use Rattle.x86_core.specs.declared.instr.Instr.TheVariants as instr
 use Rattle.low_core.specs.declared.sel.SelAlu.{SelAlu}
 use Rattle.low_core.specs.declared.sel.SelAlu.TheVariants.{Add, Sub, Mul, And, Or, Xor, Shl, Shr, Sar}
 use Rattle.low_core.specs.declared.sel.SelOp.{SelOp}
@@ -33,29 +33,29 @@ frame_word k = record { base = Rsp; disp = pos (8 * k) }
 
 -- from a home into a scratch register
 abbrev pub home_read : Spot → Reg → Instr
-home_read (Own r) t = do_.Mov Wide.W64 t r
-home_read (Frame k) t = do_.Load Size.W64 t (frame_word k)
+home_read (Own r) t = instr.Mov Wide.W64 t r
+home_read (Frame k) t = instr.Load Size.W64 t (frame_word k)
 
 -- from a scratch register to a home
 abbrev pub home_write : Spot → Reg → Instr
-home_write (Own r) t = do_.Mov Wide.W64 r t
-home_write (Frame k) t = do_.Store Size.W64 (frame_word k) t
+home_write (Own r) t = instr.Mov Wide.W64 r t
+home_write (Frame k) t = instr.Store Size.W64 (frame_word k) t
 
 -- the low bits of a register, with zeros above
 abbrev pub cut : Width → Reg → Instr
-cut W1 t = do_.AluImm ImmOp.And Wide.W32 t (pos 1)
-cut W8 t = do_.Widen WidenKind.Zero8 t t
-cut W16 t = do_.Widen WidenKind.Zero16 t t
-cut W32 t = do_.Mov Wide.W32 t t
-cut W64 t = do_.Mov Wide.W64 t t
+cut W1 t = instr.AluImm ImmOp.And Wide.W32 t (pos 1)
+cut W8 t = instr.Widen WidenKind.Zero8 t t
+cut W16 t = instr.Widen WidenKind.Zero16 t t
+cut W32 t = instr.Mov Wide.W32 t t
+cut W64 t = instr.Mov Wide.W64 t t
 
 -- the low bits with copies of the sign above; a single bit is left to others
 abbrev pub sign_filled : Width → Reg → Instr
-sign_filled W1 t = do_.Mov Wide.W64 t t
-sign_filled W8 t = do_.Widen WidenKind.Sign8 t t
-sign_filled W16 t = do_.Widen WidenKind.Sign16 t t
-sign_filled W32 t = do_.Widen WidenKind.Sign32 t t
-sign_filled W64 t = do_.Mov Wide.W64 t t
+sign_filled W1 t = instr.Mov Wide.W64 t t
+sign_filled W8 t = instr.Widen WidenKind.Sign8 t t
+sign_filled W16 t = instr.Widen WidenKind.Sign16 t t
+sign_filled W32 t = instr.Widen WidenKind.Sign32 t t
+sign_filled W64 t = instr.Mov Wide.W64 t t
 
 -- either of them
 abbrev pub filled : Bool → Width → Reg → Instr
@@ -69,24 +69,24 @@ wide_of w = Wide.W32
 
 -- the product of two bits is their conjunction
 abbrev pub multiply : Width → Instr
-multiply W1 = do_.Alu AluOp.And Wide.W32 Rax Rcx
-multiply w = do_.Imul (wide_of w) Rax Rcx
+multiply W1 = instr.Alu AluOp.And Wide.W32 Rax Rcx
+multiply w = instr.Imul (wide_of w) Rax Rcx
 
 -- a shift takes its amount from rcx, modulo the width
 abbrev pub amount : Width → Instr
-amount w = do_.AluImm ImmOp.And Wide.W32 Rcx (pos (bits w - 1))
+amount w = instr.AluImm ImmOp.And Wide.W32 Rcx (pos (bits w - 1))
 
 -- rax by rcx
 abbrev pub alu_row : SelAlu → Width → List Instr
-alu_row Add w = do_.Alu AluOp.Add (wide_of w) Rax Rcx ∷ cut w Rax ∷ []
-alu_row Sub w = do_.Alu AluOp.Sub (wide_of w) Rax Rcx ∷ cut w Rax ∷ []
+alu_row Add w = instr.Alu AluOp.Add (wide_of w) Rax Rcx ∷ cut w Rax ∷ []
+alu_row Sub w = instr.Alu AluOp.Sub (wide_of w) Rax Rcx ∷ cut w Rax ∷ []
 alu_row Mul w = multiply w ∷ cut w Rax ∷ []
-alu_row And w = do_.Alu AluOp.And (wide_of w) Rax Rcx ∷ cut w Rax ∷ []
-alu_row Or w = do_.Alu AluOp.Or (wide_of w) Rax Rcx ∷ cut w Rax ∷ []
-alu_row Xor w = do_.Alu AluOp.Xor (wide_of w) Rax Rcx ∷ cut w Rax ∷ []
-alu_row Shl w = amount w ∷ do_.Shift ShiftOp.Shl Wide.W64 Rax ∷ cut w Rax ∷ []
-alu_row Shr w = amount w ∷ cut w Rax ∷ do_.Shift ShiftOp.Shr Wide.W64 Rax ∷ []
-alu_row Sar w = amount w ∷ sign_filled w Rax ∷ do_.Shift ShiftOp.Sar Wide.W64 Rax ∷ cut w Rax ∷ []
+alu_row And w = instr.Alu AluOp.And (wide_of w) Rax Rcx ∷ cut w Rax ∷ []
+alu_row Or w = instr.Alu AluOp.Or (wide_of w) Rax Rcx ∷ cut w Rax ∷ []
+alu_row Xor w = instr.Alu AluOp.Xor (wide_of w) Rax Rcx ∷ cut w Rax ∷ []
+alu_row Shl w = amount w ∷ instr.Shift ShiftOp.Shl Wide.W64 Rax ∷ cut w Rax ∷ []
+alu_row Shr w = amount w ∷ cut w Rax ∷ instr.Shift ShiftOp.Shr Wide.W64 Rax ∷ []
+alu_row Sar w = amount w ∷ sign_filled w Rax ∷ instr.Shift ShiftOp.Sar Wide.W64 Rax ∷ cut w Rax ∷ []
 
 -- whether a comparison is one of signed numbers
 abbrev pub is_signed : Pred → Bool
@@ -103,7 +103,7 @@ is_signed Sge = true
 
 -- both operands ready to be compared in 64 bits; single bits as unsigned numbers
 abbrev pub ready : Pred → Width → List Instr
-ready p W1 = do_.MovImm32 Rdx 1 ∷ do_.Alu AluOp.And Wide.W32 Rax Rdx ∷ do_.Alu AluOp.And Wide.W32 Rcx Rdx ∷ []
+ready p W1 = instr.MovImm32 Rdx 1 ∷ instr.Alu AluOp.And Wide.W32 Rax Rdx ∷ instr.Alu AluOp.And Wide.W32 Rcx Rdx ∷ []
 ready p w = filled (is_signed p) w Rax ∷ filled (is_signed p) w Rcx ∷ []
 
 -- the condition after the comparison
@@ -133,12 +133,12 @@ condition_at p w = condition p
 
 -- rax against rcx
 abbrev pub test_row : Pred → Width → List Instr
-test_row p w = ready p w ++ (do_.Alu AluOp.Cmp Wide.W64 Rax Rcx ∷ do_.SetCond (condition_at p w) Rax ∷ do_.Widen WidenKind.Zero8 Rax Rax ∷ [])
+test_row p w = ready p w ++ (instr.Alu AluOp.Cmp Wide.W64 Rax Rcx ∷ instr.SetCond (condition_at p w) Rax ∷ instr.Widen WidenKind.Zero8 Rax Rax ∷ [])
 
 -- a single bit whose sign goes into all bits of rax is taken from 0
 abbrev pub widen_row : Spot → Bool → Width → Width → List Instr
 widen_row h true W1 to =
-    home_read h Rcx ∷ do_.AluImm ImmOp.And Wide.W32 Rcx (pos 1) ∷ do_.Alu AluOp.Sub Wide.W32 Rax Rax ∷ do_.Alu AluOp.Sub Wide.W64 Rax Rcx ∷ cut to Rax ∷ []
+    home_read h Rcx ∷ instr.AluImm ImmOp.And Wide.W32 Rcx (pos 1) ∷ instr.Alu AluOp.Sub Wide.W32 Rax Rax ∷ instr.Alu AluOp.Sub Wide.W64 Rax Rcx ∷ cut to Rax ∷ []
 widen_row h signed from to = home_read h Rax ∷ filled signed from Rax ∷ cut to Rax ∷ []
 
 abbrev pub access_size : Width → Size
@@ -154,17 +154,17 @@ at_rax = record { base = Rax; disp = pos 0 }
 
 -- the upper half of a dividend, in rdx
 abbrev pub high_half : Bool → HighSize → Instr
-high_half true size = do_.High size
-high_half false size = do_.MovImm32 Rdx 0
+high_half true size = instr.High size
+high_half false size = instr.MovImm32 Rdx 0
 
 -- the quotient is in rax, the remainder in rdx
 abbrev pub divided_in : Bool → Bool → HighSize → Size → List Instr
-divided_in signed rest high size = high_half signed high ∷ do_.Div signed size Rcx ∷ do_.Mov Wide.W64 Rax (if rest then Rdx else Rax) ∷ []
+divided_in signed rest high size = high_half signed high ∷ instr.Div signed size Rcx ∷ instr.Mov Wide.W64 Rax (if rest then Rdx else Rax) ∷ []
 
 -- the quotient of eight bits is the lowest byte of rax, the remainder the next one
 abbrev pub divided_bytes : Bool → Bool → List Instr
-divided_bytes signed false = filled signed W8 Rax ∷ do_.Div signed Size.W8 Rcx ∷ []
-divided_bytes signed true = filled signed W8 Rax ∷ do_.Div signed Size.W8 Rcx ∷ do_.MovImm32 Rcx 8 ∷ do_.Shift ShiftOp.Shr Wide.W32 Rax ∷ []
+divided_bytes signed false = filled signed W8 Rax ∷ instr.Div signed Size.W8 Rcx ∷ []
+divided_bytes signed true = filled signed W8 Rax ∷ instr.Div signed Size.W8 Rcx ∷ instr.MovImm32 Rcx 8 ∷ instr.Shift ShiftOp.Shr Wide.W32 Rax ∷ []
 
 -- rax by rcx; there are no divisions of single bits
 abbrev pub div_row : Bool → Bool → Width → List Instr
@@ -182,17 +182,17 @@ module _ (homes : ℕ → Spot) where
   -- what makes the result of an operation in rax, where the function's own memory begins so many bytes above rsp; a call and
   -- a store have none
   abbrev pub result_row : Plan → ℕ → SelOp → List Instr
-  result_row plan own (Set r n) = do_.MovImm64 Rax n ∷ []
+  result_row plan own (Set r n) = instr.MovImm64 Rax n ∷ []
   result_row plan own (Copy r s) = home_read (homes s) Rax ∷ []
   result_row plan own (Alu op w r s t) = both s t (alu_row op w)
   result_row plan own (Div signed rest w r s t) = both s t (div_row signed rest w)
   result_row plan own (Widen signed from to r s) = widen_row (homes s) signed from to
   result_row plan own (Test p w r s t) = both s t (test_row p w)
-  result_row plan own (Pick r c s t) = home_read (homes c) Rdx ∷ both s t (do_.AluImm ImmOp.And Wide.W32 Rdx (pos 1) ∷ do_.Cmov Cond.E Rax Rcx ∷ [])
-  result_row plan own (Load w r s) = home_read (homes s) Rax ∷ do_.Load (access_size w) Rax at_rax ∷ []
-  result_row plan own (FrameAt r at) = do_.Lea Rax (record { base = Rsp; disp = pos (own + at) }) ∷ []
-  result_row plan own (GlobalAt r g) = do_.MovImm64 Rax (get_or plan.globals g 0) ∷ []
-  result_row plan own (FunctionAt r g) = do_.MovImm64 Rax (get_or plan.functions g 0) ∷ []
+  result_row plan own (Pick r c s t) = home_read (homes c) Rdx ∷ both s t (instr.AluImm ImmOp.And Wide.W32 Rdx (pos 1) ∷ instr.Cmov Cond.E Rax Rcx ∷ [])
+  result_row plan own (Load w r s) = home_read (homes s) Rax ∷ instr.Load (access_size w) Rax at_rax ∷ []
+  result_row plan own (FrameAt r at) = instr.Lea Rax (record { base = Rsp; disp = pos (own + at) }) ∷ []
+  result_row plan own (GlobalAt r g) = instr.MovImm64 Rax (get_or plan.globals g 0) ∷ []
+  result_row plan own (FunctionAt r g) = instr.MovImm64 Rax (get_or plan.functions g 0) ∷ []
   result_row plan own other = []
 
   -- a result goes to its home
@@ -209,7 +209,7 @@ module _ (homes : ℕ → Spot) where
   op_row plan own (Test p w r s t) = assigned_row r (result_row plan own (Test p w r s t))
   op_row plan own (Pick r c s t) = assigned_row r (result_row plan own (Pick r c s t))
   op_row plan own (Load w r s) = assigned_row r (result_row plan own (Load w r s))
-  op_row plan own (Store w s t) = both s t (do_.Store (access_size w) at_rax Rcx ∷ [])
+  op_row plan own (Store w s t) = both s t (instr.Store (access_size w) at_rax Rcx ∷ [])
   op_row plan own (FrameAt r at) = assigned_row r (result_row plan own (FrameAt r at))
   op_row plan own (GlobalAt r g) = assigned_row r (result_row plan own (GlobalAt r g))
   op_row plan own (FunctionAt r g) = assigned_row r (result_row plan own (FunctionAt r g))

@@ -3,3 +3,4 @@ pub mod Code
 pub mod Sizes
 pub mod Ties
 pub mod Steps
+pub mod Bodies

@@ -1,5 +1,5 @@
 -- What the row of an operation comes to, and what an operation has to be for that.
-use Rattle.std.specs.Prelude.{◌≡◌, ◌≢◌, ℕ, ◌+◌, ◌*◌, ◌^◌, ◌<◌, ◌≤◌, ◌⊎◌, List, [], ◌∷◌, true, false, slice_get, Option, Some, Ok, Err}
+use Rattle.std.specs.Prelude.{◌≡◌, ◌≢◌, ℕ, ◌+◌, ◌*◌, ◌^◌, ◌<◌, ◌≤◌, ◌⊎◌, List, ◌∷◌, true, slice_get, Option, Some, Ok, Err}
 use Rattle.behavior.specs.Ending.{is_left}
 use Rattle.behavior.specs.Ending as ending
 use Rattle.ir_core.specs.Stops.{Stop, Divide, Answer, ending_of}
