@@ -1,4 +1,4 @@
--- Loads and stores: what the flat memory has, the segments have.
+-- Loads: bytes of the flat memory that are told stand in the segments, and a load finds them there.
 use Rattle.std.proofs.Common.{◌≡◌, ℕ, zero, suc, ◌+◌, ◌*◌, ◌^◌, ◌<◌, ◌≤◌, Bool, true, false, ◌&&◌, ◌||◌, nat_le, option_map, List, [], ◌∷◌, length, Option, Some, None, Ok, Err, refl, sym, ◌∙◌, ap, subst, inl, inr, ◌⊎◌, arith}
 use Rattle.std.specs.Prelude.{pos}
 use Rattle.std.proofs.lemmas.Bool.{or_cases, and_parts, and_from, leb-true, le-leb}
@@ -29,13 +29,22 @@ use Rattle.frame_rows.specs.Code.{access_size, at_rax, home_read}
 use Rattle.frame_rows.specs.Ties.{Contains, Tied}
 use Rattle.frame_rows.proofs.Results.{Makes, reads_one}
 
--- a part of a range that a span covers
-covers_part : (s : Span) (p n q m : ℕ) → p ≤ q → q + m ≤ p + n → covers p n s ≡ true → covers q m s ≡ true
-covers_part s p n q m lo hi h =
-    let x = and_parts (nat_le s.start p) (nat_le (p + n) (s.start + s.size)) h in
-    let a : s.start ≤ p = leb-true _ _ x.0 in
-    let b : p + n ≤ s.start + s.size = leb-true _ _ x.1 in
-    and_from (nat_le s.start q) (nat_le (q + m) (s.start + s.size)) (le-leb _ _ (omega arith)) (le-leb _ _ (omega arith))
+-- a range that lies in a span, in numbers
+record Within (s : Span) (p n : ℕ) : Type 0 where
+  from : s.start ≤ p
+  to : p + n ≤ s.start + s.size
+
+within : (s : Span) (p n : ℕ) → covers p n s ≡ true → Within s p n
+within s p n h =
+    let two = and_parts (nat_le s.start p) (nat_le (p + n) (s.start + s.size)) h in
+    record { from = leb-true s.start p two.0; to = leb-true (p + n) (s.start + s.size) two.1 }
+
+-- what a span covers of a range, it covers of each part of it
+part_covered : (s : Span) (p n q m : ℕ) → p ≤ q → q + m ≤ p + n → Within s p n → covers q m s ≡ true
+part_covered s p n q m lo hi x =
+    let from = x.from in
+    let to = x.to in
+    and_from (nat_le s.start q) (nat_le (q + m) (s.start + s.size)) (le-leb s.start q (omega (arith, lo, from))) (le-leb (q + m) (s.start + s.size) (omega (arith, hi, to)))
 
 either_first : (x y : Bool) → x ≡ true → (x || y) ≡ true
 either_first x y h = ap (λ b. b || y) h
@@ -47,7 +56,7 @@ either_second false y h = h
 pub inside_part : (spans : List Span) (p n q m : ℕ) → p ≤ q → q + m ≤ p + n → is_inside p n spans ≡ true → is_inside q m spans ≡ true
 inside_part [] p n q m lo hi h = absurd (cc)
 inside_part (s ∷ spans) p n q m lo hi h = elim (or_cases (covers p n s) (is_inside p n spans) h) [
-  | inl t ↦ either_first (covers q m s) (is_inside q m spans) (covers_part s p n q m lo hi t)
+  | inl t ↦ either_first (covers q m s) (is_inside q m spans) (part_covered s p n q m lo hi (within s p n t))
   | inr t ↦ either_second (covers q m s) (is_inside q m spans) (inside_part spans p n q m lo hi t)
 ]
 
@@ -79,12 +88,12 @@ module _ (base words : ℕ) (flat : Flat) (ss : List Segment) (c : Contains base
   told_more p n bs inside None is r rs k go = let z : all_set (None ∷ bytes_from flat.bytes (p + 1) n) ≡ Some bs = subst (λ o. all_set (o ∷ bytes_from flat.bytes (p + 1) n) ≡ Some bs) is k in absurd (cc)
   told_more p n bs inside (Some b) is None rs k go =
       let z : option_map (λ ns. b ∷ ns) (all_set (bytes_from flat.bytes (p + 1) n)) ≡ Some bs = subst (λ o. all_set (o ∷ bytes_from flat.bytes (p + 1) n) ≡ Some bs) is k in
-      let y : option_map (λ ns. b ∷ ns) None ≡ Some bs = subst (λ o. option_map (λ ns. b ∷ ns) o ≡ Some bs) rs z in
+      let lost : option_map (λ ns. b ∷ ns) None ≡ Some bs = sym (ap (option_map (λ ns. b ∷ ns)) rs) ∙ z in
       absurd (cc)
   told_more p n bs inside (Some b) is (Some rest) rs k go =
       let z : option_map (λ ns. b ∷ ns) (all_set (bytes_from flat.bytes (p + 1) n)) ≡ Some bs = subst (λ o. all_set (o ∷ bytes_from flat.bytes (p + 1) n) ≡ Some bs) is k in
-      let y : Some (b ∷ rest) ≡ Some bs = subst (λ o. option_map (λ ns. b ∷ ns) o ≡ Some bs) rs z in
-      let same : b ∷ rest ≡ bs = some_is (b ∷ rest) bs y in
+      let found : Some (b ∷ rest) ≡ Some bs = sym (ap (option_map (λ ns. b ∷ ns)) rs) ∙ z in
+      let same : b ∷ rest ≡ bs = some_is (b ∷ rest) bs found in
       let x = c.told p b inside is in
       let g = go rest rs in
       let long = g.count in
@@ -100,21 +109,21 @@ module _ (base words : ℕ) (flat : Flat) (ss : List Segment) (c : Contains base
       told_more p n bs (inside_part flat.spans p (suc n) p 1 (omega arith) (omega arith) h) (flat.bytes p) refl (all_set (bytes_from flat.bytes (p + 1) n)) refl e
       (λ rest k. told_range n (p + 1) (inside_part flat.spans p (suc n) (p + 1) n (omega arith) (omega arith) h) rest k)
 
--- one more than the greatest number of so many bytes
-abbrev pub ceiling : ℕ → ℕ
-ceiling zero = 1
-ceiling (suc n) = ceiling n * 256
+-- numbers of so many bytes are below this one
+abbrev pub limit_of : ℕ → ℕ
+limit_of zero = 1
+limit_of (suc n) = limit_of n * 256
 
-number_below : (bs : List ℕ) → AreBytes bs → le_number bs < ceiling (length bs)
+number_below : (bs : List ℕ) → AreBytes bs → le_number bs < limit_of (length bs)
 number_below [] h = omega arith
 number_below (b ∷ bs) h = let x = number_below bs h.1 in let y = h.0 in omega arith
 
-ceiling_most : (w : Width) → ceiling (bytes_of w) ≤ 2 ^ 64
-ceiling_most W1 = omega arith
-ceiling_most W8 = omega arith
-ceiling_most W16 = omega arith
-ceiling_most W32 = omega arith
-ceiling_most W64 = omega arith
+limit_of_most : (w : Width) → limit_of (bytes_of w) ≤ 2 ^ 64
+limit_of_most W1 = omega arith
+limit_of_most W8 = omega arith
+limit_of_most W16 = omega arith
+limit_of_most W32 = omega arith
+limit_of_most W64 = omega arith
 
 pub same_bytes : (w : Width) → size_bytes (access_size w) ≡ bytes_of w
 same_bytes W1 = refl
@@ -176,7 +185,7 @@ module _ (homes : ℕ → Spot) (base words : ℕ) (live : ℕ → Type 0) (regi
   pub load_small : (wi : Width) (a word : ℕ) → LoadsWord flat a (bytes_of wi) word → word < 2 ^ 64
   load_small wi a word from =
       let t = told_range base words flat ss tied.memory (bytes_of wi) a from.inside from.bytes from.are in
-      let x : le_number from.bytes < ceiling (bytes_of wi) = subst (λ n. le_number from.bytes < ceiling n) t.count (number_below from.bytes t.bytes) in
-      let y = ceiling_most wi in
+      let x : le_number from.bytes < limit_of (bytes_of wi) = subst (λ n. le_number from.bytes < limit_of n) t.count (number_below from.bytes t.bytes) in
+      let y = limit_of_most wi in
       let e = from.number in
       omega (arith, e, x, y)

@@ -41,7 +41,7 @@ room_same base words ss ts same room = record {
 known : (w : Words) (f : Flags) (ss : List Segment) (t : Reg) (n k : ℕ) → k ≡ n → let c : ℕ → Core = λ m. record { regs = with_word (in_order w) t m; flags = f; segments = ss } in Through (c k) ≡ Through (core_of (with_held w t n) f ss)
 known w f ss t n k e = ap (λ m. Through (record { regs = with_word (in_order w) t m; flags = f; segments = ss })) e ∙ ap (λ l. Through (record { regs = l; flags = f; segments = ss })) (with_word_held w t n)
 
--- a home into a register
+-- the read of a home
 pub home_read_law : (base words : ℕ) (w : Words) (f : Flags) (ss : List Segment) (h : Spot) (t : Reg) (n : ℕ) → Room base words ss → w.rsp ≡ base → n < 2 ^ 64 → IsHome words h → Keeps w ss h n →
     ran (home_read h t) (core_of w f ss) ≡ Through (core_of (with_held w t n) f ss)
 unfolding effect_of

@@ -69,12 +69,12 @@ module _ (homes : ℕ → Spot) (base words : ℕ) where
     memory = t.memory;
   }
 
-  -- fewer registers may be live
+  -- where less is live, the ties hold too
   pub tied_fewer : (live after : ℕ → Type 0) (registers : List (Option ℕ)) (flat : Flat) (w : Words) (ss : List Segment) → ((x : ℕ) → after x → live x) → Tied homes base words live registers flat w ss → Tied homes base words after registers flat w ss
   tied_fewer live after registers flat w ss fewer t =
       record { room = t.room; at_base = t.at_base; spots = t.spots; kept = λ x n l e. t.kept x n (fewer x l) e; small = t.small; memory = t.memory }
 
-  -- a register is assigned, and its home written
+  -- the word of an assigned register stands in its home
   pub tied_assigned : (live after : ℕ → Type 0) (registers : List (Option ℕ)) (flat : Flat) (w : Words) (f : Flags) (ss : List Segment) (r : ℕ) (t : Reg) (n : ℕ) → IsFree live after r → n < 2 ^ 64 →
       Tied homes base words live registers flat w ss → (x : Put base words w f ss (homes r) t n) → Tied homes base words after (with_register registers r n) flat x.after x.segments
   tied_assigned live after registers flat w f ss r t n free small tied x = record {

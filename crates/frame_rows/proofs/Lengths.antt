@@ -164,7 +164,7 @@ store_bytes W16 = leb-true _ _ refl
 store_bytes W32 = leb-true _ _ refl
 store_bytes W64 = leb-true _ _ refl
 
--- instructions
+-- how many instructions lie between
 alu_count : (o : SelAlu) (w : Width) → length (alu_row o w) ≤ 4
 alu_count Add w = leb-true _ _ refl
 alu_count Sub w = leb-true _ _ refl

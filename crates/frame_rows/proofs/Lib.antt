@@ -19,3 +19,4 @@ pub mod Operations
 pub mod Lengths
 pub mod Ranges
 pub mod Worked
+pub mod WorkedTies

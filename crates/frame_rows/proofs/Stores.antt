@@ -35,7 +35,7 @@ use Rattle.frame_rows.proofs.Registers.{Same}
 use Rattle.frame_rows.proofs.Homes.{room_same}
 use Rattle.frame_rows.proofs.Kept.{keeps_same}
 use Rattle.frame_rows.proofs.Results.{reads_both}
-use Rattle.frame_rows.proofs.Accesses.{inside_part, writable_inside, ceiling, same_bytes, some_bytes}
+use Rattle.frame_rows.proofs.Accesses.{inside_part, writable_inside, limit_of, same_bytes, some_bytes}
 
 -- bytes put in their place, and beside it
 put_beside : (bs : List ℕ) (m : Bytes) (p q : ℕ) → (q < p) ⊎ (p + length bs ≤ q) → with_bytes m p (map Some bs) q ≡ m q
@@ -57,27 +57,30 @@ byte_below zero n i = omega arith
 byte_below (suc k) n zero = omega arith
 byte_below (suc k) n (suc i) = byte_below k (n / 256) i
 
-ceiling_some : (k : ℕ) → 0 < ceiling k
-ceiling_some zero = omega arith
-ceiling_some (suc k) = let h = ceiling_some k in omega arith
+limit_of_some : (k : ℕ) → 0 < limit_of k
+limit_of_some zero = omega arith
+limit_of_some (suc k) = let h = limit_of_some k in omega arith
 
--- the low bytes of a number are those of its low bits
-bytes_low : (k n : ℕ) → le_bytes k (n % ceiling k) ≡ le_bytes k n
-bytes_low zero n = refl
-bytes_low (suc k) n =
-    let m = ceiling k in
-    let x = n / 256 % m in
-    let e : n % (m * 256) ≡ x * 256 + n % 256 = mod-mul n (ceiling_some k) (lit< tt) in
-    let a : n % (m * 256) % 256 ≡ n % 256 = ap (λ y. y % 256) e ∙ omega arith in
-    let b : n % (m * 256) / 256 ≡ x = ap (λ y. y / 256) e ∙ omega arith in
-    ap (λ y. y ∷ le_bytes k (n % (m * 256) / 256)) a ∙ ap (λ y. (n % 256) ∷ le_bytes k y) b ∙ ap (λ r. (n % 256) ∷ r) (bytes_low k (n / 256))
+-- one byte more: the lowest one, and the number of the others
+lowest_of : (k n : ℕ) → n % limit_of (suc k) % 256 ≡ n % 256
+lowest_of k n = ap (λ m. m % 256) (mod-mul n (limit_of_some k) (lit< tt)) ∙ omega arith
+
+others_of : (k n : ℕ) → n % limit_of (suc k) / 256 ≡ n / 256 % limit_of k
+others_of k n = ap (λ m. m / 256) (mod-mul n (limit_of_some k) (lit< tt)) ∙ omega arith
+
+-- bits above so many bytes don't count
+low_bytes_of : (k n : ℕ) → le_bytes k (n % limit_of k) ≡ le_bytes k n
+low_bytes_of zero n = refl
+low_bytes_of (suc k) n =
+    ap (λ b. b ∷ le_bytes k (n % limit_of (suc k) / 256)) (lowest_of k n) ∙ ap (λ m. (n % 256) ∷ le_bytes k m) (others_of k n) ∙
+    ap (λ bs. (n % 256) ∷ bs) (low_bytes_of k (n / 256))
 
 low_bytes : (w : Width) (n : ℕ) → le_bytes (bytes_of w) (n % 2 ^ size_bits (access_size w)) ≡ le_bytes (bytes_of w) n
-low_bytes W1 n = bytes_low 1 n
-low_bytes W8 n = bytes_low 1 n
-low_bytes W16 n = bytes_low 2 n
-low_bytes W32 n = bytes_low 4 n
-low_bytes W64 n = bytes_low 8 n
+low_bytes W1 n = low_bytes_of 1 n
+low_bytes W8 n = low_bytes_of 1 n
+low_bytes W16 n = low_bytes_of 2 n
+low_bytes W32 n = low_bytes_of 4 n
+low_bytes W64 n = low_bytes_of 8 n
 
 count_bytes : (k n : ℕ) → length (le_bytes k n) ≡ k
 count_bytes zero n = refl

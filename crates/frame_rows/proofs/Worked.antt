@@ -71,7 +71,7 @@ third Away = None
 abbrev clear : Flags
 clear = record { c = Zero; z = Zero; s = Zero; o = Zero }
 
--- an operation on two words
+-- the passage of a row from two words on
 abbrev run : ℕ → ℕ → SelOp → Passage
 run a b op = exec (op_row homes (addresses_of (4096 ∷ []) []) 64 op) (core_of (record { rax = 1; rcx = 2; rdx = 3; rbx = a; rsp = 4; rbp = b; rsi = 5; rdi = 6; r8 = 7; r9 = 8; r10 = 9; r11 = 10; r12 = 11; r13 = 12; r14 = 13; r15 = 14 }) clear [])
 

@@ -5,7 +5,7 @@ use Rattle.x86_core.specs.Encoding.{encoding, IsInstr}
 use Rattle.low_core.specs.declared.sel.SelOp.{SelOp}
 use Rattle.low_core.specs.declared.sel.SelOp.TheVariants.{Call, CallAt, Outside}
 
--- the bytes of a row
+-- how many bytes a row has
 abbrev pub row_bytes : List Instr → ℕ
 row_bytes [] = 0
 row_bytes (i ∷ row) = length (encoding i) + row_bytes row

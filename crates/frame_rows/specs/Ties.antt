@@ -46,7 +46,7 @@ Differ (Own r) (Frame k) = Unit {0}
 Differ (Frame k) (Own r) = Unit {0}
 Differ (Frame k) (Frame j) = k ≢ j
 
--- a home has this word
+-- the word that a home has
 abbrev pub Keeps : Words → List Segment → Spot → ℕ → Type 0
 Keeps w ss (Own r) n = held_in w r ≡ n
 Keeps w ss (Frame k) n = range_at ss (w.rsp + 8 * k) 8 ≡ le_bytes 8 n

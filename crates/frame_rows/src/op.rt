@@ -297,7 +297,7 @@ fn put_store(
     put_row(all, &[first, second, store])
 }
 
-/// Instructions, one behind the other.
+/// Puts a row behind the instructions that are there.
 fn put_row(all: &mut List<Instr>, row: &[Instr]) -> Result<(), NoMemory>
     ensures { OnOk result (all.new ≡ all.old ++ row.now) }
 {
