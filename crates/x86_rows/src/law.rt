@@ -60,23 +60,23 @@ pub fn shapes()
 /// The memory with which a run begins: its segments are apart, the stack may be used from end to
 /// end, and data is there, byte by byte, to be read, and the second part to be written too.
 pub fn first_memory()
-    ensures apart { (ro rw : List ℕ) → length ro ≤ 2 ^ 28 → length rw ≤ 2 ^ 28 →
-        AreDisjoint (data_segments ro rw) }
-    ensures stack { (ro rw : List ℕ) → length ro ≤ 2 ^ 28 → length rw ≤ 2 ^ 28 →
-        IsStack stack_start stack_end (data_segments ro rw) }
-    ensures ro_bytes { (ro rw : List ℕ) → length ro ≤ 2 ^ 28 → length rw ≤ 2 ^ 28 → (i : ℕ) →
-        i < length ro → byte_at (data_segments ro rw) (ro_start + i) ≡ slice_index ro i }
-    ensures rw_bytes { (ro rw : List ℕ) → length ro ≤ 2 ^ 28 → length rw ≤ 2 ^ 28 → (i : ℕ) →
-        i < length rw → byte_at (data_segments ro rw) (rw_start + i) ≡ slice_index rw i }
-    ensures ro_reads { (ro rw : List ℕ) → length ro ≤ 2 ^ 28 → length rw ≤ 2 ^ 28 →
+    ensures apart { (ro written : List ℕ) → length ro ≤ 2 ^ 28 → length written ≤ 2 ^ 28 →
+        AreDisjoint (data_segments ro written) }
+    ensures stack { (ro written : List ℕ) → length ro ≤ 2 ^ 28 → length written ≤ 2 ^ 28 →
+        IsStack stack_start stack_end (data_segments ro written) }
+    ensures ro_bytes { (ro written : List ℕ) → length ro ≤ 2 ^ 28 → length written ≤ 2 ^ 28 → (i : ℕ) →
+        i < length ro → byte_at (data_segments ro written) (ro_start + i) ≡ slice_index ro i }
+    ensures rw_bytes { (ro written : List ℕ) → length ro ≤ 2 ^ 28 → length written ≤ 2 ^ 28 → (i : ℕ) →
+        i < length written → byte_at (data_segments ro written) (rw_start + i) ≡ slice_index written i }
+    ensures ro_reads { (ro written : List ℕ) → length ro ≤ 2 ^ 28 → length written ≤ 2 ^ 28 →
         (p n : ℕ) → ro_start ≤ p → p + n ≤ ro_start + length ro → 1 ≤ n →
-        one_covers reads (data_segments ro rw) p n ≡ true }
-    ensures rw_reads { (ro rw : List ℕ) → length ro ≤ 2 ^ 28 → length rw ≤ 2 ^ 28 →
-        (p n : ℕ) → rw_start ≤ p → p + n ≤ rw_start + length rw → 1 ≤ n →
-        one_covers reads (data_segments ro rw) p n ≡ true }
-    ensures rw_writes { (ro rw : List ℕ) → length ro ≤ 2 ^ 28 → length rw ≤ 2 ^ 28 →
-        (p n : ℕ) → rw_start ≤ p → p + n ≤ rw_start + length rw → 1 ≤ n →
-        one_covers writes (data_segments ro rw) p n ≡ true }
+        one_covers reads (data_segments ro written) p n ≡ true }
+    ensures rw_reads { (ro written : List ℕ) → length ro ≤ 2 ^ 28 → length written ≤ 2 ^ 28 →
+        (p n : ℕ) → rw_start ≤ p → p + n ≤ rw_start + length written → 1 ≤ n →
+        one_covers reads (data_segments ro written) p n ≡ true }
+    ensures rw_writes { (ro written : List ℕ) → length ro ≤ 2 ^ 28 → length written ≤ 2 ^ 28 →
+        (p n : ℕ) → rw_start ≤ p → p + n ≤ rw_start + length written → 1 ≤ n →
+        one_covers writes (data_segments ro written) p n ≡ true }
 {}
 
 /// The bytes of a number spell what they have of it; the low ones begin its range.
