@@ -1,5 +1,5 @@
 -- What instructions give is what their actions give.
-use Rattle.std.proofs.Common.{◌≡◌, ℕ, ◌*◌, ◌≤◌, Bool, true, List, [], ◌∷◌, ◌++◌, map, refl, ap, sym, ◌∙◌, arith}
+use Rattle.std.proofs.Common.{◌≡◌, ℕ, ◌*◌, ◌≤◌, Bool, true, List, [], ◌∷◌, ◌++◌, map, refl, ap, ◌∙◌, arith}
 use Rattle.std.specs.Prelude.{◌&&◌}
 use Rattle.std.specs.List.{list_all}
 use Rattle.std.proofs.lemmas.Bool.{and_parts}
@@ -24,20 +24,18 @@ use Rattle.ir_core.specs.Memory.{load_at}
 use Rattle.ir_core.specs.Typing.{Env, is_value, is_result, is_index, known_arg, kinds_of, leads_from, operand_fits, arg_fits, callee_fits, bin_fits, cast_fits, op_fits}
 use Rattle.ir_core.specs.Mentions.{OfType, of_operand, of_typed, of_args, of_callee, of_op}
 use Rattle.ir_core.specs.Step.{binary_value, compared_value, cast_value, selected}
-use Rattle.ir_program.specs.Extents.{extent_of}
-use Rattle.ir_program.specs.Origins.{origin_of}
-use Rattle.ir_program.specs.Actions.{arg_origin, move_by}
-use Rattle.ir_program.specs.Reads.{ArePlaced, IsPlaced}
+use Rattle.ir_context.specs.Extents.{extent_of}
+use Rattle.ir_context.specs.Origins.{origin_of}
+use Rattle.ir_program.specs.Actions.{move_by}
+use Rattle.ir_context.specs.Reads.{ArePlaced, IsPlaced}
 use Rattle.ir_sound.specs.WellTyped.{Each}
 use Rattle.ir_sound.proofs.RowLaws.{Each_parts}
-use Rattle.ir_eval.specs.Small.{FieldsAreSmall, IsSmall, IsSmallMention}
+use Rattle.ir_context.specs.Small.{FieldsAreSmall, IsSmall, IsSmallMention}
 use Rattle.ir_run.specs.Turns.{action_value}
 use Rattle.ir_run.specs.Agreement.{IsReadAs, GivesAs, ActsAs}
-use Rattle.ir_eval.proofs.ShapeLaws.{rounded_up}
-use Rattle.ir_eval.proofs.PathLaws.{size_is}
-use Rattle.ir_eval.proofs.LeadLaws.{has_path_from}
-use Rattle.ir_eval.proofs.WideLaws.{wide_args, args_known}
-use Rattle.ir_eval.proofs.MoveLaws.{move_read}
+use Rattle.ir_context.proofs.ShapeLaws.{rounded_up}
+use Rattle.ir_context.proofs.PathLaws.{size_is}
+use Rattle.ir_context.proofs.OperandLaws.{pointer_moves}
 use Rattle.ir_eval.proofs.PartLaws.{is_placed, is_read, are_placed, calls_as}
 
 -- one answer, and what follows
@@ -75,9 +73,8 @@ module _ (m : Module) (names : List (List ℕ)) where
   -- a pointer that moves
   move_gives : (ty : Ty) (p : Operand) (indices : List Arg) → FieldsAreSmall m.types m.types → IsSmall m.types ty → IsPlaced m p → ArePlaced m indices → leads_from m.types ty (map known_arg indices) ≡ true → GivesAs m names (Gep ty p indices)
   move_gives ty p indices all small base placed leads objects registers locals stand =
-      let path = has_path_from m.types all (map known_arg indices) (map (arg_origin m names) indices) ty (args_known m names indices) small leads in
-      ap (λ o. action_value objects registers (move_by (origin_of m names Pointer p) o)) path.is
-      ∙ sym (move_read m names registers locals stand objects ty p indices path.path base placed (wide_args m names indices) all small path.is)
+      let along = pointer_moves m names ty p indices all small base placed leads in
+      ap (λ o. action_value objects registers (move_by (origin_of m names Pointer p) o)) along.is ∙ along.moves objects registers locals stand
 
 -- a number with the gap behind it isn't smaller
 spaced_up : (n : ℕ) → n ≤ spaced n

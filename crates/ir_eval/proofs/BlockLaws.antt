@@ -21,14 +21,15 @@ use Rattle.ir_core.specs.Typing.{is_value, is_result, has_kind, kind_given, into
 use Rattle.ir_core.specs.Valid.{LocalKind, kind_in, named_locals, locals_of, env_of, predecessors}
 use Rattle.ir_core.specs.Mentions.{of_op, of_end, of_block, of_function}
 use Rattle.ir_core.specs.Step.{Choice, choices_of}
-use Rattle.ir_memory.specs.Registers.{number_of}
+use Rattle.ir_context.specs.Registers.{number_of}
 use Rattle.ir_program.specs.Actions.{into_of}
 use Rattle.ir_program.specs.Programs.{register_names}
 use Rattle.ir_sound.specs.Typed.{param_typed, phis_typed, labels_known, block_typed, entry_typed, function_typed, IsTyped}
 use Rattle.ir_sound.specs.WellTyped.{Each}
 use Rattle.ir_sound.proofs.RowLaws.{all_at, Each_at, Each_parts, Each_rows}
 use Rattle.ir_sound.proofs.SameLaws.{none_is, not_true, some_is}
-use Rattle.ir_eval.specs.Small.{FieldsAreSmall, IsSmallMention, IsSmallModule}
+use Rattle.ir_context.specs.Small.{FieldsAreSmall, IsSmallMention}
+use Rattle.ir_eval.specs.Small.{IsSmallModule}
 use Rattle.ir_run.specs.Standing.{IntoStands}
 use Rattle.ir_run.specs.Agreement.{InstAgrees, PhisAgree, BlockAgrees, Agrees}
 use Rattle.ir_eval.proofs.PartLaws.{entries_placed, phi_taken, end_agrees}

@@ -29,12 +29,12 @@ use Rattle.ir_core.specs.Refusals.{IsValid}
 use Rattle.ir_core.proofs.Inits.{init-value, init-zero, init-text, init-array, init-struct, init-packed, part-element}
 use Rattle.ir_core.proofs.InitRules.{of_element, mentions-value, mentions-array, mentions-struct, mentions-packed, fits-value, fits-array, fits-struct, fits-packed}
 use Rattle.ir_memory.specs.Ranges.{whole}
-use Rattle.ir_memory.specs.Registers.{StandFor}
-use Rattle.ir_program.specs.declared.origin.Origin.{Origin}
-use Rattle.ir_program.specs.declared.origin.Origin.TheVariants.{Known, Register, Unset, Malformed}
-use Rattle.ir_program.specs.Extents.{extent_of}
-use Rattle.ir_program.specs.Origins.{origin_of}
-use Rattle.ir_program.specs.Reads.{origin_value, IsPlaced}
+use Rattle.ir_context.specs.Registers.{StandFor}
+use Rattle.ir_context.specs.declared.origin.Origin.{Origin}
+use Rattle.ir_context.specs.declared.origin.Origin.TheVariants.{Known, Register, Unset, Malformed}
+use Rattle.ir_context.specs.Extents.{extent_of}
+use Rattle.ir_context.specs.Origins.{origin_of}
+use Rattle.ir_context.specs.Reads.{origin_value, IsPlaced}
 use Rattle.ir_globals.specs.Told.{origin_cells, told_cells, told_part, told_object, told_objects}
 use Rattle.ir_globals.proofs.ToldInits.{told-value, told-zero, told-text, told-array, told-struct, told-packed}
 use Rattle.ir_sound.specs.Typed.{is_sized}
@@ -43,12 +43,12 @@ use Rattle.ir_sound.proofs.NoFaults.{both_empty, unless_passes, unrefused}
 use Rattle.ir_sound.proofs.RowLaws.{Each_parts}
 use Rattle.ir_sound.proofs.SameLaws.{not_true}
 use Rattle.ir_sound.proofs.ValidTyped.{valid_typed}
-use Rattle.ir_eval.specs.Small.{IsSmall, FieldsAreSmall, IsSmallMention}
-use Rattle.ir_eval.proofs.PathLaws.{size_is}
+use Rattle.ir_context.specs.Small.{IsSmall, FieldsAreSmall, IsSmallMention}
+use Rattle.ir_context.proofs.PathLaws.{size_is}
 use Rattle.ir_eval.proofs.PartLaws.{is_placed}
-use Rattle.ir_eval.proofs.ShapeLaws.{tells}
+use Rattle.ir_context.proofs.ShapeLaws.{tells}
 use Rattle.ir_eval.proofs.SmallLaws.{valid_small}
-use Rattle.ir_eval.proofs.ValueLaws.{value_read}
+use Rattle.ir_context.proofs.ValueLaws.{value_read}
 
 -- cells of an origin are those of the value that comes from there, without registers
 origin_answer : (size : ℕ) (o : Origin) → origin_cells size o ≡ cells_or_zeros size (origin_value [] o)

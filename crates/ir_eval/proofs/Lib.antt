@@ -1,12 +1,4 @@
-pub mod ValueLaws
-pub mod SettleLaws
-pub mod ShapeLaws
-pub mod OpenLaws
-pub mod PathLaws
-pub mod LeadLaws
-pub mod WideLaws
-pub mod MoveLaws
-pub mod PlaceLaws
+pub mod MentionLaws
 pub mod SmallLaws
 pub mod PartLaws
 pub mod ActLaws

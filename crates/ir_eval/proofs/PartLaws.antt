@@ -1,12 +1,11 @@
 -- What instructions, phis and ends of blocks read is what their parts in the program give.
 use Rattle.std.proofs.Common.{◌≡◌, ℕ, Bool, true, List, [], ◌∷◌, ◌++◌, map, Option, Some, None, Ok, refl, ap, sym, ◌∙◌}
-use Rattle.std.specs.Prelude.{◌&&◌, is_some}
+use Rattle.std.specs.Prelude.{◌&&◌}
 use Rattle.std.specs.List.{list_all}
 use Rattle.std.proofs.lemmas.Bool.{and_parts}
 use Rattle.rd_num.specs.declared.width.Width.TheVariants.{W1}
 use Rattle.ir_core.specs.declared.operand.Operand.{Operand}
 use Rattle.ir_core.specs.declared.operand.Operand.TheVariants.{Int, Bool as Truth, Null as NullWord, Undef, Poison, Local as LocalName, Global, Const}
-use Rattle.ir_core.specs.declared.operand.Place0.{Place0}
 use Rattle.ir_core.specs.declared.instruction.Arg.{Arg}
 use Rattle.ir_core.specs.declared.instruction.Entry.{Entry}
 use Rattle.ir_core.specs.declared.instruction.Case.{Case}
@@ -21,33 +20,30 @@ use Rattle.ir_core.specs.Names.{same_name, first_where}
 use Rattle.ir_core.specs.Stops.{Answer, and_then, found_or}
 use Rattle.ir_core.specs.Stops as stop
 use Rattle.ir_core.specs.State.{Local}
-use Rattle.ir_core.specs.Operands.{global_number, function_number, value_of}
+use Rattle.ir_core.specs.Operands.{function_number, value_of}
 use Rattle.ir_core.specs.Calls.{Target, target_of, target_named}
 use Rattle.ir_core.specs.Calls as target
-use Rattle.ir_core.specs.Typing.{Env, known_index, leads_from, place_fits, operand_fits, case_fits, term_fits, is_value, is_number}
+use Rattle.ir_core.specs.Typing.{Env, operand_fits, case_fits, term_fits, is_value, is_number}
 use Rattle.ir_core.specs.Mentions.{OfLabel, of_operand, of_typed, of_args, of_entries, of_cases, of_end}
 use Rattle.ir_core.specs.Step.{Choice, chosen}
-use Rattle.ir_memory.specs.Registers.{StandFor}
-use Rattle.ir_program.specs.Actions.{argument_of, arg_origin, callee_named, callee_of}
+use Rattle.ir_context.specs.Registers.{StandFor}
+use Rattle.ir_context.specs.Origins.{arg_origin}
+use Rattle.ir_program.specs.Actions.{argument_of, callee_named, callee_of}
 use Rattle.ir_program.specs.Exits.{entry_origin, move_of}
-use Rattle.ir_program.specs.Reads.{origin_value, origin_values, argument_values, callee_target, IsPlaced, ArePlaced}
+use Rattle.ir_context.specs.Reads.{origin_value, origin_values, IsPlaced, ArePlaced}
+use Rattle.ir_program.specs.Reads.{argument_values, callee_target}
 use Rattle.ir_sound.specs.WellTyped.{Each}
 use Rattle.ir_sound.proofs.RowLaws.{Each_parts, first_has}
-use Rattle.ir_eval.specs.Small.{FieldsAreSmall, IsSmallMention}
+use Rattle.ir_context.specs.Small.{FieldsAreSmall, IsSmallMention}
 use Rattle.ir_run.specs.Agreement.{IsReadAs, CallsAs, CasesAgree, EndAgrees}
-use Rattle.ir_eval.proofs.ValueLaws.{value_read}
-use Rattle.ir_eval.proofs.MoveLaws.{then_same, values_read}
-use Rattle.ir_eval.proofs.PlaceLaws.{place_read}
+use Rattle.ir_context.proofs.ValueLaws.{value_read}
+use Rattle.ir_context.proofs.MoveLaws.{then_same, values_read}
+use Rattle.ir_context.proofs.OperandLaws.{is_placed as operand_placed, are_placed as args_placed}
+use Rattle.ir_eval.proofs.MentionLaws.{all_small}
 
 -- an operand that fits a kind, and whose types are small
 pub is_placed : (m : Module) (env : Env) (kind : Kind) (a : Operand) → FieldsAreSmall m.types m.types → Each (IsSmallMention m.types) (of_operand a) → operand_fits m env kind a ≡ true → IsPlaced m a
-is_placed m env kind (Const place) all small fits =
-    let leads = λ (place : Place0). leads_from m.types place.source (map known_index place.indices) in
-    let p = and_parts (same_kind kind Pointer) (place_fits m place) fits in
-    let q = and_parts (is_some (global_number m place.base)) _ p.1 in
-    let r = and_parts _ (leads place) q.1 in
-    λ registers. place_read m place registers all small.0 r.1
-is_placed m env kind other all small fits = tt
+is_placed m env kind a all small fits = operand_placed m env kind a all (all_small m.types (of_operand a) small) fits
 
 -- a placed operand is read as its origin
 pub is_read : (m : Module) (names : List (List ℕ)) (kind : Kind) (a : Operand) → IsPlaced m a → IsReadAs m names kind a
@@ -55,12 +51,7 @@ is_read m names kind a placed registers locals stand = sym (value_read m names r
 
 -- arguments or indices whose operands fit their kinds
 pub are_placed : (m : Module) (env : Env) (test : Arg → Bool) (args : List Arg) → FieldsAreSmall m.types m.types → ((a : Arg) → test a ≡ true → operand_fits m env (kind_of a.ty) a.value ≡ true) → Each (IsSmallMention m.types) (of_args args) → list_all test args ≡ true → ArePlaced m args
-are_placed m env test [] all go small fits = tt
-are_placed m env test (a ∷ as') all go small fits =
-    let P = IsSmallMention m.types in
-    let p = and_parts (test a) (list_all test as') fits in
-    let s = Each_parts P (of_typed a.ty a.value) (of_args as') small in
-    (is_placed m env (kind_of a.ty) a.value all s.0.1 (go a p.0), are_placed m env test as' all go s.1 p.1)
+are_placed m env test args all go small fits = args_placed m env test args all go (all_small m.types (of_args args) small) fits
 
 -- the values of arguments are those of their origins
 arguments_are : (m : Module) (names : List (List ℕ)) (registers : List (Option Value)) (args : List Arg) → argument_values registers (map (argument_of m names) args) ≡ origin_values registers (map (arg_origin m names) args)

@@ -20,7 +20,8 @@ use Rattle.ir_sound.specs.WellTyped.{Each}
 use Rattle.ir_sound.proofs.NoFaults.{both_empty, map_empty, not_empty, unrefused}
 use Rattle.ir_sound.proofs.RowLaws.{Each_parts, Each_rows, Each_more, Each_and, each_mapped}
 use Rattle.ir_sound.proofs.SameLaws.{not_true}
-use Rattle.ir_eval.specs.Small.{AreSmall, IsSmall, is_plain, FieldsAreSmall, IsSmallMention, IsSmallModule}
+use Rattle.ir_context.specs.Small.{AreSmall, IsSmall, is_plain, FieldsAreSmall, IsSmallMention}
+use Rattle.ir_eval.specs.Small.{IsSmallModule}
 
 -- counts none of which is past a limit
 none_past : (most : ℕ) (counts : List ℕ) → filter (λ n. nat_lt most n) counts ≡ [] → Each (λ n. n ≤ most) counts

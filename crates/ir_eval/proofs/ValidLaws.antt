@@ -7,10 +7,11 @@ use Rattle.std.proofs.Math.Logic.{∥∥₁_elim}
 use Rattle.std.proofs.lemmas.Bool.{and_parts, ltb-true}
 use Rattle.ir_core.specs.declared.module.Module.{Module}
 use Rattle.ir_core.specs.Built.{built_all, named_built, global_built, extern_built, function_built}
-use Rattle.ir_core.specs.Definitions.{doubled}
+use Rattle.ir_core.specs.Definitions.{doubled, repeated, type_names, variable_names, function_names}
 use Rattle.ir_core.specs.Globals.{first_objects}
 use Rattle.ir_core.specs.Memory.{Memory}
 use Rattle.ir_core.specs.Refusals.{Fault, IsValid}
+use Rattle.ir_core.proofs.Distinct.{types_differ, variables_differ, functions_differ}
 use Rattle.ir_sound.proofs.NoFaults.{unrefused}
 use Rattle.ir_globals.specs.Told.{told_objects}
 use Rattle.ir_eval.proofs.FirstLaws.{first_told}
@@ -26,6 +27,16 @@ known_valid m known = ∥∥₁_elim known (hlevel (props, no_fault)) (λ valid.
 -- no name is defined twice
 pub valid_distinct : (m : Module) → ∥ IsValid m ∥₁ → doubled m ≡ []
 valid_distinct m known = (unrefused m (known_valid m known).accepted).doubled
+
+-- no type, no global and no function
+pub valid_types : (m : Module) → ∥ IsValid m ∥₁ → repeated [] (type_names m) ≡ []
+valid_types m known = types_differ m (valid_distinct m known)
+
+pub valid_globals : (m : Module) → ∥ IsValid m ∥₁ → repeated [] (variable_names m) ≡ []
+valid_globals m known = variables_differ m (valid_distinct m known)
+
+pub valid_functions : (m : Module) → ∥ IsValid m ∥₁ → repeated [] (function_names m) ≡ []
+valid_functions m known = functions_differ m (valid_distinct m known)
 
 -- functions can be numbered in 32 bits
 pub valid_few : (m : Module) → ∥ IsValid m ∥₁ → length m.functions < 2 ^ 32

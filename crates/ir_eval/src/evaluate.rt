@@ -13,11 +13,11 @@ ghost use Rattle.ir_run.specs.Runs.{Charged};
 ghost use Rattle.ir_eval.specs.Evaluated.{Evaluated};
 
 use crate::outcome::{IrOutcome, outcome_of};
+use ir_context::context::Context;
 use ir_core::module::Module;
 use ir_core::valid::Valid;
 use ir_globals::first::first_memory;
 use ir_memory::memory::Memory;
-use ir_program::context::Context;
 use ir_program::program::{Program, resolve};
 use ir_run::start::start;
 use rd_io::{RunFault, Sink, Source};
@@ -32,7 +32,7 @@ struct Prepared {
 }
 
 /// What a run of a valid module needs, in time linear in its text and the bytes of its globals.
-#[tactic(auto, using(crate::proofs::ValidLaws::valid_distinct, crate::proofs::ValidLaws::valid_few, crate::proofs::ValidLaws::valid_told))]
+#[tactic(auto, using(crate::proofs::ValidLaws::valid_distinct, crate::proofs::ValidLaws::valid_types, crate::proofs::ValidLaws::valid_globals, crate::proofs::ValidLaws::valid_functions, crate::proofs::ValidLaws::valid_few, crate::proofs::ValidLaws::valid_told))]
 fn prepare(alloc: Global, whole: &Module) -> Result<Prepared, NoMemory>
     requires { ∥ IsValid whole.now ∥₁ }
     ensures program { IfOk result (λ p. p.program ≡ program_of whole.now) }

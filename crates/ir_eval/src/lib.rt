@@ -3,11 +3,10 @@
 //! `evaluate` has the call, `outcome` how a run can stand. A module becomes a program and the objects
 //! of its globals, and steps of the program are those of the module's meaning. That they are, the
 //! laws below say, which do nothing: the program of a valid module gives, part by part, what the
-//! module gives. `specs/Small` says of which sizes and depths the types of a module are, and how large
-//! its frames: within the limits, where the module is valid. The sizes of such types and the places
-//! of their fields are told as they are, so that operands, instructions, phis and ends of blocks with
-//! numbers in place of names read and give what those of the module do. What agrees with what stands
-//! in `ir_run`.
+//! module gives. The types of a valid module and its frames are within the limits (`specs/Small`).
+//! The sizes of such types and the places of their fields are told as they are, so that operands and
+//! moves of pointers give what those of the module do (`law` of `ir_context`), and with them
+//! instructions, phis and ends of blocks. What agrees with what stands in `ir_run`.
 #![tactic(auto)]
 
 ghost use Rattle.std.specs.Prelude.{◌≡◌, ◌≤◌, ℕ, List, true};
@@ -26,7 +25,8 @@ ghost use Rattle.ir_sound.specs.WellTyped.{Each};
 ghost use Rattle.ir_run.specs.Agreement.{IsReadAs, ActsAs, EndAgrees, Agrees};
 ghost use Rattle.ir_core.specs.Globals.{first_objects};
 ghost use Rattle.ir_globals.specs.Told.{told_objects};
-ghost use Rattle.ir_eval.specs.Small.{FieldsAreSmall, IsSmallMention, IsSmallModule};
+ghost use Rattle.ir_context.specs.Small.{FieldsAreSmall, IsSmallMention};
+ghost use Rattle.ir_eval.specs.Small.{IsSmallModule};
 
 pub mod evaluate;
 pub mod outcome;

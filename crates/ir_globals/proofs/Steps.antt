@@ -13,7 +13,7 @@ use Rattle.ir_core.specs.Sizes.{align_bytes}
 use Rattle.ir_core.specs.Shapes.{rounded}
 use Rattle.ir_core.specs.Globals.{Part, zeros, end_to_end, spread}
 use Rattle.ir_core.proofs.LoopLaws.{drop_item}
-use Rattle.ir_program.specs.Extents.{extent_of}
+use Rattle.ir_context.specs.Extents.{extent_of}
 use Rattle.ir_globals.specs.Told.{behind_gap, told_part}
 
 -- gaps in front of multiples

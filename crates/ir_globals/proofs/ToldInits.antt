@@ -11,8 +11,8 @@ use Rattle.ir_core.specs.declared.memory.Cell.{Cell}
 use Rattle.ir_core.specs.declared.memory.Cell.TheVariants.{Byte}
 use Rattle.ir_core.specs.Kinds.{kind_of}
 use Rattle.ir_core.specs.Globals.{Part, zeros, end_to_end, spread}
-use Rattle.ir_program.specs.Extents.{extent_of}
-use Rattle.ir_program.specs.Origins.{origin_of}
+use Rattle.ir_context.specs.Extents.{extent_of}
+use Rattle.ir_context.specs.Origins.{origin_of}
 use Rattle.ir_globals.specs.Told.{operand_cells, told_at, told_element, told_cells, told_part}
 
 -- the elements, as a fold has them

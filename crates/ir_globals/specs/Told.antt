@@ -15,10 +15,10 @@ use Rattle.ir_core.specs.Memory.{Memory, cells_of}
 use Rattle.ir_core.specs.Globals.{Part, zeros, end_to_end, spread}
 use Rattle.ir_core.specs.declared.memory.Object0.{Object0}
 use Rattle.ir_memory.specs.Ranges.{whole}
-use Rattle.ir_program.specs.declared.origin.Origin.{Origin}
-use Rattle.ir_program.specs.declared.origin.Origin.TheVariants.{Known, Register, Unset, Malformed}
-use Rattle.ir_program.specs.Extents.{extent_of}
-use Rattle.ir_program.specs.Origins.{origin_of}
+use Rattle.ir_context.specs.declared.origin.Origin.{Origin}
+use Rattle.ir_context.specs.declared.origin.Origin.TheVariants.{Known, Register, Unset, Malformed}
+use Rattle.ir_context.specs.Extents.{extent_of}
+use Rattle.ir_context.specs.Origins.{origin_of}
 
 -- a value that is known, else so many zeros
 abbrev pub origin_cells : ℕ → Origin → List Cell

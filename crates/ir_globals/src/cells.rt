@@ -10,9 +10,11 @@ ghost use Rattle.ir_core.specs.Shapes.{rounded};
 ghost use Rattle.ir_core.specs.Kinds.{kind_of};
 ghost use Rattle.ir_core.specs.Memory.{cells_of};
 ghost use Rattle.ir_core.specs.Globals.{zeros, end_to_end, spread};
-ghost use Rattle.ir_program.specs.Origins.{origin_of};
+ghost use Rattle.ir_context.specs.Origins.{origin_of};
 ghost use Rattle.ir_globals.specs.Told.{origin_cells, behind_gap, told_cells, told_part};
 
+use ir_context::context::Context;
+use ir_context::origin::Origin;
 use ir_core::init::{Elem, Init};
 use ir_core::kind::Kind;
 use ir_core::memory::{Cell, Value};
@@ -21,8 +23,6 @@ use ir_core::operand::Operand;
 use ir_core::size::Align;
 use ir_core::ty::Ty;
 use ir_memory::cells::stored_as;
-use ir_program::context::Context;
-use ir_program::origin::Origin;
 use rd_num::width::NoMemory;
 use std::alloc::Global;
 

@@ -4,10 +4,10 @@ ghost use Rattle.std.specs.Prelude.{◌≡◌, IfOk};
 ghost use Rattle.ir_globals.specs.Told.{told_object, told_objects};
 
 use crate::cells::put_init;
+use ir_context::context::Context;
 use ir_core::module::{GlobalVar, Module};
 use ir_memory::memory::Memory;
 use ir_memory::object::Object;
-use ir_program::context::Context;
 use rd_num::width::NoMemory;
 use std::alloc::Global;
 

@@ -2,5 +2,4 @@ pub mod Remainders
 pub mod CellLaws
 pub mod MemoryLaws
 pub mod Fills
-pub mod RegisterLaws
 pub mod CopyLaws

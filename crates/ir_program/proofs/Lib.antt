@@ -1,4 +1,3 @@
-pub mod NumberLaws
 pub mod EntryLaws
 pub mod PhiLaws
 pub mod EdgeLaws

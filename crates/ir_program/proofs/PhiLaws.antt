@@ -14,12 +14,12 @@ use Rattle.ir_core.specs.Definitions.{is_among}
 use Rattle.ir_core.specs.Step.{Choice, choices_of, choices_with}
 use Rattle.ir_core.proofs.LookupLaws.{item_found}
 use Rattle.ir_core.proofs.LoopLaws.{drop_item}
-use Rattle.ir_memory.specs.Registers.{number_of}
-use Rattle.ir_program.specs.declared.origin.Origin.{Origin}
-use Rattle.ir_program.specs.declared.origin.Origin.TheVariants.{Malformed}
+use Rattle.ir_context.specs.Registers.{number_of}
+use Rattle.ir_context.specs.declared.origin.Origin.{Origin}
+use Rattle.ir_context.specs.declared.origin.Origin.TheVariants.{Malformed}
 use Rattle.ir_program.specs.declared.exit.Move.{Move}
 use Rattle.ir_program.specs.declared.phi.Phi.{Phi}
-use Rattle.ir_program.specs.Origins.{origin_of}
+use Rattle.ir_context.specs.Origins.{origin_of}
 use Rattle.ir_program.specs.Actions.{into_of}
 use Rattle.ir_program.specs.Entries.{entry_names, with_first, firsts_in}
 use Rattle.ir_program.specs.Exits.{entry_origin, move_of}

@@ -14,28 +14,24 @@ use Rattle.ir_core.specs.Kinds.{kind_of}
 use Rattle.ir_core.specs.Counts.{told}
 use Rattle.ir_core.specs.Operands.{function_number}
 use Rattle.ir_core.specs.Calls.{outer_of}
-use Rattle.ir_memory.specs.Registers.{number_of}
-use Rattle.ir_program.specs.declared.origin.Origin.{Origin}
-use Rattle.ir_program.specs.declared.origin.Origin.TheVariants.{Known, Malformed}
-use Rattle.ir_program.specs.declared.path.Path.{Path}
+use Rattle.ir_context.specs.Registers.{number_of}
+use Rattle.ir_context.specs.declared.origin.Origin.{Origin}
+use Rattle.ir_context.specs.declared.origin.Origin.TheVariants.{Known, Malformed}
+use Rattle.ir_context.specs.declared.path.Path.{Path}
 use Rattle.ir_program.specs.declared.action.Action.{Action}
 use Rattle.ir_program.specs.declared.action.Action.TheVariants as does
 use Rattle.ir_program.specs.declared.action.Argument.{Argument}
 use Rattle.ir_program.specs.declared.action.Callee.{Callee}
 use Rattle.ir_program.specs.declared.action.Callee.TheVariants.{Outside, Inside}
 use Rattle.ir_program.specs.declared.action.Task.{Task}
-use Rattle.ir_program.specs.Extents.{extent_of}
-use Rattle.ir_program.specs.Paths.{path_of}
-use Rattle.ir_program.specs.Origins.{register_of, origin_of}
+use Rattle.ir_context.specs.Extents.{extent_of}
+use Rattle.ir_context.specs.Paths.{path_of}
+use Rattle.ir_context.specs.Origins.{register_of, origin_of, arg_origin}
 
 -- the register of a result, where there is one
 abbrev pub into_of : List (List ℕ) → Option (List ℕ) → Option ℕ
 into_of names (Some name) = number_of names name
 into_of names None = None
-
--- an argument or an index by itself
-abbrev pub arg_origin : Module → List (List ℕ) → Arg → Origin
-arg_origin m names a = origin_of m names (kind_of a.ty) a.value
 
 -- an argument of a call
 abbrev pub argument_of : Module → List (List ℕ) → Arg → Argument

@@ -13,15 +13,15 @@ use Rattle.ir_core.specs.declared.kind.Kind.{Kind}
 use Rattle.ir_core.specs.declared.kind.Kind.TheVariants.{Number}
 use Rattle.ir_core.specs.Kinds.{kind_of}
 use Rattle.ir_core.specs.Step.{Choice, choices_of}
-use Rattle.ir_memory.specs.Registers.{number_of}
-use Rattle.ir_program.specs.declared.origin.Origin.{Origin}
-use Rattle.ir_program.specs.declared.origin.Origin.TheVariants.{Malformed}
+use Rattle.ir_context.specs.Registers.{number_of}
+use Rattle.ir_context.specs.declared.origin.Origin.{Origin}
+use Rattle.ir_context.specs.declared.origin.Origin.TheVariants.{Malformed}
 use Rattle.ir_program.specs.declared.exit.Move.{Move}
 use Rattle.ir_program.specs.declared.exit.Edge.{Edge}
 use Rattle.ir_program.specs.declared.exit.Arm.{Arm}
 use Rattle.ir_program.specs.declared.exit.Exit.{Exit}
 use Rattle.ir_program.specs.declared.exit.Exit.TheVariants as ends
-use Rattle.ir_program.specs.Origins.{origin_of}
+use Rattle.ir_context.specs.Origins.{origin_of}
 use Rattle.ir_program.specs.Actions.{into_of}
 
 -- names, and one more that isn't among them yet

@@ -1,6 +1,3 @@
-pub mod Extents
-pub mod Paths
-pub mod Origins
 pub mod Actions
 pub mod Entries
 pub mod Exits

@@ -10,13 +10,13 @@ use Rattle.ir_core.specs.declared.module.Module.{Module}
 use Rattle.ir_core.specs.Names.{same_name}
 use Rattle.ir_core.specs.Kinds.{kind_of}
 use Rattle.ir_core.specs.Step.{Choice, choices_of}
-use Rattle.ir_memory.specs.Registers.{number_of}
-use Rattle.ir_program.specs.declared.origin.Origin.{Origin}
-use Rattle.ir_program.specs.declared.origin.Origin.TheVariants.{Malformed}
+use Rattle.ir_context.specs.Registers.{number_of}
+use Rattle.ir_context.specs.declared.origin.Origin.{Origin}
+use Rattle.ir_context.specs.declared.origin.Origin.TheVariants.{Malformed}
 use Rattle.ir_program.specs.declared.exit.Move.{Move}
 use Rattle.ir_program.specs.declared.exit.Edge.{Edge}
 use Rattle.ir_program.specs.declared.phi.Phi.{Phi}
-use Rattle.ir_program.specs.Origins.{origin_of}
+use Rattle.ir_context.specs.Origins.{origin_of}
 use Rattle.ir_program.specs.Actions.{into_of}
 
 -- a phi that takes nothing from any block

@@ -6,13 +6,13 @@ ghost use Rattle.ir_core.specs.declared.instruction.Case.{Case as OneCase};
 ghost use Rattle.ir_core.specs.declared.kind.Kind.TheVariants.{Number as NumberKind};
 ghost use Rattle.ir_core.specs.Kinds.{kind_of};
 ghost use Rattle.ir_core.specs.Typing.{labels_of};
-ghost use Rattle.ir_program.specs.Origins.{origin_of};
+ghost use Rattle.ir_context.specs.Origins.{origin_of};
 ghost use Rattle.ir_program.specs.Exits.{with_new, no_edge as edge_nowhere, edge_found, edge_to, edge_number, arm_of, exit_of};
 ghost use Rattle.ir_program.specs.Phis.{phi_edge, phis_in};
 
 use crate::action::Resolver;
-use crate::origin::Origin;
 use crate::phi::{Phi, moves_from};
+use ir_context::origin::Origin;
 use ir_core::instruction::{Case, Term};
 use ir_core::kind::Kind;
 use ir_core::names::NameSet;

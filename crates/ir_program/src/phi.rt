@@ -6,7 +6,7 @@ ghost use Rattle.ir_program.specs.Phis.{empty_phi, with_entry, phi_of, phi_with,
 
 use crate::action::{Resolver, into};
 use crate::exit::Move;
-use crate::origin::Origin;
+use ir_context::origin::Origin;
 use ir_core::instruction::{Entry, Inst, Op};
 use ir_core::kind::Kind;
 use ir_core::module::Block;

@@ -10,9 +10,9 @@ ghost use Rattle.ir_program.specs.Phis.{phis_in};
 ghost use Rattle.ir_program.specs.Programs.{register_names, stretch_of, body_of, program_of};
 
 use crate::action::{Resolver, Task};
-use crate::context::Context;
 use crate::exit::{Edge, Exit, Way};
 use crate::phi::Phi;
+use ir_context::context::Context;
 use ir_core::kind::Kind;
 use ir_core::module::{Block, Function, Module, Param};
 use ir_core::names::NameSet;
@@ -98,58 +98,56 @@ fn parameter_kinds(alloc: Global, params: &[Param]) -> Result<List<Kind>, NoMemo
     Ok(kinds)
 }
 
-impl<'a> Context<'a> {
-    /// The blocks of a function.
-    fn blocks(&self, alloc: Global, scope: &Scope) -> Result<List<Stretch>, NoMemory>
-        ensures { IfOk result (λ l. l ≡ map (stretch_of self.now (register_names scope.now)
-            scope.now.blocks) scope.now.blocks) }
-    {
-        let blocks = scope.function().blocks.as_slice();
-        let resolver = Resolver {
-            alloc,
-            context: self,
-            names: scope.locals(),
-        };
-        let rows = resolver.all_phis(blocks)?;
-        resolver.stretches(scope, &rows, blocks)
-    }
+/// The blocks of a function.
+fn blocks(alloc: Global, context: &Context, scope: &Scope) -> Result<List<Stretch>, NoMemory>
+    ensures { IfOk result (λ l. l ≡ map (stretch_of context.now (register_names scope.now)
+        scope.now.blocks) scope.now.blocks) }
+{
+    let blocks = scope.function().blocks.as_slice();
+    let resolver = Resolver {
+        alloc,
+        context,
+        names: scope.locals(),
+    };
+    let rows = resolver.all_phis(blocks)?;
+    resolver.stretches(scope, &rows, blocks)
+}
 
-    /// A function.
-    fn body(&self, alloc: Global, f: &Function) -> Result<Body, NoMemory>
-        requires { repeated [] (local_names f.now) ≡ [] }
-        ensures { IfOk result (λ b. b ≡ body_of self.now f.now) }
-    {
-        let scope = Scope::new(alloc, f)?;
-        let parameters = parameter_kinds(alloc, f.params.as_slice())?;
-        let stretches = self.blocks(alloc, &scope)?;
-        Ok(Body {
-            result: Kind::of(&f.ret),
-            parameters,
-            registers: scope.locals().len(),
-            stretches,
-        })
-    }
+/// A function.
+fn make_body(alloc: Global, context: &Context, f: &Function) -> Result<Body, NoMemory>
+    requires { repeated [] (local_names f.now) ≡ [] }
+    ensures { IfOk result (λ b. b ≡ body_of context.now f.now) }
+{
+    let scope = Scope::new(alloc, f)?;
+    let parameters = parameter_kinds(alloc, f.params.as_slice())?;
+    let stretches = blocks(alloc, context, &scope)?;
+    Ok(Body {
+        result: Kind::of(&f.ret),
+        parameters,
+        registers: scope.locals().len(),
+        stretches,
+    })
+}
 
-    /// The functions of the module.
-    fn bodies(&self, alloc: Global, functions: &[Function]) -> Result<List<Body>, NoMemory>
-        requires { All (λ (f : OneFunction). repeated [] (local_names f) ≡ []) functions.now }
-        ensures { IfOk result (λ l. l ≡ map (body_of self.now) functions.now) }
-    {
-        let mut bodies = List::new(alloc);
-        for f in functions {
-            bodies.add(self.body(alloc, f)?)?;
-        }
-        Ok(bodies)
+/// The functions of the module.
+fn bodies(alloc: Global, context: &Context, functions: &[Function]) -> Result<List<Body>, NoMemory>
+    requires { All (λ (f : OneFunction). repeated [] (local_names f) ≡ []) functions.now }
+    ensures { IfOk result (λ l. l ≡ map (body_of context.now) functions.now) }
+{
+    let mut bodies = List::new(alloc);
+    for f in functions {
+        bodies.add(make_body(alloc, context, f)?)?;
     }
+    Ok(bodies)
+}
 
-    /// The number of the function `main`.
-    fn main(&self, alloc: Global) -> Result<Option<u32>, NoMemory>
-        ensures { IfOk result (λ k. k ≡ function_number self.now (codes "main")) }
-    {
-        let mut name = List::new(alloc);
-        name.append(b"main")?;
-        Ok(self.function(&name))
-    }
+/// The number of the function `main`.
+fn main_of(alloc: Global, context: &Context) -> Result<Option<u32>, NoMemory>
+    ensures { IfOk result (λ k. k ≡ function_number context.now (codes "main")) }
+{
+    let mut name = List::new(alloc);
+    name.append(b"main")?;
+    Ok(context.function(&name))
 }
 
 /// A module with numbers in place of names.
@@ -162,7 +160,7 @@ pub fn resolve(alloc: Global, whole: &Module) -> Result<Program, NoMemory>
     ensures { IfOk result (λ p. p ≡ program_of whole.now) }
 {
     let context = Context::new(alloc, whole)?;
-    let bodies = context.bodies(alloc, whole.functions.as_slice())?;
-    let main = context.main(alloc)?;
+    let bodies = bodies(alloc, &context, whole.functions.as_slice())?;
+    let main = main_of(alloc, &context)?;
     Ok(Program { bodies, main })
 }

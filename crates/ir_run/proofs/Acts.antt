@@ -7,8 +7,8 @@ use Rattle.ir_core.specs.Stops.{Answer, and_then}
 use Rattle.ir_core.specs.Memory.{Memory, store_at, with_alloca}
 use Rattle.ir_core.specs.State as model
 use Rattle.ir_core.specs.Step as step
-use Rattle.ir_program.specs.declared.origin.Origin.{Origin}
-use Rattle.ir_program.specs.Reads.{origin_value}
+use Rattle.ir_context.specs.declared.origin.Origin.{Origin}
+use Rattle.ir_context.specs.Reads.{origin_value}
 use Rattle.ir_run.specs.declared.state.State.{State}
 use Rattle.ir_run.specs.declared.state.Asked.TheVariants.{Nothing}
 use Rattle.ir_run.specs.Turns.{turned, gives, allocates, store_turn, changes, passed}

@@ -20,7 +20,7 @@ use Rattle.ir_core.specs.declared.outer.Outer.TheVariants.{Putchar, Getchar, Exi
 use Rattle.ir_core.specs.Calls.{is_called_as, bound, first_frame}
 use Rattle.ir_core.specs.Calls as call
 use Rattle.ir_program.specs.Programs.{register_names, body_of, program_of}
-use Rattle.ir_memory.specs.Registers.{StandFor}
+use Rattle.ir_context.specs.Registers.{StandFor}
 use Rattle.ir_run.specs.declared.state.Frame.{Frame}
 use Rattle.ir_run.specs.declared.state.State.{State}
 use Rattle.ir_run.specs.declared.state.Asked.TheVariants.{Nothing}

@@ -8,10 +8,10 @@ use Rattle.ir_core.specs.Names.{same_name, number_where}
 use Rattle.ir_core.specs.Stops.{Answer, and_then, found_or, Malformed}
 use Rattle.ir_core.specs.State as model
 use Rattle.ir_core.specs.Step.{Choice, choices_of, given_at_once, in_block, goes_to}
-use Rattle.ir_memory.specs.Registers.{StandFor}
+use Rattle.ir_context.specs.Registers.{StandFor}
 use Rattle.ir_program.specs.declared.exit.Move.{Move}
 use Rattle.ir_program.specs.Exits.{move_of, edge_with, edge_found, edge_at, edge_to}
-use Rattle.ir_program.specs.Reads.{origin_value}
+use Rattle.ir_context.specs.Reads.{origin_value}
 use Rattle.ir_run.specs.declared.state.State.{State}
 use Rattle.ir_run.specs.declared.state.Asked.TheVariants.{Nothing}
 use Rattle.ir_run.specs.Turns.{turned, move_values, with_moves, arrived, edge_turn}

@@ -20,8 +20,8 @@ use Rattle.ir_core.specs.Operands.{value_of}
 use Rattle.ir_core.specs.Step.{choices_of, goes_to, if_true, to_if_equal, switched, terminator_turn}
 use Rattle.ir_program.specs.declared.exit.Edge.{Edge}
 use Rattle.ir_program.specs.Exits.{distinct, edge_to, edge_number, arm_of, exit_of}
-use Rattle.ir_program.specs.Origins.{origin_of}
-use Rattle.ir_program.specs.Reads.{origin_value}
+use Rattle.ir_context.specs.Origins.{origin_of}
+use Rattle.ir_context.specs.Reads.{origin_value}
 use Rattle.ir_run.specs.declared.state.State.{State}
 use Rattle.ir_run.specs.Turns.{goes_along, edge_turn, edge_if, same_number, arm_chosen, exit_turn, return_turn}
 use Rattle.ir_run.specs.Standing.{names_at, FrameStands, Waiting, Meets}

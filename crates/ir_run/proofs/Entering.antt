@@ -12,8 +12,8 @@ use Rattle.ir_core.specs.Kinds.{same_kind, kind_of}
 use Rattle.ir_core.specs.State.{Local}
 use Rattle.ir_core.specs.Calls.{bound, same_kinds, is_called_as}
 use Rattle.ir_core.specs.Valid.{LocalKind, param_kind, results_of, named_locals}
-use Rattle.ir_memory.specs.Registers.{StandFor, register, given, number_of}
-use Rattle.ir_memory.proofs.RegisterLaws.{stands_first}
+use Rattle.ir_context.specs.Registers.{StandFor, register, given, number_of}
+use Rattle.ir_context.proofs.RegisterLaws.{stands_first}
 use Rattle.ir_program.specs.Programs.{register_names}
 
 -- the registers with which a call begins

@@ -7,8 +7,8 @@ use Rattle.ir_core.specs.declared.memory.Value.{Value}
 use Rattle.ir_core.specs.Names.{same_name}
 use Rattle.ir_core.specs.State as model
 use Rattle.ir_core.specs.Step.{past}
-use Rattle.ir_memory.specs.Registers.{StandFor, number_of, with_register}
-use Rattle.ir_memory.proofs.RegisterLaws.{stands_given}
+use Rattle.ir_context.specs.Registers.{StandFor, number_of, with_register}
+use Rattle.ir_context.proofs.RegisterLaws.{stands_given}
 use Rattle.ir_run.specs.declared.state.Frame.{Frame}
 use Rattle.ir_run.specs.Turns.{with_given}
 use Rattle.ir_run.specs.Standing.{names_at, FrameStands, IntoStands}

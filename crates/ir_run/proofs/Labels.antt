@@ -3,9 +3,9 @@ use Rattle.std.proofs.Common.{◌≡◌, ℕ, zero, suc, Bool, true, false, List
 use Rattle.std.specs.Prelude.{option_map, if◌then◌else◌, fold, unwrap_or, not, ◌||◌}
 use Rattle.ir_core.specs.Names.{same_name}
 use Rattle.ir_core.specs.Definitions.{is_among}
-use Rattle.ir_memory.specs.Registers.{number_of}
+use Rattle.ir_context.specs.Registers.{number_of}
 use Rattle.ir_core.proofs.NameSets.{same_name-sym}
-use Rattle.ir_memory.proofs.RegisterLaws.{named_there, same_itself}
+use Rattle.ir_context.proofs.RegisterLaws.{named_there, same_itself}
 use Rattle.ir_program.specs.Exits.{with_new, distinct, edge_number}
 
 -- a name that has a number

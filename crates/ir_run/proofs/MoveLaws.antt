@@ -7,11 +7,11 @@ use Rattle.ir_core.specs.Kinds.{same_kind}
 use Rattle.ir_core.specs.Calls.{same_kinds}
 use Rattle.ir_core.specs.Stops.{Stop, Answer, and_then}
 use Rattle.ir_core.proofs.LoopLaws.{drop_item}
-use Rattle.ir_memory.specs.Registers.{with_register}
+use Rattle.ir_context.specs.Registers.{with_register}
 use Rattle.ir_program.specs.declared.action.Argument.{Argument}
 use Rattle.ir_program.specs.declared.exit.Move.{Move}
 use Rattle.ir_program.specs.declared.exit.Arm.{Arm}
-use Rattle.ir_program.specs.Reads.{origin_value}
+use Rattle.ir_context.specs.Reads.{origin_value}
 use Rattle.ir_run.specs.Turns.{with_moves, same_number, arm_chosen, kinds_in}
 
 -- one move more, in front of those that were done

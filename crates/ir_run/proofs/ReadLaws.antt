@@ -7,8 +7,9 @@ use Rattle.ir_core.specs.Stops.{Stop, Answer, and_then}
 use Rattle.ir_core.proofs.LoopLaws.{drop_item}
 use Rattle.ir_program.specs.declared.action.Argument.{Argument}
 use Rattle.ir_program.specs.declared.exit.Move.{Move}
-use Rattle.ir_program.specs.declared.path.Stride.{Stride}
-use Rattle.ir_program.specs.Reads.{origin_value, argument_values, stride_values}
+use Rattle.ir_context.specs.declared.path.Stride.{Stride}
+use Rattle.ir_context.specs.Reads.{origin_value, stride_values}
+use Rattle.ir_program.specs.Reads.{argument_values}
 use Rattle.ir_run.specs.Turns.{move_values}
 
 -- values behind those that were read

@@ -15,7 +15,7 @@ use Rattle.ir_core.specs.Operands.{function_number}
 use Rattle.ir_core.specs.Calls.{bound, first_frame}
 use Rattle.ir_core.specs.Globals.{first_objects}
 use Rattle.ir_core.specs.Run.{first_arguments, standing, start_in, start_at, source_start}
-use Rattle.ir_memory.specs.Registers.{StandFor}
+use Rattle.ir_context.specs.Registers.{StandFor}
 use Rattle.ir_program.specs.declared.program.Body.{Body}
 use Rattle.ir_program.specs.declared.program.Program.{Program}
 use Rattle.ir_program.specs.Programs.{register_names, body_of}

@@ -9,10 +9,10 @@ use Rattle.ir_core.specs.Stops.{Stop, Answer, and_then}
 use Rattle.ir_core.specs.Pointers.{moved_pointer}
 use Rattle.ir_core.specs.Operands.{index_word}
 use Rattle.ir_core.specs.Words.{low_word}
-use Rattle.ir_program.specs.declared.origin.Origin.{Origin}
-use Rattle.ir_program.specs.declared.path.Path.{Path}
-use Rattle.ir_program.specs.declared.path.Stride.{Stride}
-use Rattle.ir_program.specs.Reads.{origin_value, stride_values, stride_bytes, moved_along}
+use Rattle.ir_context.specs.declared.origin.Origin.{Origin}
+use Rattle.ir_context.specs.declared.path.Path.{Path}
+use Rattle.ir_context.specs.declared.path.Stride.{Stride}
+use Rattle.ir_context.specs.Reads.{origin_value, stride_values, stride_bytes, moved_along}
 use Rattle.ir_run.specs.Strides.{stride_word, stride_total}
 
 -- a product of low words

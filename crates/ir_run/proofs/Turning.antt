@@ -25,14 +25,14 @@ use Rattle.ir_core.specs.Calls.{Target, target_of, call_turn}
 use Rattle.ir_core.specs.Calls as target
 use Rattle.ir_core.specs.Step.{past, choices_of, result_of, instruction_turn, turn_at, turn_of}
 use Rattle.ir_core.specs.Step as step
-use Rattle.ir_program.specs.declared.origin.Origin.{Origin}
-use Rattle.ir_program.specs.declared.path.Path.{Path}
+use Rattle.ir_context.specs.declared.origin.Origin.{Origin}
+use Rattle.ir_context.specs.declared.path.Path.{Path}
 use Rattle.ir_program.specs.declared.program.Program.{Program}
 use Rattle.ir_program.specs.Reads.{argument_values}
-use Rattle.ir_program.specs.Extents.{extent_of}
-use Rattle.ir_program.specs.Paths.{path_of}
-use Rattle.ir_program.specs.Origins.{origin_of}
-use Rattle.ir_program.specs.Actions.{into_of, arg_origin, argument_of, move_by, action_of, task_of}
+use Rattle.ir_context.specs.Extents.{extent_of}
+use Rattle.ir_context.specs.Paths.{path_of}
+use Rattle.ir_context.specs.Origins.{origin_of, arg_origin}
+use Rattle.ir_program.specs.Actions.{into_of, argument_of, move_by, action_of, task_of}
 use Rattle.ir_program.specs.Programs.{register_names, stretch_of, body_of, program_of}
 use Rattle.ir_run.specs.declared.state.State.{State}
 use Rattle.ir_run.specs.Turns.{passed, kinds_in, action_value, value_turn, target_turn, action_turn, task_turn, next_turn}

@@ -23,13 +23,14 @@ use Rattle.ir_core.specs.State.{Local}
 use Rattle.ir_core.specs.Operands.{value_of, values_of}
 use Rattle.ir_core.specs.Calls.{target_of}
 use Rattle.ir_core.specs.Step.{Choice, choices_of, chosen, result_of}
-use Rattle.ir_memory.specs.Registers.{StandFor}
-use Rattle.ir_program.specs.Extents.{extent_of}
-use Rattle.ir_program.specs.Origins.{origin_of}
+use Rattle.ir_context.specs.Registers.{StandFor}
+use Rattle.ir_context.specs.Extents.{extent_of}
+use Rattle.ir_context.specs.Origins.{origin_of}
 use Rattle.ir_program.specs.Actions.{into_of, callee_of, argument_of, action_of}
 use Rattle.ir_program.specs.Exits.{move_of}
 use Rattle.ir_program.specs.Programs.{register_names}
-use Rattle.ir_program.specs.Reads.{origin_value, argument_values, callee_target}
+use Rattle.ir_context.specs.Reads.{origin_value}
+use Rattle.ir_program.specs.Reads.{argument_values, callee_target}
 use Rattle.ir_run.specs.Turns.{action_value}
 use Rattle.ir_run.specs.Standing.{IntoStands}
 

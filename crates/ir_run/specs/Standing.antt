@@ -18,7 +18,7 @@ use Rattle.ir_core.specs.Stops.{Answer, Malformed}
 use Rattle.ir_core.specs.Operands.{values_of}
 use Rattle.ir_core.specs.declared.outer.Outer.TheVariants.{Memset}
 use Rattle.ir_core.specs.Calls.{Outside, target_of}
-use Rattle.ir_memory.specs.Registers.{StandFor, number_of}
+use Rattle.ir_context.specs.Registers.{StandFor, number_of}
 use Rattle.ir_program.specs.Programs.{register_names}
 use Rattle.ir_run.specs.declared.state.Frame.{Frame}
 use Rattle.ir_run.specs.declared.state.State.{State}

@@ -5,8 +5,8 @@ use Rattle.ir_core.specs.Stops.{Answer, and_then}
 use Rattle.ir_core.specs.Operands.{index_word}
 use Rattle.ir_core.specs.declared.stop.Stop.{Stop}
 use Rattle.ir_core.specs.Answers.{stop_of}
-use Rattle.ir_program.specs.declared.path.Stride.{Stride}
-use Rattle.ir_program.specs.Reads.{origin_value, stride_values}
+use Rattle.ir_context.specs.declared.path.Stride.{Stride}
+use Rattle.ir_context.specs.Reads.{origin_value, stride_values}
 
 -- bytes of one stride
 abbrev pub stride_word : List (Option Value) → Stride → Answer ℕ

@@ -14,8 +14,8 @@ use Rattle.ir_core.specs.declared.outer.Outer.TheVariants.{Putchar, Getchar, Exi
 use Rattle.ir_core.specs.Calls.{same_kinds, last_result, Target}
 use Rattle.ir_core.specs.Calls as target
 use Rattle.ir_core.specs.Step.{binary_value, compared_value, cast_value, selected}
-use Rattle.ir_memory.specs.Registers.{with_register}
-use Rattle.ir_program.specs.declared.origin.Origin.{Origin}
+use Rattle.ir_context.specs.Registers.{with_register}
+use Rattle.ir_context.specs.declared.origin.Origin.{Origin}
 use Rattle.ir_program.specs.declared.action.Action.{Action}
 use Rattle.ir_program.specs.declared.action.Action.TheVariants as does
 use Rattle.ir_program.specs.declared.action.Argument.{Argument}
@@ -28,7 +28,8 @@ use Rattle.ir_program.specs.declared.exit.Exit.TheVariants as ends
 use Rattle.ir_program.specs.declared.program.Stretch.{Stretch}
 use Rattle.ir_program.specs.declared.program.Body.{Body}
 use Rattle.ir_program.specs.declared.program.Program.{Program}
-use Rattle.ir_program.specs.Reads.{origin_value, argument_values, callee_target, moved_along}
+use Rattle.ir_context.specs.Reads.{origin_value, moved_along}
+use Rattle.ir_program.specs.Reads.{argument_values, callee_target}
 use Rattle.ir_run.specs.declared.state.Frame.{Frame}
 use Rattle.ir_run.specs.declared.state.State.{State}
 use Rattle.ir_run.specs.declared.state.Asked.{Asked}

@@ -3,21 +3,21 @@
 ghost use Rattle.std.specs.Prelude.{◌≡◌, ◌+◌, ◌%◌, ◌^◌, ◌<◌, Ok, IfOk};
 ghost use Rattle.ir_core.specs.Stops.{and_then};
 ghost use Rattle.ir_core.specs.Answers.{answered};
-ghost use Rattle.ir_program.specs.Reads.{moved_along};
+ghost use Rattle.ir_context.specs.Reads.{moved_along};
 ghost use Rattle.ir_run.specs.Strides.{AreRead, stride_word, stride_total};
 ghost use Rattle.ir_run.specs.Turns.{action_value};
 
 use crate::reading::value;
+use ir_context::origin::Origin;
+use ir_context::path::{Path, Stride};
+use ir_context::registers::Registers;
 use ir_core::memory::Value;
 use ir_core::stop::Stop;
 use ir_core::values::index_word;
 use ir_memory::memory::Memory;
 use ir_memory::pointer::moved;
-use ir_memory::registers::Registers;
 use ir_memory::values::{binary_value, cast_value, compared_value, selected};
 use ir_program::action::Action;
-use ir_program::origin::Origin;
-use ir_program::path::{Path, Stride};
 
 /// The indices of strides are read before any of them is a number.
 fn read_indices(registers: &Registers, strides: &[Stride]) -> Result<(), Stop>

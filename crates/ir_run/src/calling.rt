@@ -11,12 +11,12 @@ ghost use Rattle.ir_run.specs.Turns.{kinds_in, is_entered_as, entered, body_turn
 use crate::fault::Fault;
 use crate::stack::Stack;
 use crate::state::{Asked, Frame, State};
+use ir_context::registers::Registers;
 use ir_core::MAX_CALLS;
 use ir_core::kind::Kind;
 use ir_core::memory::{Reason, Value};
 use ir_core::stop::Stop;
 use ir_memory::memory::Memory;
-use ir_memory::registers::Registers;
 use ir_memory::values::last_result;
 use ir_program::action::Argument;
 use ir_program::program::{Body, Program};

@@ -6,18 +6,18 @@ ghost use Rattle.std.specs.Prelude.{◌≡◌, []};
 ghost use Rattle.ir_core.specs.Stops.{and_then};
 ghost use Rattle.ir_core.specs.Answers.{answered};
 ghost use Rattle.ir_program.specs.declared.exit.Exit.TheVariants.{Branch as BranchExit, Switch as SwitchExit};
-ghost use Rattle.ir_program.specs.Reads.{origin_value};
+ghost use Rattle.ir_context.specs.Reads.{origin_value};
 ghost use Rattle.ir_run.specs.Answers.{Turns};
 ghost use Rattle.ir_run.specs.Turns.{with_moves, edge_turn, goes_along, edge_if as edge_by, same_number, arm_chosen, arrived, exit_turn};
 
 use crate::fault::Fault;
 use crate::reading::{read_moves, value};
 use crate::state::{Asked, State};
+use ir_context::origin::Origin;
+use ir_context::registers::Registers;
 use ir_core::memory::{Reason, Value};
 use ir_core::stop::Stop;
-use ir_memory::registers::Registers;
 use ir_program::exit::{Arm, Edge, Exit, Move};
-use ir_program::origin::Origin;
 use std::alloc::Global;
 
 /// Gives values to the registers of phis. The first phi of a register gives it its value.

@@ -4,17 +4,18 @@
 
 ghost use Rattle.std.specs.Prelude.{◌≡◌};
 ghost use Rattle.ir_core.specs.Answers.{answered};
-ghost use Rattle.ir_program.specs.Reads.{origin_value, argument_values};
+ghost use Rattle.ir_context.specs.Reads.{origin_value};
+ghost use Rattle.ir_program.specs.Reads.{argument_values};
 ghost use Rattle.ir_run.specs.Answers.{Puts, Tells};
 ghost use Rattle.ir_run.specs.Turns.{move_values};
 
 use crate::fault::Fault;
+use ir_context::origin::Origin;
+use ir_context::registers::Registers;
 use ir_core::memory::{Reason, Value};
 use ir_core::stop::Stop;
-use ir_memory::registers::Registers;
 use ir_program::action::Argument;
 use ir_program::exit::Move;
-use ir_program::origin::Origin;
 
 /// The value of an origin. Takes no memory.
 pub fn value(registers: &Registers, origin: Origin) -> Result<Value, Stop>

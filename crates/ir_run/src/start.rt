@@ -5,9 +5,9 @@ ghost use Rattle.ir_run.specs.Starts.{arguments_for, started, Starts};
 
 use crate::stack::Stack;
 use crate::state::{Frame, State};
+use ir_context::registers::Registers;
 use ir_core::memory::Value;
 use ir_memory::memory::Memory;
-use ir_memory::registers::Registers;
 use ir_program::program::{Body, Program};
 use rd_num::width::{NoMemory, Width};
 use std::alloc::Global;

@@ -1,8 +1,8 @@
 //! The calls and the memory of a run.
 
 use crate::stack::Stack;
+use ir_context::registers::Registers;
 use ir_memory::memory::Memory;
-use ir_memory::registers::Registers;
 
 /// A call that is active: where it stands, its registers, the objects that its allocas made, and
 /// the register of its caller that gets its result.

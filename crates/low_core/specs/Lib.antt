@@ -4,6 +4,7 @@ pub mod Shaped
 pub mod Flat
 pub mod SelParts
 pub mod Plan
+pub mod Placing
 pub mod SelState
 pub mod SelStep
 pub mod SelRun

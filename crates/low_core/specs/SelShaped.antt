@@ -1,5 +1,5 @@
 -- What each pass may ask of a program of registers: numbers have what they name, widths and counts fit, limits are kept.
-use Rattle.std.specs.Prelude.{◌≡◌, ℕ, ◌+◌, ◌<◌, ◌≤◌, ◌⊎◌, List, [], ◌∷◌, length, All, true, slice_get, Option, Some, None}
+use Rattle.std.specs.Prelude.{◌≡◌, ℕ, ◌+◌, ◌^◌, ◌<◌, ◌≤◌, ◌⊎◌, List, [], ◌∷◌, length, All, true, slice_get, Option, Some, None}
 use Rattle.rd_num.specs.declared.width.Width.{Width}
 use Rattle.rd_num.specs.declared.width.Width.TheVariants.{W1, W8, W16, W32, W64}
 use Rattle.rd_num.specs.Number.{bits}
@@ -10,7 +10,7 @@ use Rattle.low_core.specs.declared.sel.Which.{Which}
 use Rattle.low_core.specs.declared.sel.Which.TheVariants.{Putchar, Getchar, Exit, Memcpy, Memset}
 use Rattle.low_core.specs.declared.sel.Which.TheVariants as outer
 use Rattle.low_core.specs.declared.sel.SelOp.{SelOp}
-use Rattle.low_core.specs.declared.sel.SelOp.TheVariants.{Alu, Div, Widen, Load, Store, FrameAt, FunctionAt, Call, Outside}
+use Rattle.low_core.specs.declared.sel.SelOp.TheVariants.{Set, Alu, Div, Widen, Load, Store, FrameAt, FunctionAt, Call, Outside}
 use Rattle.low_core.specs.declared.sel.SelEnd.{SelEnd}
 use Rattle.low_core.specs.declared.sel.SelEnd.TheVariants.{Ret}
 use Rattle.low_core.specs.declared.sel.SelBlock.{SelBlock}
@@ -65,8 +65,9 @@ pub record IsCallOf (sel : Sel) (f arguments : ℕ) : Type 0 where
   pub stands : slice_get sel.functions f ≡ Some fn
   pub params : length fn.params ≡ arguments
 
--- what an operation names besides registers, and its widths
+-- what an operation names besides registers, its widths, and a number as a word
 abbrev pub OpFits : Sel → SelFun → SelOp → Type 0
+OpFits sel f (Set r n) = n < 2 ^ 64
 OpFits sel f (Alu op w r s t) = AluFits op w
 OpFits sel f (Div signed rest w r s t) = IsWide w
 OpFits sel f (Widen signed from to r s) = bits from ≤ bits to

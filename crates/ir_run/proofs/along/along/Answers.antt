@@ -1,8 +1,8 @@
 use Rattle.std.proofs.Common.{◌≡◌, subst, List, true}
 use Rattle.std.specs.Prelude.{is_ok}
 use Rattle.ir_core.specs.Answers.{stop_of, answered}
-use Rattle.ir_program.specs.declared.path.Stride.{Stride}
-use Rattle.ir_program.specs.Reads.{stride_values}
+use Rattle.ir_context.specs.declared.path.Stride.{Stride}
+use Rattle.ir_context.specs.Reads.{stride_values}
 use Rattle.ir_run.proofs.StrideLaws.{moves_along, sum_stops_along}
 use Rattle.ir_run.proofs.along.along.Goals as goal
 

@@ -2,8 +2,8 @@ use Rattle.std.proofs.Common.{◌≡◌, ◌≤◌, ◌∙◌, length, ap, arith
 use Rattle.rd_num.specs.declared.width.Width.TheVariants.{W1}
 use Rattle.ir_core.specs.declared.memory.Value.TheVariants.{Num}
 use Rattle.ir_core.specs.Answers.{stop_of}
-use Rattle.ir_program.specs.declared.origin.Origin.TheVariants.{Known}
-use Rattle.ir_program.specs.declared.path.Stride.{Stride}
+use Rattle.ir_context.specs.declared.origin.Origin.TheVariants.{Known}
+use Rattle.ir_context.specs.declared.path.Stride.{Stride}
 use Rattle.ir_run.proofs.StrideLaws.{no_more_strides, stride_stops_in}
 use Rattle.ir_run.proofs.along.path_bytes.Goals as goal
 

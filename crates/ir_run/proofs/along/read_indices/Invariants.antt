@@ -1,6 +1,6 @@
 -- what is left decides
 use Rattle.std.proofs.Common.{◌≡◌, drop}
-use Rattle.ir_program.specs.Reads.{stride_values}
+use Rattle.ir_context.specs.Reads.{stride_values}
 use Rattle.ir_run.proofs.ReadLaws.{told_by}
 use Rattle.ir_run.proofs.along.read_indices.Given as goal
 

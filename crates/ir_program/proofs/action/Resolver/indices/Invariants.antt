@@ -1,6 +1,6 @@
 -- the indices so far
 use Rattle.std.proofs.Common.{◌≡◌, map, take}
-use Rattle.ir_program.specs.Actions.{arg_origin}
+use Rattle.ir_context.specs.Origins.{arg_origin}
 use Rattle.ir_program.proofs.action.Resolver.indices.Given as goal
 
 abbrev pub invariant-loop-a : goal.invariant-loop-a

@@ -1,0 +1,14 @@
+pub mod NumberLaws
+pub mod RegisterLaws
+pub mod Places
+pub mod Apart
+pub mod ValueLaws
+pub mod SettleLaws
+pub mod ShapeLaws
+pub mod OpenLaws
+pub mod PathLaws
+pub mod LeadLaws
+pub mod WideLaws
+pub mod PlaceLaws
+pub mod MoveLaws
+pub mod OperandLaws

@@ -1,0 +1,6 @@
+-- the rows so far are equal
+use Rattle.std.proofs.Common.{◌≡◌, take}
+use Rattle.ir_context.proofs.extents.same_rows.Given as goal
+
+abbrev pub invariant-loop-i : goal.invariant-loop-i
+invariant-loop-i l = take l.i l.a ≡ take l.i l.b

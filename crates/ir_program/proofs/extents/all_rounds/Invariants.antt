@@ -1,7 +1,0 @@
--- the rows after so many rounds
-use Rattle.std.proofs.Common.{◌≡◌}
-use Rattle.ir_core.specs.Sizes.{rows_after}
-use Rattle.ir_program.proofs.extents.all_rounds.Given as goal
-
-abbrev pub invariant-loop-round : goal.invariant-loop-round
-invariant-loop-round l = l.rows ≡ rows_after l.types l._round

@@ -1,6 +1,0 @@
--- the rows so far are equal
-use Rattle.std.proofs.Common.{◌≡◌, take}
-use Rattle.ir_program.proofs.extents.same_rows.Given as goal
-
-abbrev pub invariant-loop-i : goal.invariant-loop-i
-invariant-loop-i l = take l.i l.a ≡ take l.i l.b
