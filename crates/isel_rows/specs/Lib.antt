@@ -1,0 +1,6 @@
+pub mod Variables
+pub mod Brought
+pub mod Rows
+pub mod Calls
+pub mod Functions
+pub mod Selected

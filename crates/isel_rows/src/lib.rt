@@ -1,0 +1,6 @@
+//! The operations on numbered registers that the instructions of a program without switches become.
+//!
+//! A variable has a register of its own, and words on their way pass through a few more. Which
+//! operations an instruction becomes stands in `specs/Rows` and `specs/Calls`, and the whole program in
+//! `specs/Selected`.
+#![tactic(auto)]
