@@ -1,4 +1,5 @@
 pub mod Variables
+pub mod Kept
 pub mod Brought
 pub mod Rows
 pub mod Calls

@@ -4,3 +4,5 @@
 //! operations an instruction becomes stands in `specs/Rows` and `specs/Calls`, and the whole program in
 //! `specs/Selected`.
 #![tactic(auto)]
+
+pub mod variables;
