@@ -5,4 +5,6 @@
 //! `specs/Selected`.
 #![tactic(auto)]
 
+pub mod brought;
+pub mod selector;
 pub mod variables;
