@@ -6,5 +6,8 @@
 #![tactic(auto)]
 
 pub mod brought;
+pub mod calls;
+pub mod moving;
+pub mod rows;
 pub mod selector;
 pub mod variables;
