@@ -1,1 +1,2 @@
 pub mod VariableLaws
+pub mod AllocaLaws

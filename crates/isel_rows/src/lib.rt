@@ -5,6 +5,7 @@
 //! `specs/Selected`.
 #![tactic(auto)]
 
+pub mod block;
 pub mod brought;
 pub mod calls;
 pub mod moving;
