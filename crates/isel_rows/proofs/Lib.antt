@@ -1,2 +1,5 @@
 pub mod VariableLaws
 pub mod AllocaLaws
+pub mod CountLaws
+pub mod ListLaws
+pub mod FunctionLaws

@@ -8,6 +8,7 @@
 pub mod block;
 pub mod brought;
 pub mod calls;
+pub mod function;
 pub mod moving;
 pub mod rows;
 pub mod selector;
