@@ -3,3 +3,4 @@ pub mod AllocaLaws
 pub mod CountLaws
 pub mod ListLaws
 pub mod FunctionLaws
+pub mod SymbolLaws

@@ -5,3 +5,4 @@ pub mod Rows
 pub mod Calls
 pub mod Functions
 pub mod Selected
+pub mod Symbols

@@ -12,4 +12,5 @@ pub mod function;
 pub mod moving;
 pub mod rows;
 pub mod selector;
+pub mod symbols;
 pub mod variables;
