@@ -4,3 +4,4 @@ pub mod CountLaws
 pub mod ListLaws
 pub mod FunctionLaws
 pub mod SymbolLaws
+pub mod SameLaws
