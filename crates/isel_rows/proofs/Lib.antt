@@ -5,3 +5,4 @@ pub mod ListLaws
 pub mod FunctionLaws
 pub mod SymbolLaws
 pub mod SameLaws
+pub mod ProgramLaws
