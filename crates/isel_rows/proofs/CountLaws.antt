@@ -1,5 +1,5 @@
 -- The greatest of counts, and numbers in order.
-use Rattle.std.proofs.Common.{◌≡◌, ℕ, zero, suc, ◌+◌, ◌-◌, ◌<◌, List, [], ◌∷◌, ◌++◌, max, refl, ap, subst, arith}
+use Rattle.std.proofs.Common.{◌≡◌, ℕ, zero, suc, ◌+◌, ◌-◌, ◌<◌, List, [], ◌∷◌, ◌++◌, max, ap, arith}
 use Rattle.std.specs.List.{flat_map}
 use Rattle.ir_core.specs.Counts.{greatest}
 use Rattle.isel_rows.specs.Functions.{numbers_from}

@@ -1,8 +1,7 @@
 -- A base with bodies: its functions have their names, and its values are named in its globals and in the bodies.
-use Rattle.std.proofs.Common.{◌≡◌, ℕ, suc, List, [], ◌∷◌, ◌++◌, Bool, true, false, ◌||◌, map, length, Option, Some, refl, ap, sym, ◌∙◌, arith, if◌then◌else◌}
-use Rattle.std.specs.Prelude.{option_map, not}
+use Rattle.std.proofs.Common.{◌≡◌, ℕ, suc, List, [], ◌∷◌, ◌++◌, Bool, true, false, ◌||◌, map, length, Some, refl, ap, sym, ◌∙◌, arith, if◌then◌else◌, Bor}
+use Rattle.std.specs.Prelude.{option_map, not, codes}
 use Rattle.std.specs.List.{All, flat_map, list_any}
-use Rattle.std.proofs.lemmas.Grind.{flat_map-append}
 use Rattle.std.proofs.lemmas.List.{append-nil}
 use Rattle.std.proofs.lemmas.List.Elements.{All-nil, All-cons, All-head, All-tail}
 use Rattle.std.proofs.lemmas.List.Folds.{list_any-append}
@@ -15,8 +14,8 @@ use Rattle.ir_core.specs.declared.module.Module.{Module}
 use Rattle.ir_core.specs.declared.module.Param.{Param}
 use Rattle.ir_core.specs.declared.ty.NamedTy.{NamedTy}
 use Rattle.ir_core.specs.declared.ty.Ty.{Ty}
-use Rattle.ir_core.specs.Definitions.{repeated, label_names}
-use Rattle.ir_core.specs.Mentions.{Mention, OfType, OfLabel, OfLocal, OfCallee, OfBase, OfSymbol, of_op, of_end, of_block, of_function, of_init, of_global, of_extern, outside_functions, mentions}
+use Rattle.ir_core.specs.Definitions.{repeated}
+use Rattle.ir_core.specs.Mentions.{Mention, OfType, OfLabel, OfLocal, OfCallee, OfBase, OfSymbol, of_op, of_end, of_block, of_function, of_global, of_extern, mentions}
 use Rattle.ir_core.specs.Names.{same_name, number_where}
 use Rattle.ir_core.specs.Operands.{function_number}
 use Rattle.ir_core.proofs.NameSets.{same_name-sym}
@@ -26,8 +25,13 @@ use Rattle.low_core.specs.declared.moves.Chunk.{Chunk}
 use Rattle.low_core.specs.declared.moves.Move.{Move}
 use Rattle.low_core.specs.Plain.{op_of, inst_of, block_of, with_blocks, with_bodies, plain}
 use Rattle.low_core.specs.Shaped.{IsFunctionShaped}
-use Rattle.isel_rows.specs.Selected.{is_value_of, is_taken}
-use Rattle.isel_rows.specs.Symbols.{symbol_of, symbols_in, move_symbols, chunk_symbols, body_symbols, global_symbols}
+use Rattle.low_core.specs.declared.sel.Sel.{Sel}
+use Rattle.low_core.specs.declared.sel.SelFun.{SelFun}
+use Rattle.isel_rows.specs.Functions.{function_selected}
+use Rattle.isel_rows.specs.Selected.{is_value_of, is_taken, selected}
+use Rattle.isel_rows.specs.Variables.{number_or_first}
+use Rattle.isel_rows.proofs.SameLaws.{functions_same}
+use Rattle.isel_rows.specs.Symbols.{symbols_in, move_symbols, chunk_symbols, body_symbols, global_symbols}
 use Rattle.isel_rows.proofs.SymbolLaws.{both_symbols}
 
 -- functions keep their names
@@ -96,8 +100,8 @@ in_module base bodies e =
     let functions = flat_map of_function (with_bodies base.functions bodies) in
     both_symbols (types ++ (globals ++ externs)) functions
     ∙ ap (λ ns. ns ++ symbols_in functions)
-        (both_symbols types (globals ++ externs) ∙ ap (λ ns. ns ++ symbols_in (globals ++ externs)) (none_in_types base.types)
-        ∙ both_symbols globals externs ∙ ap (λ ns. symbols_in globals ++ ns) (none_in_externs base.externs) ∙ append-nil (symbols_in globals) ∙ in_globals base.globals)
+    (both_symbols types (globals ++ externs) ∙ ap (λ ns. ns ++ symbols_in (globals ++ externs)) (none_in_types base.types)
+    ∙ both_symbols globals externs ∙ ap (λ ns. symbols_in globals ++ ns) (none_in_externs base.externs) ∙ append-nil (symbols_in globals) ∙ in_globals base.globals)
     ∙ ap (λ ns. flat_map global_symbols base.globals ++ ns) (in_functions base.functions bodies e)
 
 -- a name is used where it is among them
@@ -140,6 +144,7 @@ one_more_name set names n false are is name =
         was : (b : Bool) → list_any (same_name n) set ≡ b → false ≡ not b → list_any (same_name n) set ≡ true
         was true e f = e
         was false e f = absurd (cc)
+
     there : (b : Bool) → same_name name n ≡ b → list_any (same_name name) set ≡ (list_any (same_name name) names || (b || false))
     there true e = ap (λ x. list_any (same_name x) set) (name_is name n e) ∙ has ∙ sym (or_true (list_any (same_name name) names))
       where
@@ -167,3 +172,32 @@ labels_of_bodies own m (f ∷ fs) (b ∷ bs) e all =
     labels_are : (cs : List Chunk) → map (λ (c : Chunk). c.label) cs ≡ map (λ (x : Block). x.label) (map block_of cs)
     labels_are [] = refl
     labels_are (c ∷ cs) = ap (λ l. c.label ∷ l) (labels_are cs)
+
+pub more_names : (ks : List (Bor (List ℕ))) (k : Bor (List ℕ)) → map (λ (x : Bor (List ℕ)). x.now) (ks ++ k ∷ []) ≡ map (λ (x : Bor (List ℕ)). x.now) ks ++ k.now ∷ []
+more_names [] k = refl
+more_names (x ∷ xs) k = ap (λ ns. x.now ∷ ns) (more_names xs k)
+
+-- a program by its parts
+pub whole_program : (base : Module) (bodies : List Body) → length bodies ≡ length base.functions → (functions : List SelFun) (main : ℕ) (taken : List Bool) →
+    functions ≡ map (function_selected base) (with_bodies base.functions bodies) → main ≡ number_or_first (function_number base (codes "main")) →
+    taken ≡ map (is_taken (plain base bodies)) (plain base bodies).functions →
+    let s : Sel = record { functions = functions; main = main; taken = taken } in s ≡ selected base bodies
+unfolding selected
+whole_program base bodies e functions main taken made named used =
+    parts functions (map (function_selected (plain base bodies)) (plain base bodies).functions) main _ taken _
+    (made ∙ sym (functions_same base (with_bodies base.functions bodies) (agreed base bodies e) (with_bodies base.functions bodies)))
+    (named ∙ ap number_or_first (sym (agreed base bodies e (codes "main")))) used
+  where
+    parts : (fs gs : List SelFun) (k l : ℕ) (ts us : List Bool) → fs ≡ gs → k ≡ l → ts ≡ us →
+        let s : Sel = record { functions = fs; main = k; taken = ts } in let t : Sel = record { functions = gs; main = l; taken = us } in s ≡ t
+    parts fs gs k l ts us a b d = cc
+
+pub names_of_functions : (fs : List Function) (bs : List Body) → length bs ≡ length fs → map (λ (f : Function). f.name) (with_bodies fs bs) ≡ map (λ (f : Function). f.name) fs
+names_of_functions [] bs e = refl
+names_of_functions (f ∷ fs) [] e = absurd (omega (arith, e))
+names_of_functions (f ∷ fs) (b ∷ bs) e = ap (λ ns. f.name ∷ ns) (names_of_functions fs bs (omega (arith, e)))
+
+pub length_of_bodies : (fs : List Function) (bs : List Body) → length bs ≡ length fs → length (with_bodies fs bs) ≡ length fs
+length_of_bodies [] bs e = refl
+length_of_bodies (f ∷ fs) [] e = absurd (omega (arith, e))
+length_of_bodies (f ∷ fs) (b ∷ bs) e = ap suc (length_of_bodies fs bs (omega (arith, e)))

@@ -1,5 +1,5 @@
 -- What is selected asks of a module its types, its globals, and the numbers of its functions alone.
-use Rattle.std.proofs.Common.{◌≡◌, ℕ, ◌+◌, List, [], ◌∷◌, ◌++◌, map, take, length, Option, Some, None, refl, ap, sym, ◌∙◌}
+use Rattle.std.proofs.Common.{◌≡◌, ℕ, ◌+◌, List, [], ◌∷◌, ◌++◌, map, take, length, Option, Some, None, refl, ap, ◌∙◌}
 use Rattle.rd_num.specs.declared.width.Width.TheVariants.{W1}
 use Rattle.ir_core.specs.declared.instruction.Arg.{Arg}
 use Rattle.ir_core.specs.declared.instruction.Inst.{Inst}
@@ -147,8 +147,8 @@ module _ (m : Module) (fs : List Function) (agree : (name : List ℕ) → functi
   block_same vs labels at b =
       let c = closing_same vs labels b.end in
       both_ended _ _ _ _
-        (ap (λ ops. ops ++ (closing_of (record m { functions = fs }) vs labels b.end).ops) (insts_same vs at b.insts) ∙ ap (λ (x : Closing). insts_ops m vs at b.insts ++ x.ops) c)
-        (ap (λ (x : Closing). x.end) c)
+      (ap (λ ops. ops ++ (closing_of (record m { functions = fs }) vs labels b.end).ops) (insts_same vs at b.insts) ∙ ap (λ (x : Closing). insts_ops m vs at b.insts ++ x.ops) c)
+      (ap (λ (x : Closing). x.end) c)
 
   blocks_same : (vs : List LocalKind) (labels : List (List ℕ)) (at : ℕ) (bs : List Block) → blocks_selected (record m { functions = fs }) vs labels at bs ≡ blocks_selected m vs labels at bs
   blocks_same vs labels at [] = refl

@@ -94,7 +94,10 @@ fn registers_count(variables: &Variables, f: &Function, b: &Body) -> Result<u32,
 {
     let most = most_arguments_in(b.chunks.as_slice());
     let own = variables.argument_register(REGISTER_PARAMETERS)?;
-    farther(own, small(most.saturating_sub(REGISTER_PARAMETERS as usize))?)
+    farther(
+        own,
+        small(most.saturating_sub(REGISTER_PARAMETERS as usize))?,
+    )
 }
 
 /// The labels of chunks, none of which stands twice.

@@ -10,6 +10,7 @@ pub mod brought;
 pub mod calls;
 pub mod function;
 pub mod moving;
+pub mod program;
 pub mod rows;
 pub mod selector;
 pub mod symbols;

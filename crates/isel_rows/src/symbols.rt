@@ -3,8 +3,9 @@
 //! Names are lent, and kept in the order in which they are mentioned, as often as they are. Contracts
 //! see `Symbols` as the list of names.
 
-ghost use Rattle.std.specs.Prelude.{◌≡◌, ◌++◌, ◌∷◌, [], OnOk};
-ghost use Rattle.std.specs.List.{flat_map};
+ghost use Rattle.std.specs.Prelude.{◌≡◌, ◌++◌, ◌∷◌, [], ℕ, List, map, IfOk, OnOk};
+ghost use Rattle.std.specs.List.{flat_map, list_any};
+ghost use Rattle.ir_core.specs.Names.{same_name};
 ghost use Rattle.ir_core.specs.Mentions.{of_operand, of_callee, of_op, of_end, of_init};
 ghost use Rattle.low_core.specs.Plain.{op_of};
 ghost use Rattle.isel_rows.specs.Symbols.{symbols_in, arg_symbols, entry_symbols, case_symbols};
@@ -14,6 +15,7 @@ ghost use Rattle.isel_rows.specs.Symbols.{element_symbols, global_symbols};
 use ir_core::init::{Elem, Init};
 use ir_core::instruction::{Arg, Case, Entry, Op, Term};
 use ir_core::module::GlobalVar;
+use ir_core::names::NameSet;
 use ir_core::operand::Operand;
 use ir_core::ty::Name;
 use low_core::moves::{Body, Chunk, Move, MoveOp};
@@ -34,6 +36,18 @@ impl<'a> Model for Symbols<'a> {
     ghost Value = { Row (Row ℕ) };
 
     ghost view = { λ s. map (λ n. n.now) s.kept };
+}
+
+/// Names, each once.
+fn each_once<'a>(alloc: Global, names: &[&'a Name]) -> Result<NameSet<'a>, NoMemory>
+    ensures { IfOk result (λ s. (n : List ℕ) → list_any (same_name n) s ≡
+        list_any (same_name n) (map (λ k. k.now) names.now)) }
+{
+    let mut all = NameSet::new(alloc);
+    for name in names {
+        all.add(name)?;
+    }
+    Ok(all)
 }
 
 impl<'a> Symbols<'a> {
@@ -278,5 +292,13 @@ impl<'a> Symbols<'a> {
             self.add_init(&g.init)?;
         }
         Ok(())
+    }
+
+    /// The names, each once.
+    pub fn set(&self, alloc: Global) -> Result<NameSet<'a>, NoMemory>
+        ensures { IfOk result (λ s. (n : List ℕ) →
+            list_any (same_name n) s ≡ list_any (same_name n) self.now) }
+    {
+        each_once(alloc, self.kept.as_slice())
     }
 }
