@@ -13,6 +13,7 @@ use Rattle.ir_core.specs.declared.module.Extern.{Extern}
 use Rattle.ir_core.specs.declared.module.Function.{Function}
 use Rattle.ir_core.specs.declared.module.GlobalVar.{GlobalVar}
 use Rattle.ir_core.specs.declared.module.Module.{Module}
+use Rattle.ir_core.specs.Built.{named_built, init_built}
 use Rattle.ir_core.specs.Counts.{depth_of, size_count, parameter_counts}
 use Rattle.ir_core.specs.Definitions.{type_names, label_names, param_names, repeated}
 use Rattle.ir_core.specs.Mentions.{written_types}
@@ -72,6 +73,8 @@ pub record IsModuleShaped (own : ℕ) (m : Module) : Type 0 where
   pub outside : external m ≡ []
   pub main : has_main (main_of m) ≡ true
   pub globals : All (λ (g : GlobalVar). init_fits m g.init g.ty ≡ true) m.globals
+  pub types_built : list_all named_built m.types ≡ true
+  pub inits_built : list_all (λ (g : GlobalVar). init_built g.init) m.globals ≡ true
   pub declared : All (λ (e : Extern). declaration_fits e ≡ true) m.externs
   pub functions : All (IsFunctionShaped own m) m.functions
   pub weighs : weight m + 512 ≤ MAX_CODE

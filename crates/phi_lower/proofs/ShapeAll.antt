@@ -21,6 +21,8 @@ use Rattle.low_core.specs.declared.moves.Body.{Body}
 use Rattle.low_core.specs.Shaped.{IsFunctionShaped, IsModuleShaped, AreShaped}
 use Rattle.low_core.specs.Weights.{low_own}
 use Rattle.phi_lower.specs.Lowered.{bodies_without_phis}
+use Rattle.ir_core.specs.Built.{built_all, named_built, global_built, extern_built, function_built}
+use Rattle.phi_lower.proofs.Same.{all_built}
 use Rattle.phi_lower.proofs.Turns.{lowered, without_phis}
 use Rattle.phi_lower.proofs.Keeps.{plain_is}
 use Rattle.phi_lower.proofs.BodyLaws.{bodies_made, bodies_each}
@@ -71,6 +73,8 @@ module_shaped m valid =
       outside = shaped_outside m valid;
       main = shaped_main m valid;
       globals = shaped_globals m valid;
+      types_built = all_built named_built m.types (and_parts (built_all named_built m.types) (built_all global_built m.globals) (and_parts (built_all named_built m.types && built_all global_built m.globals) (built_all extern_built m.externs && built_all function_built m.functions) valid.built).0).0;
+      inits_built = (valid_typed m valid).inits;
       declared = shaped_declared m valid;
       functions = all_of (IsFunctionShaped low_own (without_phis m)) (map lowered m.functions) (functions_shaped m 0 m.functions (functions_fine m valid) (limits_kept m u.limited).frames faults.1);
       weighs = shaped_weighs m valid;
