@@ -1,0 +1,5 @@
+pub mod Frames
+pub mod Calls
+pub mod Rows
+pub mod Blocks
+pub mod Functions

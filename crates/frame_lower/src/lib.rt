@@ -1,0 +1,2 @@
+//! The code of functions: a program of numbered registers in, the functions of an object out.
+#![tactic(auto)]
