@@ -3,3 +3,5 @@ pub mod Calls
 pub mod Rows
 pub mod Blocks
 pub mod Functions
+pub mod Writing
+pub mod Making

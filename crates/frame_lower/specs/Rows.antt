@@ -43,12 +43,13 @@ marked_op by slot (Outside Trap r args) = unlinked instr.Ud2 ∷ []
 marked_op by slot (Outside which r args) = call_row by.homes [] slot r args
 marked_op by slot op = all_unlinked (op_row by.homes by.plan (8 * by.words) op)
 
--- the five registers are pushed, and given back in the other order
+-- the five registers are pushed; the last one is given back first
 abbrev pub push_row : List ℕ → List Instr
 push_row order = map (λ place. instr.Push (saved_register place)) order
 
 abbrev pub pop_row : List ℕ → List Instr
-pop_row order = map (λ place. instr.Pop (saved_register place)) (reverse order)
+pop_row [] = []
+pop_row (place ∷ order) = pop_row order ++ instr.Pop (saved_register place) ∷ []
 
 -- one call fewer may be made, and none past the last
 abbrev pub count_row : List Instr

@@ -1,0 +1,33 @@
+-- What the code of a function is given, as its rows take it.
+use Rattle.std.specs.Prelude.{ℕ, ◌*◌, ◌<◌, ◌≤◌, ◌^◌, List, All, get_or}
+use Rattle.low_core.specs.declared.sel.SelOp.{SelOp}
+use Rattle.low_core.specs.declared.sel.SelBlock.{SelBlock}
+use Rattle.frame_rows.specs.Bodies.{spot_of, addresses_of, AreNear, Reaches}
+use Rattle.frame_lower.specs.declared.maker.Maker.{Maker}
+use Rattle.frame_lower.specs.Rows.{Making}
+
+abbrev pub making : Maker → Making
+making m = record {
+  homes = spot_of m.homes.now;
+  plan = addresses_of m.globals.now m.functions.now;
+  words = m.words;
+  room = m.room;
+  order = m.order.now;
+}
+
+-- displacements reach the words of the frame, and no frame is larger than a frame may be
+pub record IsFit (m : Maker) : Type 0 where
+  pub near : AreNear m.homes.now
+  pub words : 8 * m.words ≤ m.room
+  pub room : m.room < 2 ^ 30
+
+-- displacements reach the function's own memory as far as operations name it
+abbrev pub OpsReach : Maker → List SelOp → Type 0
+OpsReach m ops = All (Reaches (8 * m.words)) ops
+
+abbrev pub BlocksReach : Maker → List SelBlock → Type 0
+BlocksReach m bs = All (λ (b : SelBlock). OpsReach m b.ops) bs
+
+-- offsets of blocks by their numbers, and 0 past the last one
+abbrev pub start_in : List ℕ → ℕ → ℕ
+start_in starts n = get_or starts n 0
