@@ -1,2 +1,5 @@
+pub mod Long
 pub mod Writing
 pub mod Six
+pub mod Sizes
+pub mod Loops

@@ -9,15 +9,18 @@ use Rattle.x86_core.specs.declared.reg.Reg.TheVariants.{R15, Rsp}
 use Rattle.x86_core.specs.declared.instr.Wide.{Wide}
 use Rattle.x86_core.specs.declared.instr.ImmOp.{ImmOp}
 use Rattle.frame_rows.specs.declared.spot.Spot.{Spot}
-use Rattle.obj_rows.specs.Marked.{Marked, linked, unlinked, all_unlinked}
+use Rattle.obj_rows.specs.Marked.{Marked, linked, unlinked, all_unlinked, row_size}
 use Rattle.std.proofs.lemmas.List.Sums.{sum_by-cons}
 use Rattle.low_core.specs.declared.sel.SelOp.{SelOp}
 use Rattle.low_core.specs.SelWeights.{calls_at}
-use Rattle.frame_lower.specs.Blocks.{calls_in}
+use Rattle.low_core.specs.declared.sel.SelBlock.{SelBlock}
+use Rattle.frame_lower.specs.Blocks.{calls_in, ops_row, block_row}
 use Rattle.frame_lower.specs.Calls.{pass_row, take_row, call_row}
 use Rattle.frame_lower.specs.declared.code.Code.{Code}
-use Rattle.frame_lower.specs.Rows.{Making, pop_row, leave_row}
+use Rattle.low_core.specs.declared.sel.SelEnd.{SelEnd}
+use Rattle.frame_lower.specs.Rows.{Making, pop_row, leave_row, closing_row, branch_row, end_row}
 use Rattle.frame_lower.specs.Writing.{with_one, with_row}
+use Rattle.frame_lower.proofs.Long.{row_long}
 
 pub row_joined : (xs ys : List Marked) (c : Code) → with_row (xs ++ ys) c ≡ with_row ys (with_row xs c)
 row_joined [] ys c = refl
@@ -64,3 +67,23 @@ popped_next order k c inside =
     ∙ ap (λ xs. with_row xs c) (unlinked_joined (pop_row rest) (Pop (saved_register place) ∷ []))
     ∙ row_joined (all_unlinked (pop_row rest)) (all_unlinked (Pop (saved_register place) ∷ [])) c
     ∙ ap (λ j. with_one (unlinked (Pop (saved_register place))) (with_row (all_unlinked (pop_row (drop j order))) c)) f
+
+-- an end: what it does in front of its branches, and these
+pub end_joined : (by : Making) (starts : ℕ → ℕ) (e : SelEnd) (c : Code) →
+    with_row (end_row by starts (length c.bytes) e) c
+    ≡ with_row (all_unlinked (branch_row starts (length (with_row (all_unlinked (closing_row by e)) c).bytes) e)) (with_row (all_unlinked (closing_row by e)) c)
+end_joined by starts e c =
+    let closing = all_unlinked (closing_row by e) in
+    let d = with_row closing c in
+    row_joined closing (all_unlinked (branch_row starts (length c.bytes + row_size closing) e)) c
+    ∙ ap (λ n. with_row (all_unlinked (branch_row starts n e)) d) (sym (row_long closing c))
+
+-- a block: its operations and its end
+pub block_joined : (by : Making) (starts : ℕ → ℕ) (slot : ℕ) (b : SelBlock) (c : Code) →
+    with_row (block_row by starts (length c.bytes) slot b) c
+    ≡ with_row (end_row by starts (length (with_row (ops_row by slot b.ops) c).bytes) b.end) (with_row (ops_row by slot b.ops) c)
+block_joined by starts slot b c =
+    let ops = ops_row by slot b.ops in
+    let d = with_row ops c in
+    row_joined ops (end_row by starts (length c.bytes + row_size ops) b.end) c
+    ∙ ap (λ n. with_row (end_row by starts n b.end) d) (sym (row_long ops c))

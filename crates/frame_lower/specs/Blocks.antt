@@ -1,5 +1,5 @@
 -- Blocks one after another, each at the offset where the one before it ends.
-use Rattle.std.specs.Prelude.{ℕ, zero, suc, ◌+◌, List, [], ◌∷◌, ◌++◌}
+use Rattle.std.specs.Prelude.{ℕ, ◌+◌, List, [], ◌∷◌, ◌++◌, get_or}
 use Rattle.std.specs.List.{sum_by}
 use Rattle.low_core.specs.declared.sel.SelOp.{SelOp}
 use Rattle.low_core.specs.declared.sel.SelBlock.{SelBlock}
@@ -26,11 +26,18 @@ block_row by starts at slot b =
 abbrev pub block_bytes : Making → SelBlock → ℕ
 block_bytes by b = row_size (block_row by (λ n. 0) 0 0 b)
 
--- where the block of a number starts, when the first starts at an offset
-abbrev pub start_from : Making → ℕ → List SelBlock → ℕ → ℕ
-start_from by at [] n = 0
-start_from by at (b ∷ bs) zero = at
-start_from by at (b ∷ bs) (suc n) = start_from by (at + block_bytes by b) bs n
+-- where blocks start, the first of them at an offset
+abbrev pub starts_from : Making → ℕ → List SelBlock → List ℕ
+starts_from by at [] = []
+starts_from by at (b ∷ bs) = at ∷ starts_from by (at + block_bytes by b) bs
+
+-- the start of the block of a number; there is no block past the last one
+abbrev pub start_in : List ℕ → ℕ → ℕ
+start_in starts n = get_or starts n 0
+
+-- the calls of blocks
+abbrev pub calls_of_blocks : List SelBlock → ℕ
+calls_of_blocks bs = sum_by (λ (b : SelBlock). calls_in b.ops) bs
 
 -- all blocks from an offset on
 abbrev pub blocks_row : Making → (ℕ → ℕ) → ℕ → ℕ → List SelBlock → List Marked

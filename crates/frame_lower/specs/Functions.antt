@@ -26,7 +26,7 @@ use Rattle.obj_rows.specs.Marked.{Marked, all_unlinked, instrs_of, row_size, lin
 use Rattle.frame_lower.specs.Frames.{spots, frame_words, room_bytes}
 use Rattle.frame_lower.specs.Calls.{receive_row}
 use Rattle.frame_lower.specs.Rows.{Making, count_row, push_row}
-use Rattle.frame_lower.specs.Blocks.{calls_in, start_from, blocks_row}
+use Rattle.frame_lower.specs.Blocks.{calls_of_blocks, starts_from, start_in, blocks_row}
 
 -- what stands in front of the first block
 abbrev pub front_row : Making → SelFun → List Marked
@@ -36,7 +36,7 @@ front_row by f = all_unlinked (count_row ++ (push_row by.order ++ (instr.AluImm 
 abbrev pub function_row : Making → ℕ → SelFun → List Marked
 function_row by slot f =
     let front = front_row by f in
-    front ++ blocks_row by (start_from by (row_size front) f.blocks) (row_size front) slot f.blocks
+    front ++ blocks_row by (start_in (starts_from by (row_size front) f.blocks)) (row_size front) slot f.blocks
 
 -- where a row may be cut: behind each instruction that nothing runs past, but for the last one
 abbrev pub cuts_from : ℕ → List Instr → List ℕ
@@ -73,16 +73,12 @@ making_of c number f =
       order = five_of c.reg_seed push_purpose number;
     }
 
--- the slots of a function's calls stand behind the entry, the functions to which a pointer may arise, and the calls of the functions before it
-abbrev pub first_slot : Sel → ℕ → ℕ
-first_slot sel number = suc (takens sel.taken) + sum_by (λ (f : SelFun). calls_in (ops_of f)) (take number sel.functions)
-
 -- functions one after another, the first of them with a number and with the slot of its first call
 abbrev pub functions_from : Choices → ℕ → ℕ → List SelFun → List Func
 functions_from c number slot [] = []
 functions_from c number slot (f ∷ fs) =
-    saved_function (function_row (making_of c number f) slot f) ∷ functions_from c (suc number) (slot + calls_in (ops_of f)) fs
+    saved_function (function_row (making_of c number f) slot f) ∷ functions_from c (suc number) (slot + calls_of_blocks f.blocks) fs
 
--- the functions of a program
+-- the functions of a program; the slots of calls stand behind the entry and the functions to which a pointer may arise
 unfoldable pub lowered : Choices → Sel → List Func
 lowered c sel = functions_from c 0 (suc (takens sel.taken)) sel.functions

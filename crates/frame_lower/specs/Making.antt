@@ -1,5 +1,5 @@
 -- What the code of a function is given, as its rows take it.
-use Rattle.std.specs.Prelude.{ℕ, ◌*◌, ◌<◌, ◌≤◌, ◌^◌, List, All, get_or}
+use Rattle.std.specs.Prelude.{ℕ, ◌*◌, ◌<◌, ◌≤◌, ◌^◌, List, All, length}
 use Rattle.low_core.specs.declared.sel.SelOp.{SelOp}
 use Rattle.low_core.specs.declared.sel.SelBlock.{SelBlock}
 use Rattle.frame_rows.specs.Bodies.{spot_of, addresses_of, AreNear, Reaches}
@@ -20,6 +20,7 @@ pub record IsFit (m : Maker) : Type 0 where
   pub near : AreNear m.homes.now
   pub words : 8 * m.words ≤ m.room
   pub room : m.room < 2 ^ 30
+  pub five : length m.order.now ≤ 5
 
 -- displacements reach the function's own memory as far as operations name it
 abbrev pub OpsReach : Maker → List SelOp → Type 0
@@ -27,7 +28,3 @@ OpsReach m ops = All (Reaches (8 * m.words)) ops
 
 abbrev pub BlocksReach : Maker → List SelBlock → Type 0
 BlocksReach m bs = All (λ (b : SelBlock). OpsReach m b.ops) bs
-
--- offsets of blocks by their numbers, and 0 past the last one
-abbrev pub start_in : List ℕ → ℕ → ℕ
-start_in starts n = get_or starts n 0

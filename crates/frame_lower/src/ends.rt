@@ -1,14 +1,17 @@
 //! Ends of blocks in the code of a function.
 
-ghost use Rattle.std.specs.Prelude.{◌≡◌, ◌+◌, ◌*◌, ◌<◌, ◌≤◌, ◌^◌, ◌++◌, ◌∷◌, [], get_or, length, OnOk, ℤ, pos};
+ghost use Rattle.std.specs.Prelude.{◌≡◌, ◌+◌, ◌*◌, ◌<◌, ◌≤◌, ◌^◌, ◌++◌, ◌∷◌, [], ℕ, get_or, length, OnOk, pos};
 ghost use Rattle.low_core.specs.SelParts.{leads_to};
 ghost use Rattle.low_core.specs.declared.sel.SelEnd.TheVariants as end_of;
 ghost use Rattle.obj_core.specs.Saved.{saved_register};
-ghost use Rattle.x86_core.specs.declared.instr.Instr.TheVariants.{AluImm};
+ghost use Rattle.x86_core.specs.declared.instr.Instr.TheVariants.{AluImm, Jmp as JumpBy, Jcc as JumpIf};
+ghost use Rattle.x86_core.specs.declared.instr.Cond.TheVariants.{Ne as NotEqual};
 ghost use Rattle.x86_core.specs.declared.instr.Wide.TheVariants.{W64 as Wide64};
 ghost use Rattle.x86_core.specs.declared.reg.Reg.TheVariants.{Rsp as StackRegister};
 ghost use Rattle.obj_rows.specs.Marked.{all_unlinked, row_size};
-ghost use Rattle.frame_lower.specs.Making.{IsFit, making, start_in};
+ghost use Rattle.frame_lower.specs.Blocks.{start_in};
+ghost use Rattle.frame_lower.specs.Making.{IsFit, making};
+ghost use Rattle.frame_rows.specs.Sizes.{row_bytes};
 ghost use Rattle.frame_lower.specs.Rows as rows;
 ghost use Rattle.frame_lower.specs.Writing.{with_row};
 
@@ -52,6 +55,34 @@ pub fn stack_moved(op: ImmOp, bytes: u32) -> Instr
     ensures { result ≡ AluImm op Wide64 StackRegister (pos bytes) }
 {
     Instr::AluImm(op, Wide::W64, Reg::Rsp, bytes as i32)
+}
+
+/// Where a block starts; 0 for one that isn't there.
+fn start(starts: &[usize], b: u32) -> usize
+    ensures { result ≡ start_in starts.now b }
+{
+    match starts.get(b as usize) {
+        Some(at) => *at,
+        None => 0,
+    }
+}
+
+/// A jump from its end to a place.
+fn jump(from: usize, to: usize) -> Instr
+    requires from { from < 2 ^ 31 }
+    requires to { to < 2 ^ 31 }
+    ensures { result ≡ JumpBy (rows.between from to) }
+{
+    Instr::Jmp(between(from, to))
+}
+
+/// The same where the bit that was tested is set.
+fn choice(from: usize, to: usize) -> Instr
+    requires from { from < 2 ^ 31 }
+    requires to { to < 2 ^ 31 }
+    ensures { result ≡ JumpIf NotEqual (rows.between from to) }
+{
+    Instr::Jcc(Cond::Ne, between(from, to))
 }
 
 impl<'a> Maker<'a> {
@@ -130,5 +161,39 @@ impl<'a> Maker<'a> {
             SelEnd::Ret(given) => self.put_return(code, *given),
             SelEnd::Trap => code.put(&Instr::Ud2),
         }
+    }
+
+    /// The branches of an end, to blocks that start at these offsets.
+    fn put_branches(code: &mut Code, starts: &[usize], end: &SelEnd) -> Result<(), NoMemory>
+        requires near { length code.old.bytes < 2 ^ 30 }
+        requires starts { (n : ℕ) → start_in starts.now n < 2 ^ 30 }
+        ensures { OnOk result (code.new ≡ with_row (all_unlinked (rows.branch_row
+            (start_in starts.now) (length code.old.bytes) end.now)) code.old) }
+    {
+        let at = code.bytes.len();
+        match end {
+            SelEnd::Go(b) => code.put(&jump(at + JUMP_BYTES, start(starts, *b))),
+            SelEnd::If(_, b, d) => {
+                code.put(&choice(at + CHOICE_BYTES, start(starts, *b)))?;
+                code.put(&jump(at + (CHOICE_BYTES + JUMP_BYTES), start(starts, *d)))
+            }
+            SelEnd::Ret(_) => Ok(()),
+            SelEnd::Trap => Ok(()),
+        }
+    }
+
+    /// An end at the end of the code.
+    #[tactic(auto, using(crate::proofs::Writing::end_joined))]
+    pub fn put_end(&self, code: &mut Code, starts: &[usize], end: &SelEnd) -> Result<(), NoMemory>
+        requires fit { IsFit self.now }
+        requires near { length code.old.bytes + row_bytes (rows.closing_row (making self.now)
+            end.now) < 2 ^ 30 }
+        requires starts { (n : ℕ) → start_in starts.now n < 2 ^ 30 }
+        ensures { OnOk result (code.new ≡ with_row (rows.end_row (making self.now)
+            (start_in starts.now) (length code.old.bytes) end.now) code.old) }
+    {
+        self.put_closing(code, end)?;
+        Maker::put_branches(code, starts, end)?;
+        Ok(())
     }
 }

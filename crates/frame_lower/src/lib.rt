@@ -6,3 +6,4 @@ pub mod maker;
 pub mod calls;
 pub mod ops;
 pub mod ends;
+pub mod blocks;
