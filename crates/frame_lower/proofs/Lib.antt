@@ -3,3 +3,5 @@ pub mod Writing
 pub mod Six
 pub mod Sizes
 pub mod Loops
+pub mod Written
+pub mod Functions

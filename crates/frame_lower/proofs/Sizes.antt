@@ -17,7 +17,7 @@ use Rattle.low_core.specs.declared.sel.SelEnd.{SelEnd}
 use Rattle.low_core.specs.declared.sel.SelEnd.TheVariants.{Go, If, Ret}
 use Rattle.low_core.specs.declared.sel.SelEnd.TheVariants as end
 use Rattle.low_core.specs.declared.sel.SelBlock.{SelBlock}
-use Rattle.low_core.specs.SelWeights.{sel_op_weight, sel_end_weight, sel_block_weight, calls_at, call_weight}
+use Rattle.low_core.specs.SelWeights.{sel_op_weight, sel_end_weight, sel_block_weight, sel_function_weight, calls_at, call_weight}
 use Rattle.frame_rows.specs.declared.spot.Spot.{Spot}
 use Rattle.frame_rows.specs.declared.spot.Spot.TheVariants.{Own, Frame}
 use Rattle.frame_rows.specs.Code.{home_read, home_write, op_row}
@@ -27,9 +27,12 @@ use Rattle.obj_core.specs.Disassembly.{size_of}
 use Rattle.obj_core.specs.Saved.{saved_register}
 use Rattle.obj_rows.specs.Marked.{Marked, linked, unlinked, all_unlinked, row_size}
 use Rattle.obj_rows.proofs.Rows.{row_size-append}
-use Rattle.frame_lower.specs.Calls.{argument_registers, into_registers, into_words, pass_row, take_row, call_row}
-use Rattle.frame_lower.specs.Rows.{Making, marked_op, pop_row, leave_row, closing_row, branch_row, end_row}
-use Rattle.frame_lower.specs.Blocks.{calls_in, ops_row, block_row, block_bytes}
+use Rattle.frame_lower.specs.Calls.{argument_registers, into_registers, into_words, pass_row, take_row, call_row, from_registers, from_words, receive_row}
+use Rattle.frame_lower.specs.Frames.{kept_bytes}
+use Rattle.frame_lower.specs.Functions.{front_row, function_row}
+use Rattle.low_core.specs.declared.sel.SelFun.{SelFun}
+use Rattle.frame_lower.specs.Rows.{Making, marked_op, count_row, push_row, pop_row, leave_row, closing_row, branch_row, end_row}
+use Rattle.frame_lower.specs.Blocks.{calls_in, ops_row, block_row, block_bytes, blocks_row, starts_from, start_in}
 
 pub unlinked_size : (is : List Instr) → row_size (all_unlinked is) ≡ row_bytes is
 unlinked_size [] = refl
@@ -111,6 +114,24 @@ few_pop R12 = leb-true _ _ refl
 few_pop R13 = leb-true _ _ refl
 few_pop R14 = leb-true _ _ refl
 few_pop R15 = leb-true _ _ refl
+
+few_push : (r : Reg) → length (encoding (instr.Push r)) ≤ 2
+few_push Rax = leb-true _ _ refl
+few_push Rcx = leb-true _ _ refl
+few_push Rdx = leb-true _ _ refl
+few_push Rbx = leb-true _ _ refl
+few_push Rsp = leb-true _ _ refl
+few_push Rbp = leb-true _ _ refl
+few_push Rsi = leb-true _ _ refl
+few_push Rdi = leb-true _ _ refl
+few_push R8 = leb-true _ _ refl
+few_push R9 = leb-true _ _ refl
+few_push R10 = leb-true _ _ refl
+few_push R11 = leb-true _ _ refl
+few_push R12 = leb-true _ _ refl
+few_push R13 = leb-true _ _ refl
+few_push R14 = leb-true _ _ refl
+few_push R15 = leb-true _ _ refl
 
 -- calls are fewer than bytes
 call_few : (op : SelOp) → calls_at op ≤ sel_op_weight op
@@ -278,3 +299,54 @@ module _ (by : Making) where
   -- what an end does in front of its branches
   pub closing_few : length by.order ≤ 5 → (e : SelEnd) → row_bytes (closing_row by e) ≤ sel_end_weight e
   closing_few five e = let c = closing_light five e in omega arith
+
+  -- what stands in front of the first block
+  store_size : (t : Reg) (p : ℕ) → length (encoding (home_write (by.homes p) t)) ≤ 8
+  store_size t p = write_size (by.homes p) t
+
+  stores_size : (ts : List Reg) (params : List ℕ) → row_bytes (from_registers by.homes ts params) ≤ 8 * length ts
+  stores_size [] params = omega arith
+  stores_size (t ∷ ts) [] = omega arith
+  stores_size (t ∷ ts) (p ∷ ps) = let r = stores_size ts ps in let h = store_size t p in omega arith
+
+  fetches_size : (at : ℕ) (params : List ℕ) → row_bytes (from_words by.homes at params) ≤ 16 * length params
+  fetches_size at [] = omega arith
+  fetches_size at (p ∷ ps) = let r = fetches_size (at + 8) ps in let h = store_size Rax p in omega arith
+
+  push_size : (order : List ℕ) → row_bytes (push_row order) ≤ 2 * length order
+  push_size [] = omega arith
+  push_size (place ∷ order) = let r = push_size order in let p = few_push (saved_register place) in omega arith
+
+  pub front_light : length by.order ≤ 5 → (f : SelFun) → length f.params ≤ 32 → row_size (front_row by f) ≤ 512
+  front_light five f few =
+      let stack = instr.AluImm ImmOp.Sub Wide.W64 Rsp (pos by.room) in
+      let receive = receive_row by.homes by.room f.params in
+      let u = unlinked_size (count_row ++ (push_row by.order ++ (stack ∷ receive))) in
+      let a = row_bytes-append count_row (push_row by.order ++ (stack ∷ receive)) in
+      let b = row_bytes-append (push_row by.order) (stack ∷ receive) in
+      let c = row_bytes-append (from_registers by.homes argument_registers f.params) (from_words by.homes (by.room + kept_bytes) (drop 6 f.params)) in
+      let p = push_size by.order in
+      let s = stores_size argument_registers f.params in
+      let w = fetches_size (by.room + kept_bytes) (drop 6 f.params) in
+      let d : length (drop 6 f.params) ≡ length f.params - 6 = length-drop 6 f.params in
+      omega arith
+
+  pub blocks_light : length by.order ≤ 5 → (starts : ℕ → ℕ) (at slot : ℕ) (bs : List SelBlock) → row_size (blocks_row by starts at slot bs) ≤ sum_by sel_block_weight bs
+  blocks_light five starts at slot [] = omega arith
+  blocks_light five starts at slot (b ∷ bs) =
+      let a = row_size-append (block_row by starts at slot b) (blocks_row by starts (at + block_bytes by b) (slot + calls_in b.ops) bs) in
+      let s = block_same starts at slot b in
+      let l = block_light five b in
+      let r = blocks_light five starts (at + block_bytes by b) (slot + calls_in b.ops) bs in
+      let w = sum_by-cons sel_block_weight b bs in
+      omega arith
+
+  -- a function
+  pub function_light : length by.order ≤ 5 → (slot : ℕ) (f : SelFun) → length f.params ≤ 32 → row_size (function_row by slot f) ≤ sel_function_weight f
+  function_light five slot f few =
+      let front = front_row by f in
+      let starts = start_in (starts_from by (row_size front) f.blocks) in
+      let a = row_size-append front (blocks_row by starts (row_size front) slot f.blocks) in
+      let l = front_light five f few in
+      let b = blocks_light five starts (row_size front) slot f.blocks in
+      omega arith

@@ -15,10 +15,12 @@ use Rattle.low_core.specs.declared.sel.SelOp.{SelOp}
 use Rattle.low_core.specs.SelWeights.{calls_at}
 use Rattle.low_core.specs.declared.sel.SelBlock.{SelBlock}
 use Rattle.frame_lower.specs.Blocks.{calls_in, ops_row, block_row}
-use Rattle.frame_lower.specs.Calls.{pass_row, take_row, call_row}
+use Rattle.frame_lower.specs.Calls.{pass_row, take_row, call_row, receive_row}
+use Rattle.low_core.specs.declared.sel.SelFun.{SelFun}
+use Rattle.frame_lower.specs.Functions.{front_row}
 use Rattle.frame_lower.specs.declared.code.Code.{Code}
 use Rattle.low_core.specs.declared.sel.SelEnd.{SelEnd}
-use Rattle.frame_lower.specs.Rows.{Making, pop_row, leave_row, closing_row, branch_row, end_row}
+use Rattle.frame_lower.specs.Rows.{Making, count_row, push_row, pop_row, leave_row, closing_row, branch_row, end_row}
 use Rattle.frame_lower.specs.Writing.{with_one, with_row}
 use Rattle.frame_lower.proofs.Long.{row_long}
 
@@ -87,3 +89,13 @@ block_joined by starts slot b c =
     let d = with_row ops c in
     row_joined ops (end_row by starts (length c.bytes + row_size ops) b.end) c
     ∙ ap (λ n. with_row (end_row by starts n b.end) d) (sym (row_long ops c))
+
+-- what stands in front of the first block
+pub front_joined : (by : Making) (f : SelFun) (c : Code) →
+    with_row (all_unlinked (receive_row by.homes by.room f.params)) (with_one (unlinked (AluImm ImmOp.Sub Wide.W64 Rsp (pos by.room))) (with_row (all_unlinked (push_row by.order)) (with_row (all_unlinked count_row) c)))
+    ≡ with_row (front_row by f) c
+front_joined by f c =
+    let last = AluImm ImmOp.Sub Wide.W64 Rsp (pos by.room) ∷ receive_row by.homes by.room f.params in
+    let d = with_row (all_unlinked count_row) c in
+    sym (ap (λ xs. with_row xs c) (unlinked_joined count_row (push_row by.order ++ last)) ∙ row_joined (all_unlinked count_row) (all_unlinked (push_row by.order ++ last)) c
+      ∙ ap (λ xs. with_row xs d) (unlinked_joined (push_row by.order) last) ∙ row_joined (all_unlinked (push_row by.order)) (all_unlinked last) d)

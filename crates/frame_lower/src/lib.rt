@@ -7,3 +7,4 @@ pub mod calls;
 pub mod ops;
 pub mod ends;
 pub mod blocks;
+pub mod function;
