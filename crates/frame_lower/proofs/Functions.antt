@@ -1,25 +1,23 @@
 -- A whole function: its front and its blocks, with links and cuts inside.
-use Rattle.std.proofs.Common.{◌≡◌, ℕ, zero, suc, ◌+◌, ◌<◌, ◌≤◌, ◌^◌, List, [], ◌∷◌, map, length, get_or, refl, ap, sym, ◌∙◌, arith}
-use Rattle.std.specs.List.{All, sum_by}
+use Rattle.std.proofs.Common.{◌≡◌, ℕ, zero, suc, ◌+◌, ◌<◌, ◌≤◌, List, [], ◌∷◌, map, length, ap, sym, ◌∙◌, arith}
+use Rattle.std.specs.List.{sum_by}
 use Rattle.std.proofs.lemmas.List.Sums.{sum_by-cons}
 use Rattle.low_core.specs.declared.sel.SelBlock.{SelBlock}
 use Rattle.low_core.specs.declared.sel.SelFun.{SelFun}
-use Rattle.low_core.specs.SelWeights.{sel_block_weight, sel_function_weight}
+use Rattle.low_core.specs.SelWeights.{sel_block_weight}
 use Rattle.obj_core.specs.declared.object.Func.{Func}
 use Rattle.obj_core.specs.declared.object.Link.{Link}
 use Rattle.obj_core.specs.declared.object.FuncKind.{FuncKind}
-use Rattle.obj_core.specs.Disassembly.{spelled}
-use Rattle.obj_rows.specs.Marked.{Marked, instrs_of, row_size, links_from}
+use Rattle.obj_rows.specs.Marked.{Marked, row_size}
 use Rattle.frame_lower.specs.declared.code.Code.{Code}
-use Rattle.frame_lower.specs.declared.code.Linked.{Linked}
 use Rattle.frame_lower.specs.Rows.{Making}
 use Rattle.frame_lower.specs.Blocks.{block_bytes, blocks_row, starts_from, start_in}
-use Rattle.frame_lower.specs.Functions.{front_row, function_row, saved_function, cuts_from}
+use Rattle.frame_lower.specs.Functions.{front_row, function_row, saved_function}
 use Rattle.frame_lower.specs.Writing.{empty_code, with_row, link_of}
 use Rattle.frame_lower.proofs.Long.{row_long}
-use Rattle.frame_lower.proofs.Sizes.{block_light, front_light, function_light}
+use Rattle.frame_lower.proofs.Sizes.{block_light}
 use Rattle.frame_lower.proofs.Writing.{row_joined}
-use Rattle.frame_lower.proofs.Written.{whole_bytes, whole_links, whole_cuts, whole_links_inside, whole_cuts_inside}
+use Rattle.frame_lower.proofs.Written.{whole_bytes, whole_links, whole_cuts}
 
 -- the function of code
 abbrev pub function_of : Code → Func

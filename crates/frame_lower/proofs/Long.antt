@@ -1,5 +1,5 @@
 -- Code grows by the bytes of what is written.
-use Rattle.std.proofs.Common.{◌≡◌, ℕ, ◌+◌, List, [], ◌∷◌, length, sym, arith, length-append}
+use Rattle.std.proofs.Common.{◌≡◌, ◌+◌, List, [], ◌∷◌, length, sym, arith, length-append}
 use Rattle.x86_core.specs.Encoding.{encoding}
 use Rattle.obj_rows.specs.Marked.{Marked, row_size}
 use Rattle.frame_lower.specs.declared.code.Code.{Code}

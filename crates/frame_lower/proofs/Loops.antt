@@ -1,15 +1,15 @@
 -- One more block of a row of blocks.
-use Rattle.std.proofs.Common.{◌≡◌, ℕ, ◌+◌, ◌≤◌, List, ◌∷◌, length, refl, ap, sym, ◌∙◌, arith}
+use Rattle.std.proofs.Common.{◌≡◌, ℕ, ◌+◌, List, ◌∷◌, length, ap, sym, ◌∙◌}
 use Rattle.std.specs.List.{sum_by}
 use Rattle.std.proofs.lemmas.List.Sums.{sum_by-cons}
 use Rattle.low_core.specs.declared.sel.SelBlock.{SelBlock}
-use Rattle.low_core.specs.SelWeights.{sel_block_weight, sel_op_weight, sel_end_weight}
+use Rattle.low_core.specs.SelWeights.{sel_block_weight}
 use Rattle.frame_lower.specs.declared.code.Code.{Code}
 use Rattle.frame_lower.specs.Rows.{Making}
 use Rattle.frame_lower.specs.Blocks.{block_row, block_bytes, blocks_row, calls_in, calls_of_blocks}
 use Rattle.frame_lower.specs.Writing.{with_row}
 use Rattle.frame_lower.proofs.Long.{row_long}
-use Rattle.frame_lower.proofs.Sizes.{block_same, block_light}
+use Rattle.frame_lower.proofs.Sizes.{block_same}
 use Rattle.frame_lower.proofs.Writing.{row_joined}
 
 pub weight_more : (b : SelBlock) (bs : List SelBlock) → sum_by sel_block_weight (b ∷ bs) ≡ sel_block_weight b + sum_by sel_block_weight bs

@@ -1,5 +1,5 @@
 -- How many bytes rows have: wherever they stand and whatever slots they go by the same, and no more than their parts weigh.
-use Rattle.std.proofs.Common.{◌≡◌, ℕ, ◌+◌, ◌-◌, ◌*◌, ◌≤◌, List, [], ◌∷◌, ◌++◌, length, drop, Option, Some, None, pos, refl, ap, sym, ◌∙◌, arith, length-append, length-drop}
+use Rattle.std.proofs.Common.{◌≡◌, ℕ, ◌+◌, ◌-◌, ◌*◌, ◌≤◌, List, [], ◌∷◌, ◌++◌, length, drop, Option, Some, None, pos, refl, ap, sym, ◌∙◌, arith, length-drop}
 use Rattle.std.proofs.lemmas.List.Sums.{sum_by-cons}
 use Rattle.std.specs.List.{sum_by}
 use Rattle.x86_core.specs.declared.reg.Reg.{Reg}
@@ -25,7 +25,7 @@ use Rattle.frame_rows.specs.Sizes.{row_bytes, IsNoCall}
 use Rattle.frame_rows.proofs.Lengths.{row_bytes-append, op_sized}
 use Rattle.obj_core.specs.Disassembly.{size_of}
 use Rattle.obj_core.specs.Saved.{saved_register}
-use Rattle.obj_rows.specs.Marked.{Marked, linked, unlinked, all_unlinked, row_size}
+use Rattle.obj_rows.specs.Marked.{linked, all_unlinked, row_size}
 use Rattle.obj_rows.proofs.Rows.{row_size-append}
 use Rattle.frame_lower.specs.Calls.{argument_registers, into_registers, into_words, pass_row, take_row, call_row, from_registers, from_words, receive_row}
 use Rattle.frame_lower.specs.Frames.{kept_bytes}

@@ -98,4 +98,4 @@ front_joined by f c =
     let last = AluImm ImmOp.Sub Wide.W64 Rsp (pos by.room) ∷ receive_row by.homes by.room f.params in
     let d = with_row (all_unlinked count_row) c in
     sym (ap (λ xs. with_row xs c) (unlinked_joined count_row (push_row by.order ++ last)) ∙ row_joined (all_unlinked count_row) (all_unlinked (push_row by.order ++ last)) c
-      ∙ ap (λ xs. with_row xs d) (unlinked_joined (push_row by.order) last) ∙ row_joined (all_unlinked (push_row by.order)) (all_unlinked last) d)
+    ∙ ap (λ xs. with_row xs d) (unlinked_joined (push_row by.order) last) ∙ row_joined (all_unlinked (push_row by.order)) (all_unlinked last) d)

@@ -1,6 +1,5 @@
 -- The functions of an object that a program of registers becomes.
-use Rattle.std.specs.Prelude.{ℕ, suc, ◌+◌, ◌*◌, List, [], ◌∷◌, ◌++◌, map, take, get_or, if◌then◌else◌, pos}
-use Rattle.std.specs.List.{sum_by}
+use Rattle.std.specs.Prelude.{ℕ, suc, ◌+◌, ◌*◌, List, [], ◌∷◌, ◌++◌, map, get_or, if◌then◌else◌, pos}
 use Rattle.x86_core.specs.declared.reg.Reg.{Reg}
 use Rattle.x86_core.specs.declared.reg.Reg.TheVariants.{Rsp}
 use Rattle.x86_core.specs.declared.instr.Wide.{Wide}
@@ -10,7 +9,6 @@ use Rattle.x86_core.specs.declared.instr.Instr.TheVariants as instr
 use Rattle.low_core.specs.declared.sel.Home.{Home}
 use Rattle.low_core.specs.declared.sel.SelFun.{SelFun}
 use Rattle.low_core.specs.declared.sel.Sel.{Sel}
-use Rattle.low_core.specs.SelParts.{ops_of}
 use Rattle.frame_rows.specs.Bodies.{spot_of, addresses_of}
 use Rattle.slot_plan.specs.Slots.{takens}
 use Rattle.obj_core.specs.declared.address.SlotAddr.{SlotAddr}

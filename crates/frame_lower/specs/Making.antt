@@ -1,5 +1,5 @@
 -- What the code of a function is given, as its rows take it.
-use Rattle.std.specs.Prelude.{ℕ, ◌*◌, ◌<◌, ◌≤◌, ◌^◌, List, All, length}
+use Rattle.std.specs.Prelude.{◌*◌, ◌<◌, ◌≤◌, ◌^◌, List, All, length}
 use Rattle.low_core.specs.declared.sel.SelOp.{SelOp}
 use Rattle.low_core.specs.declared.sel.SelBlock.{SelBlock}
 use Rattle.frame_rows.specs.Bodies.{spot_of, addresses_of, AreNear, Reaches}

@@ -1,5 +1,5 @@
 -- The rows of operations and of ends in a function.
-use Rattle.std.specs.Prelude.{ℕ, ◌+◌, ◌*◌, List, [], ◌∷◌, ◌++◌, map, reverse, Some, None, ℤ, pos, ◌-ℤ◌}
+use Rattle.std.specs.Prelude.{ℕ, ◌+◌, ◌*◌, List, [], ◌∷◌, ◌++◌, map, Some, None, ℤ, pos, ◌-ℤ◌}
 use Rattle.x86_core.specs.declared.reg.Reg.TheVariants.{Rax, R11, R15, Rsp}
 use Rattle.x86_core.specs.declared.instr.Wide.{Wide}
 use Rattle.x86_core.specs.declared.instr.ImmOp.{ImmOp}

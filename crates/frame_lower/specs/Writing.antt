@@ -1,6 +1,5 @@
 -- What code that is being written comes to, one instruction after another.
-use Rattle.std.specs.Prelude.{◌≡◌, ℕ, ◌+◌, ◌-◌, List, [], ◌∷◌, ◌++◌, Bool, true, false, length, map, Option, Some, None, if◌then◌else◌}
-use Rattle.x86_core.specs.declared.instr.Instr.{Instr}
+use Rattle.std.specs.Prelude.{ℕ, ◌+◌, ◌-◌, List, [], ◌∷◌, ◌++◌, Bool, false, length, Option, Some, None, if◌then◌else◌}
 use Rattle.x86_core.specs.Encoding.{encoding}
 use Rattle.obj_core.specs.declared.object.Link.{Link}
 use Rattle.obj_core.specs.Disassembly.{size_of}

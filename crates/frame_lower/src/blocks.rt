@@ -56,7 +56,12 @@ impl<'a> Maker<'a> {
     }
 
     /// Where blocks start, the first of them at an offset.
-    pub fn starts(&self, alloc: Global, first: usize, blocks: &[SelBlock]) -> Result<List<usize>, NoMemory>
+    pub fn starts(
+        &self,
+        alloc: Global,
+        first: usize,
+        blocks: &[SelBlock],
+    ) -> Result<List<usize>, NoMemory>
         requires fit { IsFit self.now }
         requires reaches { BlocksReach self.now blocks.now }
         requires few { All (λ (b : SelBlock). All (λ op. arguments_of op ≤ 2 ^ 10) b.ops) blocks.now }

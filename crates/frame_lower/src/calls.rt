@@ -27,7 +27,11 @@ const KEPT_BYTES: u32 = 48;
 fn others(all: &[u32]) -> &[u32]
     ensures { result.now ≡ drop 6 all.now }
 {
-    if all.len() > IN_REGISTERS { &all[IN_REGISTERS..] } else { &[] }
+    if all.len() > IN_REGISTERS {
+        &all[IN_REGISTERS..]
+    } else {
+        &[]
+    }
 }
 
 impl<'a> Maker<'a> {
@@ -97,7 +101,12 @@ impl<'a> Maker<'a> {
     }
 
     /// A call by a slot, whose arguments are where they have to be.
-    pub fn put_jump_and_result(&self, code: &mut Code, slot: u32, into: Option<u32>) -> Result<(), NoMemory>
+    pub fn put_jump_and_result(
+        &self,
+        code: &mut Code,
+        slot: u32,
+        into: Option<u32>,
+    ) -> Result<(), NoMemory>
         requires { IsFit self.now }
         ensures { OnOk result (code.new ≡ with_row (linked_row (JumpBy (pos 0)) slot ∷
             all_unlinked (rows.take_row (making self.now).homes into)) code.old) }
@@ -107,7 +116,13 @@ impl<'a> Maker<'a> {
     }
 
     /// A parameter from a register to its home, where there are so many.
-    fn put_parameter(&self, code: &mut Code, params: &[u32], k: usize, t: Reg) -> Result<(), NoMemory>
+    fn put_parameter(
+        &self,
+        code: &mut Code,
+        params: &[u32],
+        k: usize,
+        t: Reg,
+    ) -> Result<(), NoMemory>
         requires { IsFit self.now }
         ensures { OnOk result (code.new ≡ with_row (all_unlinked (rows.from_registers
             (making self.now).homes (t ∷ []) (drop k params.now))) code.old) }
@@ -142,7 +157,14 @@ impl<'a> Maker<'a> {
     {
         for k in 0..params.len() {
             let at = self.room + KEPT_BYTES + 8 * k as u32;
-            code.put(&Instr::Load(Size::W64, Reg::Rax, Mem { base: Reg::Rsp, disp: at as i32 }))?;
+            code.put(&Instr::Load(
+                Size::W64,
+                Reg::Rax,
+                Mem {
+                    base: Reg::Rsp,
+                    disp: at as i32,
+                },
+            ))?;
             code.put(&home_write(spot(self.homes, params[k]), Reg::Rax))?;
         }
         Ok(())

@@ -54,7 +54,8 @@ impl Code {
     /// Lets the code be cut at its end, where nothing runs past what stands there.
     fn cut(&mut self) -> Result<(), NoMemory>
         ensures { OnOk result (self.new ≡ record self.old {
-            cuts = self.old.cuts ++ cut_here self.old.ended (length self.old.bytes) }) }
+          cuts = self.old.cuts ++ cut_here self.old.ended (length self.old.bytes);
+        }) }
     {
         if self.ended {
             self.cuts.add(self.bytes.len())?;
@@ -78,7 +79,10 @@ impl Code {
     {
         self.put(&Instr::Jmp(0))?;
         let end = self.bytes.len();
-        self.links.add(Linked { at: end.saturating_sub(4), slot })
+        self.links.add(Linked {
+            at: end.saturating_sub(4),
+            slot,
+        })
     }
 
     /// A row of instructions.

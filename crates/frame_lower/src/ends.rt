@@ -25,6 +25,7 @@ use x86_core::reg::Reg;
 
 /// The bytes of a jump, and those of a jump on a condition.
 const JUMP_BYTES: usize = 5;
+
 const CHOICE_BYTES: usize = 6;
 
 /// The register of a place among the five that are saved.

@@ -55,8 +55,12 @@ fn object_cuts(alloc: Global, cuts: &[usize]) -> Result<List<u32>, NoMemory>
 fn finished(alloc: Global, code: Code) -> Result<Func, NoMemory>
     requires links { All (λ (l : Linked0). l.at < 2 ^ 32) code.links }
     requires cuts { All (λ at. at < 2 ^ 32) code.cuts }
-    ensures { IfOk result (λ f. f ≡ record { kind = SavedKind; bytes = code.bytes;
-        links = map link_of code.links; cuts = code.cuts }) }
+    ensures { IfOk result (λ f. f ≡ record {
+      kind = SavedKind;
+      bytes = code.bytes;
+      links = map link_of code.links;
+      cuts = code.cuts;
+    }) }
 {
     let links = object_links(alloc, code.links.as_slice())?;
     let cuts = object_cuts(alloc, code.cuts.as_slice())?;

@@ -51,7 +51,14 @@ impl<'a> Maker<'a> {
             (making self.now).plan (8 * self.now.words) op.now)) code.old) }
     {
         let mut row = List::new(alloc);
-        put_op(&mut row, self.homes, self.globals, self.functions, 8 * self.words, op)?;
+        put_op(
+            &mut row,
+            self.homes,
+            self.globals,
+            self.functions,
+            8 * self.words,
+            op,
+        )?;
         code.put_row(row.as_slice())
     }
 

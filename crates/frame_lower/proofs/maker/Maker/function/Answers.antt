@@ -1,8 +1,8 @@
-use Rattle.std.proofs.Common.{◌≡◌, ◌<◌, ◌^◌, ap, sym, subst, ◌∙◌, arith}
+use Rattle.std.proofs.Common.{◌<◌, ◌^◌, ap, sym, subst, ◌∙◌, arith}
 use Rattle.std.specs.List.{All}
 use Rattle.frame_lower.specs.declared.code.Code.{Code}
 use Rattle.frame_lower.specs.declared.code.Linked.{Linked}
-use Rattle.frame_lower.specs.Functions.{function_row, saved_function}
+use Rattle.frame_lower.specs.Functions.{function_row}
 use Rattle.frame_lower.specs.Making.{making}
 use Rattle.frame_lower.proofs.Functions.{function_of, function_written}
 use Rattle.frame_lower.proofs.Sizes.{function_light}

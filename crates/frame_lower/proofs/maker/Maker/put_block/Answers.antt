@@ -14,7 +14,7 @@ put_end-requires-clause-near c =
     let b = c.args.block.now in
     let row = ops_row by c.args.first b.ops in
     let l : length c.put_ops.new.code.bytes ≡ length c.args.code.now.bytes + row_size row =
-        ap (λ (d : Code). length d.bytes) (c.in_ok-next.ensures.code ∙ ap (λ ops. with_row (ops_row by c.args.first ops) c.args.code.now) c.as_slice.ensures) ∙ row_long row c.args.code.now in
+    ap (λ (d : Code). length d.bytes) (c.in_ok-next.ensures.code ∙ ap (λ ops. with_row (ops_row by c.args.first ops) c.args.code.now) c.as_slice.ensures) ∙ row_long row c.args.code.now in
     let o = ops_light by c.args.first b.ops in
     let e = closing_few by c.requires.fit.five b.end in
     let n = c.requires.near in

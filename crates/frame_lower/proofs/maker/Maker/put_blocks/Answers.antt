@@ -53,10 +53,11 @@ loop-block-preserved c =
     let grows : length new.bytes ≡ length old.bytes + block_bytes by b = ap (λ (d : Code). length d.bytes) written ∙ block_grows by starts slot b old in
     let light = block_light by c.requires.fit.five b in
     let slots : slot + calls_of_blocks (drop i blocks) ≡ c.args.first + calls_of_blocks blocks = c.loop-block.invariant.1.1 in
-    let room = c.loop-block.invariant.1.0 in
-    (ap (λ n. with_row (blocks_row by starts (length new.bytes) n rest) new) next
-        ∙ ap (λ (d : Code). with_row (blocks_row by starts (length d.bytes) (slot + calls_in b.ops) rest) d) written
-        ∙ blocks_more by starts slot b rest old
-        ∙ ap (λ xs. with_row (blocks_row by starts (length old.bytes) slot xs) old) (sym split)
-        ∙ c.loop-block.invariant.0,
-      (omega arith, omega arith))
+    let room = c.loop-block.invariant.1.0 in (
+      ap (λ n. with_row (blocks_row by starts (length new.bytes) n rest) new) next
+          ∙ ap (λ (d : Code). with_row (blocks_row by starts (length d.bytes) (slot + calls_in b.ops) rest) d) written
+          ∙ blocks_more by starts slot b rest old
+          ∙ ap (λ xs. with_row (blocks_row by starts (length old.bytes) slot xs) old) (sym split)
+          ∙ c.loop-block.invariant.0,
+      (omega arith, omega arith),
+    )

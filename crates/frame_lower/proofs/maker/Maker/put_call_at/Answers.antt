@@ -16,5 +16,5 @@ returns c =
     let wanted = ap (λ i. unlinked i) (c.home_read.ensures ∙ ap (λ h. home_read h R11) c.spot.ensures) in
     c.in_ok-put_jump_and_result.ensures
     ∙ ap (with_row (linked (Jmp (pos 0)) c.args.slot ∷ all_unlinked (take_row homes c.args.into)))
-        (c.in_ok-put.ensures ∙ ap (λ x. with_one x c.put_args.new.code) wanted ∙ ap (with_one (unlinked read)) c.in_ok-put_args.ensures)
+    (c.in_ok-put.ensures ∙ ap (λ x. with_one x c.put_args.new.code) wanted ∙ ap (with_one (unlinked read)) c.in_ok-put_args.ensures)
     ∙ sym (call_joined homes (read ∷ []) c.args.slot c.args.into c.args.args.now c.args.code.now)

@@ -12,6 +12,6 @@ pub put_branches-requires-clause-near : goal.put_branches-requires-clause-near
 put_branches-requires-clause-near c =
     let row = closing_row (making c.args.self.now) c.args.end.now in
     let l : length c.put_closing.new.code.bytes ≡ length c.args.code.now.bytes + row_bytes row =
-        ap (λ (d : Code). length d.bytes) c.in_ok-put_closing.ensures ∙ row_long (all_unlinked row) c.args.code.now ∙ ap (λ n. length c.args.code.now.bytes + n) (unlinked_size row) in
+    ap (λ (d : Code). length d.bytes) c.in_ok-put_closing.ensures ∙ row_long (all_unlinked row) c.args.code.now ∙ ap (λ n. length c.args.code.now.bytes + n) (unlinked_size row) in
     let n = c.requires.near in
     omega arith

@@ -18,6 +18,6 @@ returns c =
     let params = ap (λ ps. with_row (all_unlinked (receive_row by.homes by.room ps)) c.put.new.self) c.as_slice.ensures in
     c.in_ok-put_params.ensures ∙ params
     ∙ ap (with_row (all_unlinked (receive_row by.homes by.room f.params)))
-        (c.in_ok-put.ensures ∙ ap (λ i. with_one (unlinked i) c.put_pushes.new.code) c.stack_moved.ensures
-        ∙ ap (with_one (unlinked (AluImm ImmOp.Sub Wide.W64 Rsp (pos by.room)))) (c.in_ok-put_pushes.ensures ∙ ap (with_row (all_unlinked (push_row by.order))) c.in_ok-put_count.ensures))
+    (c.in_ok-put.ensures ∙ ap (λ i. with_one (unlinked i) c.put_pushes.new.code) c.stack_moved.ensures
+    ∙ ap (with_one (unlinked (AluImm ImmOp.Sub Wide.W64 Rsp (pos by.room)))) (c.in_ok-put_pushes.ensures ∙ ap (with_row (all_unlinked (push_row by.order))) c.in_ok-put_count.ensures))
     ∙ front_joined by f c.args.code.now

@@ -1,4 +1,4 @@
-use Rattle.std.proofs.Common.{ap, sym, ◌∙◌, ◌+◌, ◌-◌, length, arith}
+use Rattle.std.proofs.Common.{ap, sym, ◌∙◌, ◌-◌, length}
 use Rattle.std.specs.Prelude.{slice_index}
 use Rattle.x86_core.specs.declared.instr.Instr.TheVariants.{Pop}
 use Rattle.obj_core.specs.Saved.{saved_register}

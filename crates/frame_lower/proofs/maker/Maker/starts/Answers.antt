@@ -1,4 +1,4 @@
-use Rattle.std.proofs.Common.{◌≡◌, ◌+◌, ◌≤◌, [], ◌∷◌, ◌++◌, drop, ap, sym, ◌∙◌, arith, Fits}
+use Rattle.std.proofs.Common.{◌≡◌, ◌+◌, [], ◌∷◌, ◌++◌, drop, ap, sym, ◌∙◌, arith}
 use Rattle.std.specs.List.{sum_by}
 use Rattle.std.proofs.lemmas.List.{drop_more, append_assoc}
 use Rattle.low_core.specs.SelWeights.{sel_block_weight}
@@ -47,10 +47,11 @@ loop-block-preserved c =
     let weighs : sum_by sel_block_weight (drop i blocks) ≡ sel_block_weight b + sum_by sel_block_weight rest = ap (sum_by sel_block_weight) split ∙ weight_more b rest in
     let room = c.loop-block.invariant.1 in
     let light = block_light by c.requires.fit.five b in
-    let size : c.in_ok-at.field-0 ≡ block_bytes by b = c.in_ok-at.ensures in
-    (ap (λ n. c.add.new.self ++ starts_from by (at + n) rest) size
-        ∙ ap (λ xs. xs ++ starts_from by (at + block_bytes by b) rest) c.in_ok-add.ensures.put
-        ∙ append_assoc c.loop-block.all (at ∷ []) (starts_from by (at + block_bytes by b) rest)
-        ∙ ap (λ xs. c.loop-block.all ++ starts_from by at xs) (sym split)
-        ∙ c.loop-block.invariant.0,
-      omega arith)
+    let size : c.in_ok-at.field-0 ≡ block_bytes by b = c.in_ok-at.ensures in (
+      ap (λ n. c.add.new.self ++ starts_from by (at + n) rest) size
+          ∙ ap (λ xs. xs ++ starts_from by (at + block_bytes by b) rest) c.in_ok-add.ensures.put
+          ∙ append_assoc c.loop-block.all (at ∷ []) (starts_from by (at + block_bytes by b) rest)
+          ∙ ap (λ xs. c.loop-block.all ++ starts_from by at xs) (sym split)
+          ∙ c.loop-block.invariant.0,
+      omega arith,
+    )

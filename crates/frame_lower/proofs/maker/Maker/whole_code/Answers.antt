@@ -1,15 +1,13 @@
-use Rattle.std.proofs.Common.{◌≡◌, ◌+◌, ◌<◌, ◌^◌, ℕ, length, ap, sym, subst, ◌∙◌, arith}
-use Rattle.std.specs.List.{All, sum_by}
+use Rattle.std.proofs.Common.{◌≡◌, ◌<◌, ◌^◌, length, ap, sym, subst, ◌∙◌, arith}
+use Rattle.std.specs.List.{sum_by}
 use Rattle.low_core.specs.SelWeights.{sel_block_weight}
 use Rattle.frame_lower.specs.declared.code.Code.{Code}
-use Rattle.frame_lower.specs.declared.code.Linked.{Linked}
 use Rattle.frame_lower.specs.Blocks.{blocks_row, starts_from, start_in}
-use Rattle.frame_lower.specs.Functions.{front_row, function_row}
+use Rattle.frame_lower.specs.Functions.{front_row}
 use Rattle.frame_lower.specs.Making.{making}
 use Rattle.frame_lower.specs.Writing.{empty_code, with_row}
-use Rattle.frame_lower.proofs.Functions.{front_long, function_joined, starts_below, function_written}
-use Rattle.frame_lower.proofs.Sizes.{front_light, function_light}
-use Rattle.frame_lower.proofs.Written.{whole_links_inside, whole_cuts_inside}
+use Rattle.frame_lower.proofs.Functions.{front_long, function_joined, starts_below}
+use Rattle.frame_lower.proofs.Sizes.{front_light}
 use Rattle.frame_lower.proofs.maker.Maker.whole_code.Goals as goal
 
 pub starts-requires-clause-near : goal.starts-requires-clause-near
@@ -56,7 +54,7 @@ returns c =
     let front = with_row (front_row by f) empty_code in
     let code : c.put_front.new.code ≡ front = c.in_ok-put_front.ensures ∙ ap (with_row (front_row by f)) c.new-code.ensures in
     let starts : c.as_slice.result.now ≡ starts_from by (length c.put_front.new.code.bytes) f.blocks =
-        c.as_slice.ensures ∙ c.in_ok-starts.ensures ∙ ap (λ n. starts_from by n c.as_slice-blocks.result.now) c.len.ensures ∙ ap (starts_from by (length c.put_front.new.code.bytes)) c.as_slice-blocks.ensures in
+    c.as_slice.ensures ∙ c.in_ok-starts.ensures ∙ ap (λ n. starts_from by n c.as_slice-blocks.result.now) c.len.ensures ∙ ap (starts_from by (length c.put_front.new.code.bytes)) c.as_slice-blocks.ensures in
     c.in_ok-put_blocks.ensures
     ∙ ap (λ ss. with_row (blocks_row by (start_in ss) (length c.put_front.new.code.bytes) first c.as_slice-blocks.result.now) c.put_front.new.code) starts
     ∙ ap (λ bs. with_row (blocks_row by (start_in (starts_from by (length c.put_front.new.code.bytes) f.blocks)) (length c.put_front.new.code.bytes) first bs) c.put_front.new.code) c.as_slice-blocks.ensures
