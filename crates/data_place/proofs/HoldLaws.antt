@@ -1,0 +1,94 @@
+-- The placing of a valid module holds its data.
+use Rattle.std.proofs.Common.{◌≡◌, ℕ, ◌+◌, ◌%◌, ◌≤◌, true, false, List, [], ◌∷◌, length, map, refl, ap, sym, ◌∙◌, subst, arith}
+use Rattle.std.specs.List.{sum_by}
+use Rattle.std.proofs.lemmas.List.Sums.{sum_by-cons}
+use Rattle.ir_core.specs.declared.limit.TheConstants.{MAX_BYTES}
+use Rattle.ir_core.specs.declared.memory.Cell.{Cell}
+use Rattle.ir_core.specs.declared.module.GlobalVar.{GlobalVar}
+use Rattle.ir_core.specs.declared.module.Module.{Module}
+use Rattle.ir_core.specs.Refusals.{IsValid}
+use Rattle.ir_context.specs.Extents.{extent_of}
+use Rattle.ir_globals.specs.Told.{told_cells, told_object}
+use Rattle.ir_globals.proofs.ExtentLaws.{extents_filled, extents_few}
+use Rattle.ir_globals.proofs.FirstLaws.{first_told}
+use Rattle.ir_globals.proofs.ValidLaws.{known_valid}
+use Rattle.ir_sound.specs.WellTyped.{Each}
+use Rattle.ir_sound.proofs.RowLaws.{length_map}
+use Rattle.low_core.specs.Contents.{Addresses, cell_byte, content_of}
+use Rattle.low_core.specs.Placing.{part_bytes, ArePlaced}
+use Rattle.low_core.specs.Plan.{Content}
+use Rattle.obj_core.specs.declared.address.SlotAddr.{SlotAddr}
+use Rattle.data_place.specs.declared.starts.Room.{Room}
+use Rattle.data_place.specs.Placed.{addresses_in, first_contents}
+use Rattle.data_place.specs.Starts.{room_of, space_of, room_in, starts_from, told_content}
+use Rattle.data_place.proofs.PartLaws.{content_room, long_front, room_both, part_whole}
+use Rattle.data_place.proofs.StartLaws.{placed}
+
+-- these globals begin with as many bytes as their types tell
+abbrev Fill : Module → List GlobalVar → Type 0
+Fill m gs = Each (λ (g : GlobalVar). length (told_cells m g.init g.ty) ≡ (extent_of m.types g.ty).size) gs
+
+-- a content has the room of its type
+room_is : (m : Module) (at : Addresses) (g : GlobalVar) → length (told_cells m g.init g.ty) ≡ (extent_of m.types g.ty).size → content_room (told_content m at g) ≡ room_of m g
+room_is m at g e =
+    ap (λ n. let r : Room = record { constant = g.constant; size = n } in r) (length_map (cell_byte at) (told_cells m g.init g.ty) ∙ e)
+
+rooms_are : (m : Module) (at : Addresses) (gs : List GlobalVar) → Fill m gs → map content_room (map (told_content m at) gs) ≡ map (room_of m) gs
+rooms_are m at [] fill = refl
+rooms_are m at (g ∷ gs) fill = ap (λ r. r ∷ map content_room (map (told_content m at) gs)) (room_is m at g fill.0) ∙ ap (λ rs. room_of m g ∷ rs) (rooms_are m at gs fill.1)
+
+-- contents as they are told
+contents_told : (m : Module) (at : Addresses) (gs : List GlobalVar) → map (told_content m at) gs ≡ map (content_of at) (map (told_object m) gs)
+contents_told m at [] = refl
+contents_told m at (g ∷ gs) = ap (λ cs. told_content m at g ∷ cs) (contents_told m at gs)
+
+-- both parts are as long as all rooms with their gaps
+both_long : (m : Module) (at : Addresses) (gs : List GlobalVar) → Fill m gs
+    → length (part_bytes true (map (told_content m at) gs)) + length (part_bytes false (map (told_content m at) gs)) ≡ sum_by (space_of m) gs
+both_long m at [] fill = refl
+both_long m at (g ∷ gs) fill =
+    let c : Content = told_content m at g in
+    let cs = map (told_content m at) gs in
+    let constants = long_front true c cs in
+    let others = long_front false c cs in
+    let here : room_in true (content_room c) ≡ room_in true (room_of m g) = ap (room_in true) (room_is m at g fill.0) in
+    let here2 : room_in false (content_room c) ≡ room_in false (room_of m g) = ap (room_in false) (room_is m at g fill.0) in
+    let both = room_both (room_of m g) in
+    let rest = both_long m at gs fill.1 in
+    let sum = sum_by-cons (space_of m) g gs in
+    omega arith
+
+module _ (m : Module) (known : ∥ IsValid m ∥₁) where
+  -- the rooms of a valid module are within the limit
+  pub rooms_few : sum_by (space_of m) m.globals ≤ MAX_BYTES
+  rooms_few = extents_few m (known_valid m known)
+
+  -- what is made for it
+  module _ (pointers : List SlotAddr) (globals constants others : List ℕ) (starts_are : globals ≡ starts_from 0 0 (map (room_of m) m.globals))
+      (ro_is : constants ≡ part_bytes true (map (told_content m (addresses_in globals pointers)) m.globals))
+      (rw_is : others ≡ part_bytes false (map (told_content m (addresses_in globals pointers)) m.globals)) where
+    -- is placed
+    pub data_held : ArePlaced (first_contents m globals pointers) globals constants others
+    data_held =
+        let valid = known_valid m known in
+        let at : Addresses = addresses_in globals pointers in
+        let told : List Content = map (told_content m at) m.globals in
+        let are : told ≡ first_contents m globals pointers = contents_told m at m.globals ∙ ap (map (content_of at)) (first_told m valid) in
+        subst (λ (cs : List Content). ArePlaced cs globals constants others) are
+        (placed told globals constants others (starts_are ∙ ap (starts_from 0 0) (sym (rooms_are m at m.globals (extents_filled m valid)))) ro_is rw_is)
+
+    -- of few bytes
+    pub data_few : length constants + length others ≤ MAX_BYTES
+    data_few =
+        let long = both_long m (addresses_in globals pointers) m.globals (extents_filled m (known_valid m known)) in
+        let few = rooms_few in
+        let a = ap length ro_is in
+        let b = ap length rw_is in
+        omega arith
+
+    -- and of whole multiples of 16
+    pub ro_whole : length constants % 16 ≡ 0
+    ro_whole = ap (λ (bs : List ℕ). length bs % 16) ro_is ∙ part_whole true (map (told_content m (addresses_in globals pointers)) m.globals)
+
+    pub rw_whole : length others % 16 ≡ 0
+    rw_whole = ap (λ (bs : List ℕ). length bs % 16) rw_is ∙ part_whole false (map (told_content m (addresses_in globals pointers)) m.globals)

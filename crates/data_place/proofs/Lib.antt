@@ -1,0 +1,4 @@
+pub mod PartLaws
+pub mod StartLaws
+pub mod HoldLaws
+pub mod FitLaws
