@@ -15,6 +15,7 @@
 
 ghost use Rattle.std.specs.Prelude.{◌≡◌, ◌+◌, ◌%◌, ◌≤◌, length, IfOk};
 ghost use Rattle.ir_core.specs.declared.limit.TheConstants.{MAX_BYTES};
+ghost use Rattle.ir_core.specs.Refusals.{IsValid};
 ghost use Rattle.data_place.specs.Placed.{HoldsData};
 
 pub mod law;
@@ -26,6 +27,7 @@ use crate::parts::part;
 use crate::starts::addresses;
 use crate::words::Words;
 use ir_context::context::Context;
+use ir_core::module::Module;
 use ir_core::valid::Valid;
 use obj_core::address::SlotAddr;
 use obj_core::plan::Placing;
@@ -36,24 +38,38 @@ use std::alloc::Global;
 /// The data of a valid module, whose functions have these pointers by their numbers.
 ///
 /// Time and memory are linear in the text of the module and in the bytes of its globals.
+#[tactic(auto, using(ir_globals::proofs::ValidLaws::valid_distinct, ir_globals::proofs::ValidLaws::valid_types, ir_globals::proofs::ValidLaws::valid_globals, ir_globals::proofs::ValidLaws::valid_functions, ir_globals::proofs::ValidLaws::valid_few))]
 pub fn place(
     alloc: Global,
     valid: &Valid,
     pointers: &List<SlotAddr>,
 ) -> Result<Placing, NoMemory>
-    ensures data { IfOk result (λ p. HoldsData valid.now.kept pointers.now p) }
+    ensures holds { IfOk result (λ p. HoldsData valid.now.kept pointers.now p) }
     ensures few { IfOk result (λ p. length p.ro + length p.rw ≤ MAX_BYTES) }
-    ensures whole_ro { IfOk result (λ p. length p.ro % 16 ≡ 0) }
-    ensures whole_rw { IfOk result (λ p. length p.rw % 16 ≡ 0) }
+    ensures whole { IfOk result (λ p. (length p.ro % 16 ≡ 0) × (length p.rw % 16 ≡ 0)) }
 {
-    let module = valid.module();
-    let context = Context::new(alloc, module)?;
-    let globals = addresses(alloc, &context, module.globals.as_slice())?;
+    let whole = valid.module();
+    let context = Context::new(alloc, whole)?;
+    placing(alloc, &context, whole, pointers.as_slice())
+}
+
+/// The data of a module that is known to be valid, with what its names stand for.
+fn placing(
+    alloc: Global,
+    context: &Context,
+    whole: &Module,
+    pointers: &[SlotAddr],
+) -> Result<Placing, NoMemory>
+    requires known { ∥ IsValid whole.now ∥₁ }
+    requires same { context.now ≡ whole.now }
+    ensures { IfOk result (λ p. HoldsData whole.now pointers.now p) }
+{
+    let globals = addresses(alloc, context, whole.globals.as_slice())?;
     let words = Words {
         globals: globals.as_slice(),
-        pointers: pointers.as_slice(),
+        pointers,
     };
-    let ro = part(alloc, &context, &words, true, module.globals.as_slice())?;
-    let rw = part(alloc, &context, &words, false, module.globals.as_slice())?;
+    let ro = part(alloc, context, &words, true, whole.globals.as_slice())?;
+    let rw = part(alloc, context, &words, false, whole.globals.as_slice())?;
     Ok(Placing { globals, ro, rw })
 }
