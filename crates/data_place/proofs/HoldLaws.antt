@@ -1,7 +1,8 @@
 -- The placing of a valid module holds its data.
-use Rattle.std.proofs.Common.{◌≡◌, ℕ, ◌+◌, ◌%◌, ◌≤◌, Bool, true, false, List, [], ◌∷◌, length, map, refl, ap, sym, ◌∙◌, subst, arith}
+use Rattle.std.proofs.Common.{◌≡◌, ℕ, ◌+◌, ◌%◌, ◌≤◌, Bool, true, false, Result, Ok, Err, IfOk, List, [], ◌∷◌, length, map, refl, ap, sym, ◌∙◌, subst, arith}
 use Rattle.std.specs.List.{sum_by}
 use Rattle.std.proofs.lemmas.List.Sums.{sum_by-cons}
+use Rattle.rd_num.specs.declared.width.NoMemory.{NoMemory}
 use Rattle.ir_core.specs.declared.limit.TheConstants.{MAX_BYTES}
 use Rattle.ir_core.specs.declared.memory.Cell.{Cell}
 use Rattle.ir_core.specs.declared.module.GlobalVar.{GlobalVar}
@@ -118,3 +119,12 @@ module _ (m : Module) (known : ∥ IsValid m ∥₁) where
         (starts_are ∙ ap (λ x. starts_from 0 0 (map (room_of x) gs)) same ∙ ap (λ xs. starts_from 0 0 (map (room_of m) xs)) all)
         (part_seen true pointers seen globals constants gs2 all2 are constants_are)
         (part_seen false pointers seen globals others gs3 all3 are others_are)
+
+  -- an answer that holds data
+  pub if_few : (pointers : List SlotAddr) (r : Result Placing NoMemory) → IfOk r (λ p. HoldsData m pointers p) → IfOk r (λ p. length p.ro + length p.rw ≤ MAX_BYTES)
+  if_few pointers (Ok p) kept = data_few pointers p kept
+  if_few pointers (Err e) kept = kept
+
+  pub if_whole : (pointers : List SlotAddr) (r : Result Placing NoMemory) → IfOk r (λ p. HoldsData m pointers p) → IfOk r (λ p. (length p.ro % 16 ≡ 0) × (length p.rw % 16 ≡ 0))
+  if_whole pointers (Ok p) kept = data_whole pointers p kept
+  if_whole pointers (Err e) kept = kept
