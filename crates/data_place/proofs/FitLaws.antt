@@ -65,7 +65,7 @@ module _ (sel : Sel) (contents : List Content) (plan : Plan) (constants others :
   ends_before g h at at2 i c d lies lies2 same first inside =
       let is = placed.addresses g at c lies.address lies.content in
       let is2 : at2 ≡ part_start c.constant + length (part_bytes c.constant (take h contents)) =
-          placed.addresses h at2 d lies2.address lies2.content ∙ ap (λ k. part_start k + length (part_bytes k (take h contents))) (sym same) in
+      placed.addresses h at2 d lies2.address lies2.content ∙ ap (λ k. part_start k + length (part_bytes k (take h contents))) (sym same) in
       let front = before c.constant contents g h c first lies.content in
       let room = room_own (content_room c) in
       omega arith

@@ -93,9 +93,10 @@ module _ (m : Module) (known : ∥ IsValid m ∥₁) where
 
     -- and of whole multiples of 16
     pub data_whole : (length p.ro % 16 ≡ 0) × (length p.rw % 16 ≡ 0)
-    data_whole =
-        (ap (λ (bs : List ℕ). length bs % 16) kept.ro_bytes ∙ part_whole true (first_contents m p.globals pointers),
-        ap (λ (bs : List ℕ). length bs % 16) kept.rw_bytes ∙ part_whole false (first_contents m p.globals pointers))
+    data_whole = (
+      ap (λ (bs : List ℕ). length bs % 16) kept.ro_bytes ∙ part_whole true (first_contents m p.globals pointers),
+      ap (λ (bs : List ℕ). length bs % 16) kept.rw_bytes ∙ part_whole false (first_contents m p.globals pointers),
+    )
 
   -- what loops tell, over the same module and the same lists
   module _ (context : Module) (same : context ≡ m) where

@@ -2,3 +2,4 @@ pub mod PartLaws
 pub mod StartLaws
 pub mod HoldLaws
 pub mod FitLaws
+pub mod Worked

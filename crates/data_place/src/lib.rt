@@ -39,11 +39,7 @@ use std::alloc::Global;
 ///
 /// Time and memory are linear in the text of the module and in the bytes of its globals.
 #[tactic(auto, using(ir_globals::proofs::ValidLaws::valid_distinct, ir_globals::proofs::ValidLaws::valid_types, ir_globals::proofs::ValidLaws::valid_globals, ir_globals::proofs::ValidLaws::valid_functions, ir_globals::proofs::ValidLaws::valid_few))]
-pub fn place(
-    alloc: Global,
-    valid: &Valid,
-    pointers: &List<SlotAddr>,
-) -> Result<Placing, NoMemory>
+pub fn place(alloc: Global, valid: &Valid, pointers: &List<SlotAddr>) -> Result<Placing, NoMemory>
     ensures holds { IfOk result (λ p. HoldsData valid.now.kept pointers.now p) }
     ensures few { IfOk result (λ p. length p.ro + length p.rw ≤ MAX_BYTES) }
     ensures whole { IfOk result (λ p. (length p.ro % 16 ≡ 0) × (length p.rw % 16 ≡ 0)) }
