@@ -1,19 +1,17 @@
 -- Data that is placed within its limit fits a plan.
-use Rattle.std.proofs.Common.{◌≡◌, ◌≢◌, ℕ, zero, suc, ◌+◌, ◌*◌, ◌<◌, ◌≤◌, ◌^◌, ◌⊎◌, inl, inr, Bool, true, false, List, [], ◌∷◌, length, take, map, Some, refl, ap, sym, ◌∙◌, subst, arith}
-use Rattle.std.specs.Prelude.{All, slice_get, get_or}
+use Rattle.std.proofs.Common.{◌≡◌, ◌≢◌, ℕ, zero, suc, ◌+◌, ◌<◌, ◌≤◌, ◌^◌, ◌⊎◌, inl, inr, Bool, true, false, List, [], ◌∷◌, length, take, map, Some, refl, ap, sym, ◌∙◌, arith}
+use Rattle.std.specs.Prelude.{All, slice_get}
 use Rattle.std.proofs.lemmas.Bool.{cases_lt}
 use Rattle.ir_core.specs.declared.limit.TheConstants.{MAX_BYTES}
 use Rattle.ir_core.specs.declared.module.Module.{Module}
-use Rattle.ir_core.specs.Counts.{spaced}
 use Rattle.ir_core.specs.Globals.{first_objects}
 use Rattle.low_core.specs.declared.sel.Sel.{Sel}
-use Rattle.low_core.specs.Contents.{Addresses, content_of, data_bytes}
-use Rattle.low_core.specs.Placing.{part_bytes, part_start, address_behind, ArePlaced}
-use Rattle.low_core.specs.Plan.{Plan, Content, Lies, IsTaken, IsOffStack}
+use Rattle.low_core.specs.Contents.{content_of, data_bytes}
+use Rattle.low_core.specs.Placing.{part_bytes, part_start, ArePlaced}
+use Rattle.low_core.specs.Plan.{Plan, Content, Lies, IsTaken}
 use Rattle.obj_core.specs.declared.address.SlotAddr.{SlotAddr}
 use Rattle.data_place.specs.Fits.{IsSlotOfFew, DataFits}
-use Rattle.data_place.specs.Placed.{slot_word, addresses_in, first_contents}
-use Rattle.data_place.specs.Starts.{room_in}
+use Rattle.data_place.specs.Placed.{slot_word, first_contents}
 use Rattle.data_place.proofs.PartLaws.{content_room, room_own, within, before}
 
 -- contents under a plan

@@ -4,7 +4,6 @@ use Rattle.std.specs.List.{sum_by}
 use Rattle.std.proofs.lemmas.List.Sums.{sum_by-cons}
 use Rattle.rd_num.specs.declared.width.NoMemory.{NoMemory}
 use Rattle.ir_core.specs.declared.limit.TheConstants.{MAX_BYTES}
-use Rattle.ir_core.specs.declared.memory.Cell.{Cell}
 use Rattle.ir_core.specs.declared.module.GlobalVar.{GlobalVar}
 use Rattle.ir_core.specs.declared.module.Module.{Module}
 use Rattle.ir_core.specs.Refusals.{IsValid}

@@ -1,7 +1,7 @@
 -- Where globals begin by their rooms, and that they are placed so.
-use Rattle.std.proofs.Common.{◌≡◌, ℕ, zero, suc, ◌+◌, Bool, true, false, List, [], ◌∷◌, length, take, map, Some, refl, ap, sym, ◌∙◌, subst, arith}
+use Rattle.std.proofs.Common.{◌≡◌, ℕ, zero, suc, ◌+◌, Bool, true, false, List, [], ◌∷◌, length, take, map, Some, refl, ap, sym, ◌∙◌, arith}
 use Rattle.std.specs.Prelude.{slice_get}
-use Rattle.low_core.specs.Placing.{part_bytes, part_start, address_behind, ArePlaced}
+use Rattle.low_core.specs.Placing.{part_bytes, part_start, ArePlaced}
 use Rattle.low_core.specs.Plan.{Content}
 use Rattle.data_place.specs.declared.starts.Room.{Room}
 use Rattle.data_place.specs.Starts.{room_in, start_behind, starts_from}

@@ -3,7 +3,7 @@
 --     @b = global ptr @a
 --     @c = constant ptr @main
 --     @d = global ptr getelementptr (i8, ptr @b, i64 4)
-use Rattle.std.proofs.Common.{◌≡◌, ℕ, Bool, true, false, List, [], ◌∷◌, ◌++◌, take, map, replicate, refl, sym, subst}
+use Rattle.std.proofs.Common.{◌≡◌, ℕ, Bool, true, false, List, [], ◌∷◌, take, refl, sym, subst}
 use Rattle.std.specs.Prelude.{codes, pos}
 use denote.Hole.Carrier.{out}
 use Rattle.ir_core.specs.declared.ty.Ty.{Ty, out-Ty}
@@ -20,10 +20,7 @@ use Rattle.ir_core.proofs.WorkedWords.{i8, i64, int, named, program}
 use Rattle.low_core.specs.Placing.{part_bytes, address_behind, ArePlaced}
 use Rattle.low_core.specs.Plan.{Content}
 use Rattle.obj_core.specs.declared.address.SlotAddr.{SlotAddr}
-use Rattle.obj_core.specs.declared.plan.Placing.{Placing}
 use Rattle.data_place.specs.Placed.{first_contents, HoldsData}
-use Rattle.data_place.specs.Starts.{starts_from}
-use Rattle.data_place.proofs.PartLaws.{content_room}
 use Rattle.data_place.proofs.StartLaws.{placed}
 
 abbrev global : Bool → List ℕ → Ty → Init → GlobalVar

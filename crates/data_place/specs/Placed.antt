@@ -2,7 +2,7 @@
 use Rattle.std.specs.Prelude.{ℕ, ◌+◌, ◌*◌, List, map}
 use Rattle.ir_core.specs.declared.module.Module.{Module}
 use Rattle.ir_core.specs.Globals.{first_objects}
-use Rattle.low_core.specs.Contents.{Addresses, contents_of, content_of}
+use Rattle.low_core.specs.Contents.{Addresses, content_of}
 use Rattle.low_core.specs.Placing.{ArePlaced}
 use Rattle.low_core.specs.Plan.{Content}
 use Rattle.obj_core.specs.declared.address.SlotAddr.{SlotAddr}
