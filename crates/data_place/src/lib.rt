@@ -1,16 +1,16 @@
 //! Where the data of a module lies, and the bytes that it has when a run begins.
 //!
 //! A valid module and the pointers to its functions in, a placing out: an address for each global,
-//! and the bytes of two parts. Constants lie from 0x20000000 on and other globals from 0x30000000 on,
+//! and the bytes of two parts. Constants lie from 0x20000000 on and other globals from 0x30000000,
 //! in the module's order, each at the next multiple of 16:
 //!
 //!     @a = constant i8 1
 //!     @b = global ptr @a
 //!
-//! becomes 01 and fifteen zeros in one part, and the bytes of 0x20000000 and eight zeros in the other.
-//! A global's bytes are its cells' at first (`ir_globals`), and a pointer the eight bytes of its
-//! address. What a placing holds stands in `specs/Placed`; what `low_core` asks of a plan of
-//! addresses, as far as data goes, in `specs/Fits`.
+//! becomes 01 and fifteen zeros in one part, and the eight bytes of 0x20000000 and eight zeros in
+//! the other. A global has the bytes of its cells at first (`ir_globals`), and a pointer is the eight
+//! bytes of its address. What a placing holds stands in `specs/Placed`; what `low_core` asks of a
+//! plan of addresses, as far as data goes, in `specs/Fits`.
 #![tactic(auto)]
 
 ghost use Rattle.std.specs.Prelude.{◌≡◌, ◌+◌, ◌%◌, ◌≤◌, length, IfOk};

@@ -17,7 +17,7 @@ use std::alloc::Global;
 use x86_core::image::{RO_START, RW_START};
 
 /// What a global takes.
-#[derive(Clone, Copy)]
+#[derive(Drop)]
 struct Room {
     constant: bool,
     size: u64,
@@ -36,7 +36,7 @@ impl Room {
 }
 
 /// How many bytes are taken of the part of the constants, and of that of the others.
-#[derive(Clone, Copy)]
+#[derive(Drop)]
 struct Ends {
     ro: u64,
     rw: u64,

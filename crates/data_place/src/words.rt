@@ -1,6 +1,6 @@
 //! Words of values, and bytes of cells, once globals and functions have addresses.
 
-ghost use Rattle.std.specs.Prelude.{◌≡◌, get_or};
+ghost use Rattle.std.specs.Prelude.{◌≡◌, get_or, map};
 ghost use Rattle.low_core.specs.Contents.{word_of, byte_of, cell_byte};
 ghost use Rattle.data_place.specs.Placed.{slot_word, addresses_in};
 
@@ -8,7 +8,7 @@ use ir_core::memory::{Cell, Value};
 use obj_core::address::SlotAddr;
 
 /// The addresses of globals and the pointers to functions, by their numbers.
-#[derive(Clone, Copy)]
+#[derive(Drop)]
 pub(crate) struct Words<'a> {
     pub(crate) globals: &'a [u64],
     pub(crate) pointers: &'a [SlotAddr],
@@ -27,7 +27,7 @@ impl<'a> Words<'a> {
 
     /// The pointer to a function.
     fn pointer(&self, number: u32) -> u64
-        ensures { result ≡ get_or (addresses_in self.now.globals.now self.now.pointers.now).functions number 0 }
+        ensures { result ≡ get_or (map slot_word self.now.pointers.now) number 0 }
     {
         match self.pointers.get(number as usize) {
             Some(at) => at.number(),
