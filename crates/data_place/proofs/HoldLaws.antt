@@ -34,6 +34,7 @@ room_is : (m : Module) (at : Addresses) (g : GlobalVar) → length (told_cells m
 room_is m at g e =
     ap (λ n. let r : Room = record { constant = g.constant; size = n } in r) (length_map (cell_byte at) (told_cells m g.init g.ty) ∙ e)
 
+-- so have all
 rooms_are : (m : Module) (at : Addresses) (gs : List GlobalVar) → Fill m gs → map content_room (map (told_content m at) gs) ≡ map (room_of m) gs
 rooms_are m at [] fill = refl
 rooms_are m at (g ∷ gs) fill = ap (λ r. r ∷ map content_room (map (told_content m at) gs)) (room_is m at g fill.0) ∙ ap (λ rs. room_of m g ∷ rs) (rooms_are m at gs fill.1)

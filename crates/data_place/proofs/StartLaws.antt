@@ -12,6 +12,7 @@ pub starts_long : (constants others : ℕ) (rs : List Room) → length (starts_f
 starts_long constants others [] = refl
 starts_long constants others (r ∷ rs) = ap suc (starts_long (constants + room_in true r) (others + room_in false r) rs)
 
+-- a room for each content
 rooms_long : (cs : List Content) → length (map content_room cs) ≡ length cs
 rooms_long [] = refl
 rooms_long (c ∷ cs) = ap suc (rooms_long cs)

@@ -23,6 +23,7 @@ use Rattle.obj_core.specs.declared.address.SlotAddr.{SlotAddr}
 use Rattle.data_place.specs.Placed.{first_contents, HoldsData}
 use Rattle.data_place.proofs.StartLaws.{placed}
 
+-- a global
 abbrev global : Bool → List ℕ → Ty → Init → GlobalVar
 global constant name ty init = record { name = name; constant = constant; ty = ty; init = init }
 
@@ -30,6 +31,7 @@ global constant name ty init = record { name = name; constant = constant; ty = t
 abbrev behind_b : Place0
 behind_b = record { source = i8; base = codes "b"; indices = record { ty = i64; value = pos 4 } ∷ [] }
 
+-- the module
 abbrev four : Module
 four = program (
     global true (codes "a") (Row 3 i8) (Init.Text (codes "ABC"))
@@ -61,9 +63,11 @@ unfolding out-Ty out
 contents_are =
     rw (init-text four (codes "ABC") (Row 3 i8), init-value four (named (codes "a")) Ty.Ptr, init-value four (named (codes "main")) Ty.Ptr, init-value four (Operand.Const behind_b) Ty.Ptr, shape-ptr [], shape-int [] W8) refl
 
+-- the bytes of @a and @c
 abbrev constants : List ℕ
 constants = 65 ∷ 66 ∷ 67 ∷ 0 ∷ 0 ∷ 0 ∷ 0 ∷ 0 ∷ 0 ∷ 0 ∷ 0 ∷ 0 ∷ 0 ∷ 0 ∷ 0 ∷ 0 ∷ 16 ∷ 0 ∷ 0 ∷ 16 ∷ 0 ∷ 0 ∷ 0 ∷ 0 ∷ 0 ∷ 0 ∷ 0 ∷ 0 ∷ 0 ∷ 0 ∷ 0 ∷ 0 ∷ []
 
+-- the bytes of @b and @d
 abbrev others : List ℕ
 others = 0 ∷ 0 ∷ 0 ∷ 32 ∷ 0 ∷ 0 ∷ 0 ∷ 0 ∷ 0 ∷ 0 ∷ 0 ∷ 0 ∷ 0 ∷ 0 ∷ 0 ∷ 0 ∷ 4 ∷ 0 ∷ 0 ∷ 48 ∷ 0 ∷ 0 ∷ 0 ∷ 0 ∷ 0 ∷ 0 ∷ 0 ∷ 0 ∷ 0 ∷ 0 ∷ 0 ∷ 0 ∷ []
 
