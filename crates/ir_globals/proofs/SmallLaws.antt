@@ -4,7 +4,7 @@ use Rattle.std.specs.Prelude.{◌&&◌, nat_lt, ◌^◌, if◌then◌else◌}
 use Rattle.std.specs.List.{list_all, filter, flat_map}
 use Rattle.std.proofs.lemmas.Bool.{and_parts, ltb-false}
 use Rattle.ir_core.specs.declared.limit.Limit.{Limit}
-use Rattle.ir_core.specs.declared.limit.TheConstants.{MAX_NESTING, MAX_SIZE, MAX_FRAME}
+use Rattle.ir_core.specs.declared.limit.TheConstants.{MAX_NESTING, MAX_SIZE, MAX_FRAME, MAX_BYTES}
 use Rattle.ir_core.specs.declared.ty.Ty.{Ty, roll-Ty, out-Ty, roll-out-Ty}
 use Rattle.ir_core.specs.declared.ty.Ty.TheVariants.{Void, Int, Ptr, Array, Struct, Packed, Named, rolls-Void, rolls-Int, rolls-Ptr, rolls-Array, rolls-Struct, rolls-Packed, rolls-Named}
 use Rattle.ir_core.specs.declared.ty.Ty.TheOpen.{Ty-F}
@@ -12,7 +12,7 @@ use Rattle.ir_core.specs.declared.ty.NamedTy.{NamedTy}
 use Rattle.ir_core.specs.declared.module.Function.{Function}
 use Rattle.ir_core.specs.declared.module.Module.{Module}
 use Rattle.ir_core.specs.Mentions.{Mention, OfType, parts_of, of_global, of_extern, of_function, outside_functions, mentions, types_in, written_types}
-use Rattle.ir_core.specs.Counts.{depth_of, size_count, frame_count}
+use Rattle.ir_core.specs.Counts.{depth_of, size_count, frame_count, bytes_count}
 use Rattle.ir_core.specs.Built.{built_all, is_struct_at, name_built, type_built, named_built, global_built, extern_built, function_built}
 use Rattle.ir_core.specs.Refusals.{IsValid, past, limited}
 use Rattle.ir_core.proofs.WrittenTypes.{parts-void, parts-int, parts-ptr, parts-named, parts-array, parts-struct, parts-packed}
@@ -21,7 +21,7 @@ use Rattle.ir_sound.proofs.NoFaults.{both_empty, map_empty, not_empty, unrefused
 use Rattle.ir_sound.proofs.RowLaws.{Each_parts, Each_rows, Each_more, Each_and, each_mapped}
 use Rattle.ir_sound.proofs.SameLaws.{not_true}
 use Rattle.ir_context.specs.Small.{AreSmall, IsSmall, is_plain, FieldsAreSmall, IsSmallMention}
-use Rattle.ir_eval.specs.Small.{IsSmallModule}
+use Rattle.ir_globals.specs.Small.{IsSmallModule}
 
 -- counts none of which is past a limit
 none_past : (most : ℕ) (counts : List ℕ) → filter (λ n. nat_lt most n) counts ≡ [] → Each (λ n. n ≤ most) counts
@@ -36,14 +36,15 @@ none_past most (n ∷ ns) e = by_test (nat_lt most n) refl e (none_past most ns)
 kept : {X : Type 0} (which : Limit) (most : ℕ) (count : X → ℕ) (xs : List X) → past which most (map count xs) ≡ [] → Each (λ x. count x ≤ most) xs
 kept which most count xs none = each_mapped (λ n. n ≤ most) count xs (none_past most (map count xs) (map_empty _ (filter (λ n. nat_lt most n) (map count xs)) none))
 
--- the limits of types and of frames
-record AreKept (m : Module) : Type 0 where
+-- the limits of types, of frames and of the bytes of globals
+pub record AreKept (m : Module) : Type 0 where
   pub depths : Each (λ (ty : Ty). depth_of m.types ty ≤ MAX_NESTING) (written_types m)
   pub sizes : Each (λ (ty : Ty). size_count m.types ty ≤ MAX_SIZE) (written_types m)
   pub frames : Each (λ (f : Function). frame_count m.types f ≤ MAX_FRAME) m.functions
+  pub bytes : bytes_count m ≤ MAX_BYTES
 
 -- hold in a module that passes no limit
-limits_kept : (m : Module) → limited m ≡ [] → AreKept m
+pub limits_kept : (m : Module) → limited m ≡ [] → AreKept m
 limits_kept m none =
     let code = both_empty _ _ none in
     let bytes = both_empty _ _ code.0 in
@@ -57,6 +58,7 @@ limits_kept m none =
       depths = kept Limit.Nesting MAX_NESTING (depth_of m.types) (written_types m) sizes.0;
       sizes = kept Limit.Size MAX_SIZE (size_count m.types) (written_types m) sizes.1;
       frames = kept Limit.Frame MAX_FRAME (frame_count m.types) m.functions frame.1;
+      bytes = (kept Limit.Bytes MAX_BYTES (λ n. n) (bytes_count m ∷ []) bytes.1).0;
     }
 
 -- a type is the first of its own parts

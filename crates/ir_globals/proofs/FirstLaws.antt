@@ -45,9 +45,10 @@ use Rattle.ir_sound.proofs.SameLaws.{not_true}
 use Rattle.ir_sound.proofs.ValidTyped.{valid_typed}
 use Rattle.ir_context.specs.Small.{IsSmall, FieldsAreSmall, IsSmallMention}
 use Rattle.ir_context.proofs.PathLaws.{size_is}
-use Rattle.ir_eval.proofs.PartLaws.{is_placed}
+use Rattle.ir_context.proofs.OperandLaws.{is_placed}
 use Rattle.ir_context.proofs.ShapeLaws.{tells}
-use Rattle.ir_eval.proofs.SmallLaws.{valid_small}
+use Rattle.ir_globals.proofs.MentionLaws.{all_small}
+use Rattle.ir_globals.proofs.SmallLaws.{valid_small}
 use Rattle.ir_context.proofs.ValueLaws.{value_read}
 
 -- cells of an origin are those of the value that comes from there, without registers
@@ -94,7 +95,7 @@ module _ (m : Module) (all : FieldsAreSmall m.types m.types) where
   value_placed : (ty : Ty) (v : Operand) → AreSmallMentions (of_operand v) → value_fits m ty v ≡ true → IsPlaced m v
   value_placed ty Undef small fits = tt
   value_placed ty Poison small fits = tt
-  value_placed ty v small fits = is_placed m (λ name. None) (kind_of ty) v all small fits
+  value_placed ty v small fits = is_placed m (λ name. None) (kind_of ty) v all (all_small m.types (of_operand v) small) fits
 
   -- an initialiser is told as it is, as one of a type that it fits
   abbrev IsTold : Init → Type 0

@@ -14,7 +14,7 @@ use Rattle.ir_core.specs.Refusals.{Fault, IsValid}
 use Rattle.ir_core.proofs.Distinct.{types_differ, variables_differ, functions_differ}
 use Rattle.ir_sound.proofs.NoFaults.{unrefused}
 use Rattle.ir_globals.specs.Told.{told_objects}
-use Rattle.ir_eval.proofs.FirstLaws.{first_told}
+use Rattle.ir_globals.proofs.FirstLaws.{first_told}
 
 -- no refusal is no refusal in one way
 no_fault : (o : Option Fault) → IsProp (o ≡ None)
