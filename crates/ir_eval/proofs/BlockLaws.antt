@@ -29,7 +29,7 @@ use Rattle.ir_sound.specs.WellTyped.{Each}
 use Rattle.ir_sound.proofs.RowLaws.{all_at, Each_at, Each_parts, Each_rows}
 use Rattle.ir_sound.proofs.SameLaws.{none_is, not_true, some_is}
 use Rattle.ir_context.specs.Small.{FieldsAreSmall, IsSmallMention}
-use Rattle.ir_eval.specs.Small.{IsSmallModule}
+use Rattle.ir_globals.specs.Small.{IsSmallModule}
 use Rattle.ir_run.specs.Standing.{IntoStands}
 use Rattle.ir_run.specs.Agreement.{InstAgrees, PhisAgree, BlockAgrees, Agrees}
 use Rattle.ir_eval.proofs.PartLaws.{entries_placed, phi_taken, end_agrees}

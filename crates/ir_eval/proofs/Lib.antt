@@ -1,10 +1,6 @@
-pub mod MentionLaws
-pub mod SmallLaws
 pub mod PartLaws
 pub mod ActLaws
 pub mod BlockLaws
 pub mod AgreeLaws
-pub mod FirstLaws
 pub mod FillLaws
-pub mod ValidLaws
 pub mod RunLaws

@@ -39,7 +39,7 @@ use Rattle.ir_run.specs.Agreement.{IsReadAs, CallsAs, CasesAgree, EndAgrees}
 use Rattle.ir_context.proofs.ValueLaws.{value_read}
 use Rattle.ir_context.proofs.MoveLaws.{then_same, values_read}
 use Rattle.ir_context.proofs.OperandLaws.{is_placed as operand_placed, are_placed as args_placed}
-use Rattle.ir_eval.proofs.MentionLaws.{all_small}
+use Rattle.ir_globals.proofs.MentionLaws.{all_small}
 
 -- an operand that fits a kind, and whose types are small
 pub is_placed : (m : Module) (env : Env) (kind : Kind) (a : Operand) → FieldsAreSmall m.types m.types → Each (IsSmallMention m.types) (of_operand a) → operand_fits m env kind a ≡ true → IsPlaced m a

@@ -25,7 +25,7 @@ use Rattle.ir_eval.specs.Outcomes.{outcome_after}
 use Rattle.ir_eval.specs.Evaluated.{Evaluated}
 use Rattle.ir_eval.proofs.AgreeLaws.{valid_agrees}
 use Rattle.ir_eval.proofs.FillLaws.{never_wide}
-use Rattle.ir_eval.proofs.ValidLaws.{known_valid}
+use Rattle.ir_globals.proofs.ValidLaws.{known_valid}
 
 module _ (m : Module) (n : ℕ) (a a2 : SourceTold) (b b2 : SinkTold) (typed : IsTyped m) where
   -- what a run did, where bytes are told

@@ -32,7 +32,7 @@ struct Prepared {
 }
 
 /// What a run of a valid module needs, in time linear in its text and the bytes of its globals.
-#[tactic(auto, using(crate::proofs::ValidLaws::valid_distinct, crate::proofs::ValidLaws::valid_types, crate::proofs::ValidLaws::valid_globals, crate::proofs::ValidLaws::valid_functions, crate::proofs::ValidLaws::valid_few, crate::proofs::ValidLaws::valid_told))]
+#[tactic(auto, using(ir_globals::proofs::ValidLaws::valid_distinct, ir_globals::proofs::ValidLaws::valid_types, ir_globals::proofs::ValidLaws::valid_globals, ir_globals::proofs::ValidLaws::valid_functions, ir_globals::proofs::ValidLaws::valid_few, ir_globals::proofs::ValidLaws::valid_told))]
 fn prepare(alloc: Global, whole: &Module) -> Result<Prepared, NoMemory>
     requires { ∥ IsValid whole.now ∥₁ }
     ensures program { IfOk result (λ p. p.program ≡ program_of whole.now) }

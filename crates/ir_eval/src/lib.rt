@@ -3,7 +3,7 @@
 //! `evaluate` has the call, `outcome` how a run can stand. A module becomes a program and the objects
 //! of its globals, and steps of the program are those of the module's meaning. That they are, the
 //! laws below say, which do nothing: the program of a valid module gives, part by part, what the
-//! module gives. The types of a valid module and its frames are within the limits (`specs/Small`).
+//! module gives. The types of a valid module and its frames are within the limits (`ir_globals`).
 //! The sizes of such types and the places of their fields are told as they are, so that operands and
 //! moves of pointers give what those of the module do (`law` of `ir_context`), and with them
 //! instructions, phis and ends of blocks. What agrees with what stands in `ir_run`.
@@ -23,20 +23,13 @@ ghost use Rattle.ir_core.specs.Typing.{Env, operand_fits, op_fits, term_fits};
 ghost use Rattle.ir_sound.specs.Typed.{IsTyped};
 ghost use Rattle.ir_sound.specs.WellTyped.{Each};
 ghost use Rattle.ir_run.specs.Agreement.{IsReadAs, ActsAs, EndAgrees, Agrees};
-ghost use Rattle.ir_core.specs.Globals.{first_objects};
-ghost use Rattle.ir_globals.specs.Told.{told_objects};
 ghost use Rattle.ir_context.specs.Small.{FieldsAreSmall, IsSmallMention};
-ghost use Rattle.ir_eval.specs.Small.{IsSmallModule};
+ghost use Rattle.ir_globals.specs.Small.{IsSmallModule};
 
 pub mod evaluate;
 pub mod outcome;
 
 pub use evaluate::eval;
-
-/// The types of a valid module and the frames of its functions are within the limits.
-pub fn valid_is_small()
-    ensures { (m : Module) → IsValid m → IsSmallModule m }
-{}
 
 /// An operand that fits a kind is read as its origin, where its types are small.
 pub fn operands_are_read()
@@ -67,9 +60,4 @@ pub fn typed_agrees()
 /// So does that of a valid module.
 pub fn agrees()
     ensures { (m : Module) → IsValid m → Agrees m }
-{}
-
-/// The objects with which a run of a valid module begins are told as they are.
-pub fn first_objects_are_told()
-    ensures { (m : Module) → IsValid m → told_objects m ≡ first_objects m }
 {}

@@ -1,0 +1,6 @@
+pub mod PartLaws
+pub mod StartLaws
+pub mod ByteLaws
+pub mod HoldLaws
+pub mod FitLaws
+pub mod Worked

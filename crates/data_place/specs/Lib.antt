@@ -1,0 +1,3 @@
+pub mod Placed
+pub mod Starts
+pub mod Fits

@@ -1,0 +1,7 @@
+pub mod Long
+pub mod Writing
+pub mod Six
+pub mod Sizes
+pub mod Loops
+pub mod Written
+pub mod Functions

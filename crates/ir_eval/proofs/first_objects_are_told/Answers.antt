@@ -1,5 +1,0 @@
-use Rattle.ir_eval.proofs.FirstLaws.{first_told}
-use Rattle.ir_eval.proofs.first_objects_are_told.Goals as goal
-
-pub returns : goal.returns
-returns c = first_told
