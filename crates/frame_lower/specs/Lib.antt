@@ -5,3 +5,4 @@ pub mod Blocks
 pub mod Functions
 pub mod Writing
 pub mod Making
+pub mod Given

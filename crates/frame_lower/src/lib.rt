@@ -13,3 +13,4 @@ pub mod ends;
 pub mod function;
 pub mod maker;
 pub mod ops;
+pub mod frame;
