@@ -5,3 +5,4 @@ pub mod Sizes
 pub mod Loops
 pub mod Written
 pub mod Functions
+pub mod Greatest

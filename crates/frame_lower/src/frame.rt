@@ -3,6 +3,8 @@
 ghost use Rattle.std.specs.Prelude.{◌≡◌, ◌+◌, ◌-◌, ◌≤◌, ◌^◌, All, map, max, IfOk};
 ghost use Rattle.ir_core.specs.Counts.{greatest};
 ghost use Rattle.low_core.specs.declared.sel.Home.{Home as OneHome};
+ghost use Rattle.std.specs.List.{flat_map};
+ghost use Rattle.low_core.specs.declared.sel.SelBlock.{SelBlock as OneBlock};
 ghost use Rattle.low_core.specs.declared.sel.SelOp.{SelOp as OneOp};
 ghost use Rattle.low_core.specs.SelParts.{ops_of};
 ghost use Rattle.low_core.specs.SelWeights.{arguments_of, words_passed};
@@ -112,4 +114,28 @@ fn most_passed(ops: &[SelOp]) -> u32
         most = greater(most, op_passed(op));
     }
     most
+}
+
+/// The most of them in blocks.
+#[tactic(auto, using(crate::proofs::Greatest::most_of_both))]
+fn most_passed_in(blocks: &[SelBlock]) -> u32
+    requires { All (λ (b : OneBlock). All (λ (op : OneOp). arguments_of op ≤ 2 ^ 10) b.ops)
+        blocks.now }
+    ensures { result ≡ greatest (map (λ (op : OneOp). arguments_of op - 6)
+        (flat_map (λ (b : OneBlock). b.ops) blocks.now)) }
+{
+    let mut most = 0;
+    for block in blocks {
+        most = greater(most, most_passed(block.ops.as_slice()));
+    }
+    most
+}
+
+/// The words of arguments past the sixth that calls of a function pass.
+pub fn passed_words(f: &SelFun) -> u32
+    requires { All (λ (b : OneBlock). All (λ (op : OneOp). arguments_of op ≤ 2 ^ 10) b.ops)
+        f.now.blocks }
+    ensures { result ≡ words_passed f.now }
+{
+    most_passed_in(f.blocks.as_slice())
 }
