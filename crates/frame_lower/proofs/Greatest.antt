@@ -1,5 +1,5 @@
 -- The greatest of rows one behind the other.
-use Rattle.std.proofs.Common.{◌≡◌, ℕ, ◌-◌, List, [], ◌∷◌, ◌++◌, map, max, refl, ap, ◌∙◌, arith}
+use Rattle.std.proofs.Common.{◌≡◌, ℕ, ◌-◌, List, [], ◌∷◌, ◌++◌, map, max, ap, ◌∙◌, arith}
 use Rattle.ir_core.specs.Counts.{greatest}
 use Rattle.low_core.specs.declared.sel.SelOp.{SelOp}
 use Rattle.low_core.specs.SelWeights.{arguments_of}

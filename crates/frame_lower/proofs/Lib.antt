@@ -6,3 +6,4 @@ pub mod Loops
 pub mod Written
 pub mod Functions
 pub mod Greatest
+pub mod FrameLaws

@@ -59,17 +59,20 @@ pub record Choices : Type 0 where
   pub placing : Placing
   pub slots : SlotPlan
 
+-- a function of a number, with its homes and the names of its colours
+abbrev pub making_with : List ℕ → List ℕ → ℕ → ℕ → List Reg → List Home → SelFun → Making
+making_with globals functions reg_draw number names homes f = record {
+  homes = spot_of (spots names f homes);
+  plan = addresses_of globals functions;
+  words = frame_words f homes;
+  room = room_bytes f homes;
+  order = five_of reg_draw push_purpose number;
+}
+
 -- the function of a number
 abbrev pub making_of : Choices → ℕ → SelFun → Making
 making_of c number f =
-    let homes = get_or c.homes number [] in
-    record {
-      homes = spot_of (spots (get_or c.names number []) f homes);
-      plan = addresses_of c.placing.globals (map slot_number c.slots.pointers);
-      words = frame_words f homes;
-      room = room_bytes f homes;
-      order = five_of c.reg_seed push_purpose number;
-    }
+    making_with c.placing.globals (map slot_number c.slots.pointers) c.reg_seed number (get_or c.names number []) (get_or c.homes number []) f
 
 -- functions one after another, the first of them with a number and with the slot of its first call
 abbrev pub functions_from : Choices → ℕ → ℕ → List SelFun → List Func

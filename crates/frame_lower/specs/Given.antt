@@ -1,7 +1,12 @@
 -- What the code of a program asks of the homes of its registers.
-use Rattle.std.specs.Prelude.{◌≡◌, ℕ, ◌≤◌, List, [], ◌∷◌, length, All}
+use Rattle.std.specs.Prelude.{◌≤◌, List, [], ◌∷◌, length, All}
+use Rattle.ir_core.specs.declared.limit.TheConstants.{MAX_PARAMETERS, MAX_FRAME, MAX_CODE}
 use Rattle.low_core.specs.declared.sel.Home.{Home}
+use Rattle.low_core.specs.declared.sel.SelBlock.{SelBlock}
 use Rattle.low_core.specs.declared.sel.SelFun.{SelFun}
+use Rattle.low_core.specs.declared.sel.SelOp.{SelOp}
+use Rattle.low_core.specs.declared.sel.SelOp.TheVariants.{FrameAt}
+use Rattle.low_core.specs.SelWeights.{arguments_of, sel_function_weight, sel_room}
 use Rattle.frame_lower.specs.Frames.{words_to}
 
 -- a function has fewer words of homes than registers
@@ -14,3 +19,16 @@ HavePlaces [] [] = Unit {0}
 HavePlaces (f ∷ fs) (hs ∷ hss) = HasPlaces f hs × HavePlaces fs hss
 HavePlaces [] (hs ∷ hss) = ⊥
 HavePlaces (f ∷ fs) [] = ⊥
+
+-- an operation names no place past the function's own memory
+abbrev pub NamesPlace : SelFun → SelOp → Type 0
+NamesPlace f (FrameAt r at) = at ≤ f.frame
+NamesPlace f other = Unit {0}
+
+-- a function within the limits: its frame, its parameters, the arguments of its calls, and its code
+pub record IsSmall (f : SelFun) : Type 0 where
+  pub room : sel_room f ≤ MAX_FRAME
+  pub params : length f.params ≤ MAX_PARAMETERS
+  pub few : All (λ (b : SelBlock). All (λ op. arguments_of op ≤ MAX_PARAMETERS) b.ops) f.blocks
+  pub places : All (λ (b : SelBlock). All (NamesPlace f) b.ops) f.blocks
+  pub light : sel_function_weight f ≤ MAX_CODE
