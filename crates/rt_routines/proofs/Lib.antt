@@ -1,0 +1,9 @@
+pub mod Words
+pub mod Asks
+pub mod Putchar
+pub mod Getchar
+pub mod Exit
+pub mod Start
+pub mod Loops
+pub mod Fills
+pub mod Copies

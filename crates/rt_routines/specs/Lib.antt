@@ -1,0 +1,4 @@
+pub mod Assembled
+pub mod Routines
+pub mod Sound
+pub mod Code
