@@ -1,8 +1,10 @@
 //! Tests of the passes of the compiler, over modules that are read and checked.
 //!
 //! They stand apart from the crates that they are about, since a crate with tests is proved once more
-//! with them. `lowered` is about `phi_lower` and `switch_lower`.
+//! with them. `lowered` is about `phi_lower` and `switch_lower`, `placed` about `data_place`.
 #![tactic(auto)]
 
 #[cfg(test)]
 mod lowered;
+#[cfg(test)]
+mod placed;

@@ -89,7 +89,7 @@ fn module_of(alloc: Global, text: &[u8]) -> Option<Module>
 }
 
 /// The module of a text, if it is valid.
-fn valid_of(alloc: Global, text: &[u8]) -> Option<Valid> {
+pub(crate) fn valid_of(alloc: Global, text: &[u8]) -> Option<Valid> {
     if text.len() > LIMIT {
         return None;
     }
