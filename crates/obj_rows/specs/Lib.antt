@@ -1,2 +1,5 @@
 pub mod Marked
 pub mod Standing
+pub mod Assembled
+pub mod Routines
+pub mod Sound

@@ -22,7 +22,7 @@ use Rattle.obj_core.specs.declared.object.Place.{Place}
 use Rattle.obj_core.specs.SymbolicMachine.{at_code, symbolic_step}
 use Rattle.obj_rows.specs.Marked.{Marked, unlinked, Stands, IsFunction}
 use Rattle.obj_rows.specs.Standing.{Outside, standing}
-use Rattle.rt_routines.specs.Routines.{LandsBy, IsCalled}
+use Rattle.obj_rows.specs.Routines.{LandsBy, IsCalled}
 use Rattle.obj_rows.proofs.Branches.{jumps, returns}
 use Rattle.obj_rows.proofs.Slots.{system_returns}
 use Rattle.rt_routines.specs.Code.{jump_to, ask_row}

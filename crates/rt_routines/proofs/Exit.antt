@@ -17,7 +17,7 @@ use Rattle.obj_core.specs.declared.object.Place.{Place}
 use Rattle.obj_core.specs.SymbolicMachine.{symbolic_step}
 use Rattle.obj_rows.specs.Marked.{Marked, unlinked, Stands, IsFunction}
 use Rattle.obj_rows.specs.Standing.{Outside, standing, shown}
-use Rattle.rt_routines.specs.Routines.{ComesToShow, IsExit, few_steps}
+use Rattle.obj_rows.specs.Routines.{ComesToShow, IsExit, few_steps}
 use Rattle.obj_rows.proofs.Branches.{jumps}
 use Rattle.obj_rows.proofs.Kernel.{asks_to_exit, exits}
 use Rattle.obj_rows.proofs.Runs.{step_through}

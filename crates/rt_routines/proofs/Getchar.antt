@@ -34,7 +34,7 @@ use Rattle.obj_core.specs.Slots.{slot_start}
 use Rattle.obj_core.specs.SymbolicMachine.{symbolic_step}
 use Rattle.obj_rows.specs.Marked.{Marked, all_unlinked, unlinked, Stands, IsFunction}
 use Rattle.obj_rows.specs.Standing.{Outside, standing}
-use Rattle.rt_routines.specs.Routines.{LandsBy, IsCalled, ComesBack, IsGetchar, few_steps, taking, taken_word}
+use Rattle.obj_rows.specs.Routines.{LandsBy, IsCalled, ComesBack, IsGetchar, few_steps, taking, taken_word}
 use Rattle.obj_rows.proofs.Kernel.{asks_to_take, takes, takes_none}
 use Rattle.obj_rows.proofs.Runs.{row_comes}
 use Rattle.rt_routines.specs.Code.{jump_to, spare_byte, ask_row, take_call, getchar_row}

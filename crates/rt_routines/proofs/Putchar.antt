@@ -26,7 +26,7 @@ use Rattle.obj_core.specs.Slots.{slot_start}
 use Rattle.obj_core.specs.SymbolicMachine.{symbolic_step}
 use Rattle.obj_rows.specs.Marked.{Marked, all_unlinked, unlinked, Stands, IsFunction}
 use Rattle.obj_rows.specs.Standing.{Outside, standing}
-use Rattle.rt_routines.specs.Routines.{LandsBy, IsCalled, ComesBack, IsPutchar, few_steps}
+use Rattle.obj_rows.specs.Routines.{LandsBy, IsCalled, ComesBack, IsPutchar, few_steps}
 use Rattle.obj_rows.proofs.Kernel.{asks_to_print, prints}
 use Rattle.obj_rows.proofs.Runs.{row_comes}
 use Rattle.rt_routines.specs.Code.{jump_to, spare_byte, ask_row, print_call, putchar_row}

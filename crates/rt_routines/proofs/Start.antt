@@ -28,7 +28,7 @@ use Rattle.obj_core.specs.SymbolicMachine.{symbolic_start, symbolic_step}
 use Rattle.obj_core.specs.WellFormed.{most_data}
 use Rattle.obj_rows.specs.Marked.{Marked, all_unlinked, unlinked, instrs_of, Stands, IsFunction}
 use Rattle.obj_rows.specs.Standing.{Outside, standing, shown, first_core, first_outside}
-use Rattle.rt_routines.specs.Routines.{ComesToShow, IsStart, few_steps}
+use Rattle.obj_rows.specs.Routines.{ComesToShow, IsStart, few_steps}
 use Rattle.obj_rows.proofs.Branches.{jumps}
 use Rattle.obj_rows.proofs.Runs.{row_comes, step_through}
 use Rattle.obj_rows.proofs.Slots.{entry_goes, call_goes, call_returns}

@@ -8,7 +8,7 @@ use Rattle.x86_core.specs.declared.image.Segment.{Segment}
 use Rattle.x86_core.specs.Registers.{word}
 use Rattle.x86_core.specs.Arithmetic.{moved}
 use Rattle.x86_rows.specs.Straight.{Core}
-use Rattle.rt_routines.specs.Routines.{is_kept}
+use Rattle.obj_rows.specs.Routines.{is_kept}
 
 -- words of registers that are changed
 pub record Used : Type 0 where

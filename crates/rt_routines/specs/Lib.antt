@@ -1,4 +1,1 @@
-pub mod Assembled
-pub mod Routines
-pub mod Sound
 pub mod Code

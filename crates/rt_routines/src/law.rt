@@ -7,7 +7,7 @@ ghost use Rattle.obj_core.specs.declared.object.Slot.{Slot};
 ghost use Rattle.obj_core.specs.WellFormed.{most_data};
 ghost use Rattle.obj_rows.specs.Marked.{IsFunction};
 ghost use Rattle.rt_routines.specs.Code.{putchar_row, getchar_row, exit_row, start_row};
-ghost use Rattle.rt_routines.specs.Routines.{IsPutchar, IsGetchar, IsExit, IsStart};
+ghost use Rattle.obj_rows.specs.Routines.{IsPutchar, IsGetchar, IsExit, IsStart};
 
 /// One byte is printed, and given back.
 pub fn prints()
