@@ -7,3 +7,7 @@ pub mod Written
 pub mod Functions
 pub mod Greatest
 pub mod FrameLaws
+pub mod Marks
+pub mod Programs
+pub mod Once
+pub mod Members
