@@ -11,3 +11,5 @@ pub mod Marks
 pub mod Programs
 pub mod Once
 pub mod Members
+pub mod Sites
+pub mod LinkedOnce
