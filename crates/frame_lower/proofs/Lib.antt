@@ -13,3 +13,4 @@ pub mod Once
 pub mod Members
 pub mod Sites
 pub mod LinkedOnce
+pub mod Tame
