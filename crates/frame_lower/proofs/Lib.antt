@@ -14,3 +14,5 @@ pub mod Members
 pub mod Sites
 pub mod LinkedOnce
 pub mod Tame
+pub mod Displacements
+pub mod Ranged
