@@ -16,3 +16,4 @@ pub mod LinkedOnce
 pub mod Tame
 pub mod Displacements
 pub mod Ranged
+pub mod Avoided
