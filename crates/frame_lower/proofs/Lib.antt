@@ -17,3 +17,4 @@ pub mod Tame
 pub mod Displacements
 pub mod Ranged
 pub mod Avoided
+pub mod Branches
