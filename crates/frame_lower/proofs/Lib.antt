@@ -18,3 +18,4 @@ pub mod Displacements
 pub mod Ranged
 pub mod Avoided
 pub mod Branches
+pub mod Closed
