@@ -19,3 +19,6 @@ pub mod Ranged
 pub mod Avoided
 pub mod Branches
 pub mod Closed
+pub mod Keeping
+pub mod Targets
+pub mod RowKeeps
