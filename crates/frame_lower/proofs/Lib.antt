@@ -22,3 +22,4 @@ pub mod Closed
 pub mod Keeping
 pub mod Targets
 pub mod RowKeeps
+pub mod Chosen
