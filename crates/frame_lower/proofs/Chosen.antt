@@ -89,7 +89,7 @@ get_all P [] k n all there = absurd cc
 get_all P (x ∷ xs) zero n all there = let same : x ≡ n = cc in subst P same (All-head P x xs all)
 get_all P (x ∷ xs) (suc k) n all there = get_all P xs k n (All-tail P x xs all) there
 
-five_long : (reg_draw purpose number : ℕ) → length (five_of reg_draw purpose number) ≡ 5
+pub five_long : (reg_draw purpose number : ℕ) → length (five_of reg_draw purpose number) ≡ 5
 unfolding five_of
 five_long reg_draw purpose number = shuffled_long (keystream_word reg_draw purpose number) 5
 

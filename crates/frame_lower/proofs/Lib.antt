@@ -23,3 +23,5 @@ pub mod Keeping
 pub mod Targets
 pub mod RowKeeps
 pub mod Chosen
+pub mod Totals
+pub mod WellFormed
