@@ -6,3 +6,4 @@ pub mod Functions
 pub mod Writing
 pub mod Making
 pub mod Given
+pub mod Chain
