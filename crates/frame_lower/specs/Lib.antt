@@ -7,3 +7,5 @@ pub mod Writing
 pub mod Making
 pub mod Given
 pub mod Chain
+pub mod Alive
+pub mod Suits
