@@ -16,3 +16,5 @@ pub mod LinkedOnce
 pub mod Tame
 pub mod Displacements
 pub mod Ranged
+pub mod Bodies
+pub mod Chains
