@@ -18,3 +18,4 @@ pub mod Displacements
 pub mod Ranged
 pub mod Bodies
 pub mod Chains
+pub mod Stage
