@@ -19,3 +19,4 @@ pub mod Ranged
 pub mod Bodies
 pub mod Chains
 pub mod Stage
+pub mod Rests
