@@ -20,3 +20,4 @@ pub mod Bodies
 pub mod Chains
 pub mod Stage
 pub mod Rests
+pub mod Facts
