@@ -93,3 +93,33 @@ module _ (o : Object) (sel : Sel) (by : ℕ → Making) (globals : List Span) (l
   reserved_low [] ss f depth q c i = i.0
   reserved_low (x ∷ xs) ss f depth q c (inl i) = i.0
   reserved_low (x ∷ xs) ss f depth q c (inr i) = let b = c.0.base in let low = reserved_low xs ss x (suc depth) q c.2 i in omega (arith, b, low)
+
+  -- what waits for a call waits for it at another place and with other registers
+  abbrev pub moved_to : SelFrame → ℕ → ℕ → List (Option ℕ) → SelFrame
+  moved_to f k n registers = record f { block = k; next = n; registers = registers }
+
+  pub chain_moved : (xs : List SelFrame) (ss : List Segment) (f : SelFrame) (depth k n : ℕ) (registers : List (Option ℕ)) → Waits ss f depth xs → Waits ss (moved_to f k n registers) depth xs
+  chain_moved [] ss f depth k n registers c = c
+  chain_moved (x ∷ xs) ss f depth k n registers c =
+      let e = c.0 in (
+        record {
+          back = e.back;
+          way = e.way;
+          offset = e.offset;
+          returns = e.returns;
+          here = e.here;
+          is_function = e.is_function;
+          is_block = e.is_block;
+          after = e.after;
+          after_is = e.after_is;
+          stands = e.stands;
+          base = e.base;
+          own = e.own;
+          room = e.room;
+          small = e.small;
+          apart = e.apart;
+          stored = e.stored;
+        },
+        c.1,
+        c.2,
+      )

@@ -21,3 +21,4 @@ pub mod Chains
 pub mod Stage
 pub mod Rests
 pub mod Facts
+pub mod PlainStep
