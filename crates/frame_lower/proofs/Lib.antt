@@ -25,3 +25,9 @@ pub mod RowKeeps
 pub mod Chosen
 pub mod Totals
 pub mod WellFormed
+pub mod Bodies
+pub mod Chains
+pub mod Stage
+pub mod Rests
+pub mod Facts
+pub mod PlainStep
