@@ -7,3 +7,4 @@ pub mod Written
 pub mod Functions
 pub mod Greatest
 pub mod FrameLaws
+pub mod Counting
