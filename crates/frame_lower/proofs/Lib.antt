@@ -8,3 +8,7 @@ pub mod Functions
 pub mod Greatest
 pub mod FrameLaws
 pub mod Counting
+pub mod Sixteen
+pub mod Order
+pub mod Entering
+pub mod Saved
