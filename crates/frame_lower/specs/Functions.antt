@@ -75,11 +75,12 @@ making_of c number f =
     making_with c.placing.globals (map slot_number c.slots.pointers) c.reg_seed number (get_or c.names number []) (get_or c.homes number []) f
 
 -- functions one after another, the first of them with a number and with the slot of its first call
-abbrev pub functions_from : Choices → ℕ → ℕ → List SelFun → List Func
-functions_from c number slot [] = []
-functions_from c number slot (f ∷ fs) =
-    saved_function (function_row (making_of c number f) slot f) ∷ functions_from c (suc number) (slot + calls_of_blocks f.blocks) fs
+abbrev pub functions_with : List ℕ → List ℕ → ℕ → List (List Reg) → List (List Home) → ℕ → ℕ → List SelFun → List Func
+functions_with globals functions reg_draw names homes number slot [] = []
+functions_with globals functions reg_draw names homes number slot (f ∷ fs) =
+    saved_function (function_row (making_with globals functions reg_draw number (get_or names number []) (get_or homes number []) f) slot f)
+    ∷ functions_with globals functions reg_draw names homes (suc number) (slot + calls_of_blocks f.blocks) fs
 
 -- the functions of a program; the slots of calls stand behind the entry and the functions to which a pointer may arise
 unfoldable pub lowered : Choices → Sel → List Func
-lowered c sel = functions_from c 0 (suc (takens sel.taken)) sel.functions
+lowered c sel = functions_with c.placing.globals (map slot_number c.slots.pointers) c.reg_seed c.names c.homes 0 (suc (takens sel.taken)) sel.functions

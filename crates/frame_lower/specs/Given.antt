@@ -1,5 +1,5 @@
 -- What the code of a program asks of the homes of its registers.
-use Rattle.std.specs.Prelude.{◌≤◌, List, [], ◌∷◌, length, All}
+use Rattle.std.specs.Prelude.{ℕ, ◌≤◌, List, [], ◌∷◌, length, All}
 use Rattle.ir_core.specs.declared.limit.TheConstants.{MAX_PARAMETERS, MAX_FRAME, MAX_CODE}
 use Rattle.low_core.specs.declared.sel.Home.{Home}
 use Rattle.low_core.specs.declared.sel.SelBlock.{SelBlock}
@@ -7,7 +7,9 @@ use Rattle.low_core.specs.declared.sel.SelFun.{SelFun}
 use Rattle.low_core.specs.declared.sel.SelOp.{SelOp}
 use Rattle.low_core.specs.declared.sel.SelOp.TheVariants.{FrameAt}
 use Rattle.low_core.specs.SelWeights.{arguments_of, sel_function_weight, sel_room}
+use Rattle.std.specs.List.{sum_by}
 use Rattle.frame_lower.specs.Frames.{words_to}
+use Rattle.frame_lower.specs.Blocks.{calls_of_blocks}
 
 -- a function has fewer words of homes than registers
 abbrev pub HasPlaces : SelFun → List Home → Type 0
@@ -32,3 +34,7 @@ pub record IsSmall (f : SelFun) : Type 0 where
   pub few : All (λ (b : SelBlock). All (λ op. arguments_of op ≤ MAX_PARAMETERS) b.ops) f.blocks
   pub places : All (λ (b : SelBlock). All (NamesPlace f) b.ops) f.blocks
   pub light : sel_function_weight f ≤ MAX_CODE
+
+-- the calls of functions
+abbrev pub calls_of_functions : List SelFun → ℕ
+calls_of_functions fs = sum_by (λ (f : SelFun). calls_of_blocks f.blocks) fs

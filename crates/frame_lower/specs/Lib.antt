@@ -6,3 +6,6 @@ pub mod Functions
 pub mod Writing
 pub mod Making
 pub mod Given
+pub mod Chain
+pub mod Alive
+pub mod Suits

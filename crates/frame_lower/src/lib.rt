@@ -13,6 +13,7 @@ pub mod code;
 pub mod ends;
 pub mod frame;
 pub mod function;
+pub mod lower;
 pub mod maker;
 pub mod ops;
 pub mod program;

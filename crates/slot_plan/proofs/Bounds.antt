@@ -29,7 +29,7 @@ one_call count f n (Outside outer.Trap r args) = refl
 one_call count f n (Outside which r args) = refl
 one_call count f n other = refl
 
-calls_long : (count f n : ℕ) (ops : List SelOp) → length (calls_from count f n ops) ≡ sum_by calls_at ops
+pub calls_long : (count f n : ℕ) (ops : List SelOp) → length (calls_from count f n ops) ≡ sum_by calls_at ops
 calls_long count f n [] = refl
 calls_long count f n (op ∷ ops) =
     let here = one_call count f n op in
@@ -40,7 +40,7 @@ calls_long count f n (op ∷ ops) =
     omega arith
 
 -- sums over the operations of blocks put end to end
-block_calls : (bs : List SelBlock) → sum_by calls_at (flat_map (λ (b : SelBlock). b.ops) bs) ≡ sum_by (λ (b : SelBlock). sum_by calls_at b.ops) bs
+pub block_calls : (bs : List SelBlock) → sum_by calls_at (flat_map (λ (b : SelBlock). b.ops) bs) ≡ sum_by (λ (b : SelBlock). sum_by calls_at b.ops) bs
 block_calls [] = refl
 block_calls (b ∷ bs) = sums_append b.ops (flat_map (λ (c : SelBlock). c.ops) bs) ∙ ap (λ n. sum_by calls_at b.ops + n) (block_calls bs) ∙ sym (sum_by-cons (λ (c : SelBlock). sum_by calls_at c.ops) b bs)
   where
@@ -52,7 +52,7 @@ block_calls (b ∷ bs) = sums_append b.ops (flat_map (λ (c : SelBlock). c.ops) 
         let more = sums_append xs ys in
         omega arith
 
-all_calls_long : (count f : ℕ) (fs : List SelFun) → length (all_calls_from count f fs) ≡ sum_by (λ (g : SelFun). sum_by (λ (b : SelBlock). sum_by calls_at b.ops) g.blocks) fs
+pub all_calls_long : (count f : ℕ) (fs : List SelFun) → length (all_calls_from count f fs) ≡ sum_by (λ (g : SelFun). sum_by (λ (b : SelBlock). sum_by calls_at b.ops) g.blocks) fs
 all_calls_long count f [] = refl
 all_calls_long count f (g ∷ fs) =
     let here : length (calls_from count f 0 (ops_of g)) ≡ sum_by (λ (b : SelBlock). sum_by calls_at b.ops) g.blocks = calls_long count f 0 (ops_of g) ∙ block_calls g.blocks in
@@ -71,7 +71,7 @@ takens_few [] = omega arith
 takens_few (true ∷ ts) = let rest = takens_few ts in omega arith
 takens_few (false ∷ ts) = let rest = takens_few ts in omega arith
 
-slots_long : (sel : Sel) → length (slots_of sel) ≡ 6 + takens sel.taken + calls_of sel
+pub slots_long : (sel : Sel) → length (slots_of sel) ≡ 6 + takens sel.taken + calls_of sel
 slots_long sel =
     let count : ℕ = length sel.functions in
     let jumps = jumps_from 0 sel.taken in
