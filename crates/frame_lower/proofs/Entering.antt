@@ -16,8 +16,9 @@ use Rattle.x86_rows.specs.Saving as saving
 use Rattle.x86_rows.proofs.Rows.{exec-through, exec-first}
 use Rattle.x86_rows.proofs.Saving.{pushes}
 use Rattle.frame_rows.specs.Words.{Words, in_order, core_of}
+use Rattle.frame_lower.specs.Chain.{upward}
 use Rattle.frame_lower.specs.Rows.{push_row}
-use Rattle.frame_lower.proofs.Order.{upward, pushes_upward, upward_long, upward_spare}
+use Rattle.frame_lower.proofs.Order.{pushes_upward, upward_long, upward_spare}
 
 -- room of so many bytes is made
 abbrev pub makes_room : ℕ → Instr

@@ -27,3 +27,4 @@ pub mod Stage
 pub mod Rests
 pub mod Facts
 pub mod PlainStep
+pub mod Leaving

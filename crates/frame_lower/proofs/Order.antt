@@ -12,12 +12,8 @@ use Rattle.x86_rows.specs.Saving as saving
 use Rattle.obj_core.specs.Slots.{push_purpose}
 use Rattle.obj_core.specs.Saved.{saved_register, five_of}
 use Rattle.frame_rows.specs.Ties.{is_home}
+use Rattle.frame_lower.specs.Chain.{upward}
 use Rattle.frame_lower.specs.Rows.{push_row, pop_row}
-
--- from the lowest address on: the last register that is pushed is the first one
-abbrev pub upward : List ℕ → List Reg
-upward [] = []
-upward (place ∷ order) = upward order ++ saved_register place ∷ []
 
 -- a register above the others is pushed before them, and given back after them
 push_above : (rs : List Reg) (r : Reg) → saving.push_row (rs ++ r ∷ []) ≡ Push r ∷ saving.push_row rs
