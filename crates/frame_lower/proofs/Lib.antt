@@ -28,3 +28,4 @@ pub mod Rests
 pub mod Facts
 pub mod PlainStep
 pub mod Leaving
+pub mod Arguments
