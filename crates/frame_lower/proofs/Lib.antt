@@ -7,6 +7,11 @@ pub mod Written
 pub mod Functions
 pub mod Greatest
 pub mod FrameLaws
+pub mod Counting
+pub mod Sixteen
+pub mod Order
+pub mod Entering
+pub mod Saved
 pub mod Marks
 pub mod Programs
 pub mod Once
@@ -31,3 +36,5 @@ pub mod Stage
 pub mod Rests
 pub mod Facts
 pub mod PlainStep
+pub mod Leaving
+pub mod Arguments
