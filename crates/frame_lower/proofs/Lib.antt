@@ -38,3 +38,4 @@ pub mod Facts
 pub mod PlainStep
 pub mod Leaving
 pub mod Arguments
+pub mod Suited
