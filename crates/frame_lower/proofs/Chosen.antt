@@ -39,13 +39,13 @@ use Rattle.frame_lower.proofs.RowKeeps.{IsWhole}
 use Rattle.frame_lower.proofs.Tame.{AreWords}
 
 -- homes of a number
-places_of : (fs : List SelFun) (hss : List (List Home)) (n : ℕ) (f : SelFun) → HavePlaces fs hss → slice_get fs n ≡ Some f → HasPlaces f (get_or hss n [])
+pub places_of : (fs : List SelFun) (hss : List (List Home)) (n : ℕ) (f : SelFun) → HavePlaces fs hss → slice_get fs n ≡ Some f → HasPlaces f (get_or hss n [])
 places_of [] hss n f have there = absurd cc
 places_of (g ∷ fs) [] n f have there = absurd have
 places_of (g ∷ fs) (hs ∷ hss) zero f have there = let same : g ≡ f = cc in subst (λ h. HasPlaces h hs) same have.0
 places_of (g ∷ fs) (hs ∷ hss) (suc n) f have there = places_of fs hss n f have.1 there
 
-in_frame_of : (hss : List (List Home)) (n : ℕ) → AreInFrame hss → All IsInFrame (get_or hss n [])
+pub in_frame_of : (hss : List (List Home)) (n : ℕ) → AreInFrame hss → All IsInFrame (get_or hss n [])
 in_frame_of [] n all = All-nil IsInFrame
 in_frame_of (hs ∷ hss) zero all = All-head (λ (h : List Home). All IsInFrame h) hs hss all
 in_frame_of (hs ∷ hss) (suc n) all = in_frame_of hss n (All-tail (λ (h : List Home). All IsInFrame h) hs hss all)
@@ -59,7 +59,7 @@ module _ (names : List Reg) (passed : ℕ) where
   at_word (home.Frame k ∷ hs) all (suc x) = at_word hs (All-tail IsInFrame (home.Frame k) hs all) x
 
   -- below the number of words
-  inside : (words : ℕ) (homes : List Home) → All IsInFrame homes → 0 < words → passed + greatest (map words_to homes) ≤ words → (x : ℕ) → IsHome words (or_lowest (slice_get (map (spot names passed) homes) x))
+  pub inside : (words : ℕ) (homes : List Home) → All IsInFrame homes → 0 < words → passed + greatest (map words_to homes) ≤ words → (x : ℕ) → IsHome words (or_lowest (slice_get (map (spot names passed) homes) x))
   inside words [] all some few x = some
   inside words (home.Color c ∷ hs) all some few x = absurd (All-head IsInFrame (home.Color c) hs all)
   inside words (home.Frame k ∷ hs) all some few zero = omega (arith, few)

@@ -39,3 +39,4 @@ pub mod PlainStep
 pub mod Leaving
 pub mod Arguments
 pub mod Suited
+pub mod Suiting

@@ -23,12 +23,7 @@ use Rattle.frame_rows.specs.Ties.{Differ}
 use Rattle.frame_lower.specs.Alive.{Allotted}
 use Rattle.frame_lower.specs.Frames.{spot, spots}
 use Rattle.frame_lower.specs.Given.{IsInFrame}
-
--- homes that are words of the frame, one for each register
-pub record HasOwn (f : SelFun) (homes : List Home) : Type 0 where
-  pub long : length homes ≡ f.registers
-  pub in_frame : All IsInFrame homes
-  pub apart : (x y : ℕ) (h : Home) → slice_get homes x ≡ Some h → slice_get homes y ≡ Some h → x ≡ y
+use Rattle.frame_lower.specs.Planned.{HasOwn}
 
 -- registers live as long as they are the function's
 abbrev pub live_all : SelFun → ℕ → ℕ → ℕ → Type 0
