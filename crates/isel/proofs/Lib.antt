@@ -24,3 +24,5 @@ pub mod Choices
 pub mod Casts
 pub mod Selects
 pub mod Allocas
+pub mod Delivered
+pub mod Arguments
