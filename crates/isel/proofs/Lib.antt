@@ -26,3 +26,4 @@ pub mod Selects
 pub mod Allocas
 pub mod Delivered
 pub mod Arguments
+pub mod Turns
