@@ -27,3 +27,5 @@ pub mod Allocas
 pub mod Delivered
 pub mod Arguments
 pub mod Turns
+pub mod Callees
+pub mod Routines
