@@ -29,3 +29,4 @@ pub mod Arguments
 pub mod Turns
 pub mod Callees
 pub mod Routines
+pub mod Outside
