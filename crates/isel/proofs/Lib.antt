@@ -30,3 +30,4 @@ pub mod Turns
 pub mod Callees
 pub mod Routines
 pub mod Outside
+pub mod Entered
