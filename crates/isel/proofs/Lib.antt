@@ -31,3 +31,4 @@ pub mod Callees
 pub mod Routines
 pub mod Outside
 pub mod Entered
+pub mod Stacked
