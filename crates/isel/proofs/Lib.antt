@@ -32,3 +32,4 @@ pub mod Routines
 pub mod Outside
 pub mod Entered
 pub mod Stacked
+pub mod Begun
