@@ -33,3 +33,4 @@ pub mod Outside
 pub mod Entered
 pub mod Stacked
 pub mod Begun
+pub mod Enters
