@@ -35,7 +35,7 @@ module _ (m : Module) (plan : Plan) (contents : List Content) (p : Premises m pl
     (x : IsHere m (setting_of m plan contents) s f fs h hs bytes) where
   module _ (into : Option (List ℕ)) (ret : Ty) (callee : Operand) (args : List Arg) (there : slice_get x.call.block.insts f.next ≡ Some (record { result = into; op = Call ret callee args })) where
     -- the callee fits the types of the call, and the arguments theirs
-    call_fits : (callee_fits m (env_of x.call.fn) (kind_of ret) (kinds_of args) callee ≡ true) × (list_all (arg_fits m (env_of x.call.fn)) args ≡ true)
+    pub call_fits : (callee_fits m (env_of x.call.fn) (kind_of ret) (kinds_of args) callee ≡ true) × (list_all (arg_fits m (env_of x.call.fn)) args ≡ true)
     call_fits =
         let r = rules m plan contents p input s f fs h hs bytes x into (Call ret callee args) there in
         let q = and_parts (is_result ret) (callee_fits m (env_of x.call.fn) (kind_of ret) (kinds_of args) callee && list_all (arg_fits m (env_of x.call.fn)) args) r.fits in

@@ -34,3 +34,4 @@ pub mod Entered
 pub mod Stacked
 pub mod Begun
 pub mod Enters
+pub mod Calls
