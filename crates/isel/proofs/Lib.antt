@@ -35,3 +35,4 @@ pub mod Stacked
 pub mod Begun
 pub mod Enters
 pub mod Calls
+pub mod Callers
