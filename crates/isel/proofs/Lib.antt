@@ -36,3 +36,4 @@ pub mod Begun
 pub mod Enters
 pub mod Calls
 pub mod Callers
+pub mod Returns
