@@ -41,6 +41,7 @@ use Rattle.isel.proofs.Premises.{Premises, rules_at}
 use Rattle.isel.proofs.Straight.{moved, straight}
 use Rattle.isel.proofs.Here.{IsHere, vs, now, ready, ops, stands_here, result_below, into_variable}
 use Rattle.isel.proofs.Past.{top_past}
+use Rattle.isel.proofs.Results.{Stands, IsMet}
 
 -- a multiple of sixteen that isn't below
 spaced_enough : (n : ℕ) → n ≤ spaced n
@@ -201,3 +202,7 @@ module _ (m : Module) (plan : Plan) (contents : List Content) (p : Premises m pl
             tied = alloca_law g (record { own = h.own; objects = f.objects }) (memories fs hs) s.objects x.at bytes x.tied start size free inside x.call.writable;
           };
         }))
+
+  -- an alloca
+  pub alloca_met : (into : Option (List ℕ)) (ty : Ty) (count : ℕ) → Stands m plan contents p input s f fs h hs bytes x into (op.Alloca ty count) → IsMet m plan contents p input s f fs h hs bytes x into (op.Alloca ty count)
+  alloca_met into ty count there = alloca_meets into ty count there
