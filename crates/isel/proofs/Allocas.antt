@@ -1,10 +1,8 @@
 -- Allocas: each has its place in the own memory of its call, behind those in front of it.
-use Rattle.std.proofs.Common.{◌≡◌, ◌≢◌, ℕ, zero, suc, ◌+◌, ◌-◌, ◌*◌, ◌<◌, ◌≤◌, Bool, true, List, [], ◌∷◌, ◌++◌, length, take, Option, Some, None, Ok, slice_get, refl, ap, sym, ◌∙◌, subst, inl, inr, ◌⊎◌, arith}
-use Rattle.std.specs.Prelude.{◌&&◌, nat_le}
+use Rattle.std.proofs.Common.{◌≡◌, ℕ, zero, suc, ◌+◌, ◌-◌, ◌*◌, ◌<◌, ◌≤◌, true, List, [], ◌∷◌, length, take, Option, Some, slice_get, refl, ap, sym, ◌∙◌, subst, inl, inr, arith}
 use Rattle.std.specs.List.{sum_by}
 use Rattle.std.proofs.lemmas.Bool.{and_from, le-leb}
 use Rattle.std.proofs.lemmas.List.Sums.{sum_by-take-le, sum_by-cons}
-use Rattle.behavior.specs.System.{iter}
 use Rattle.ir_core.specs.declared.instruction.Inst.{Inst}
 use Rattle.ir_core.specs.declared.instruction.Op.TheVariants as op
 use Rattle.ir_core.specs.declared.memory.Value.{Value}
@@ -16,16 +14,14 @@ use Rattle.ir_core.specs.declared.ty.Ty.{Ty}
 use Rattle.ir_core.specs.Counts.{alloca_bytes, spaced}
 use Rattle.ir_core.specs.Memory.{Memory, with_alloca}
 use Rattle.ir_core.specs.Shapes.{shape_of}
-use Rattle.ir_core.specs.State.{Frame, State, Nothing, turned, with_local}
+use Rattle.ir_core.specs.State.{Frame, State, turned, with_local}
 use Rattle.ir_core.specs.Step.{instruction_turn}
 use Rattle.ir_core.specs.Valid.{LocalKind, named_locals}
-use Rattle.low_core.specs.declared.sel.SelOp.TheVariants as sel
-use Rattle.low_core.specs.Flat.{Span, Bytes, covers}
+use Rattle.low_core.specs.Flat.{Bytes, covers}
 use Rattle.low_core.specs.Plan.{Plan, Content}
-use Rattle.low_core.specs.Contents.{Addresses, word_of}
-use Rattle.low_core.specs.Bridge.{Setting, CallMemory, Bridges}
-use Rattle.low_core.specs.SelState.{SelFrame, SelState, with_register, top_of}
-use Rattle.low_core.specs.Weights.{allocas_room}
+use Rattle.low_core.specs.Contents.{Addresses}
+use Rattle.low_core.specs.Bridge.{Setting}
+use Rattle.low_core.specs.SelState.{SelFrame, with_register}
 use Rattle.flat_memory.specs.Accesses.{AreFree, Allocates, with_address}
 use Rattle.flat_memory.proofs.Frames.{alloca_law}
 use Rattle.flat_memory.proofs.Lists.{get_set_same, get_set_other, length_set}

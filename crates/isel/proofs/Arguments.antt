@@ -1,5 +1,5 @@
 -- The arguments of a call, brought into registers: there is one for each, and variables stay as they are.
-use Rattle.std.proofs.Common.{◌≡◌, ◌≢◌, ℕ, zero, suc, ◌+◌, ◌-◌, ◌<◌, ◌≤◌, List, [], ◌∷◌, ◌++◌, map, take, length, Option, Some, None, Ok, slice_get, refl, ap, sym, ◌∙◌, subst, arith}
+use Rattle.std.proofs.Common.{◌≡◌, ℕ, zero, suc, ◌+◌, ◌<◌, ◌≤◌, List, [], ◌∷◌, map, take, length, Option, Some, Ok, slice_get, refl, ap, ◌∙◌, arith}
 use Rattle.std.specs.List.{flat_map}
 use Rattle.ir_core.specs.declared.instruction.Arg.{Arg}
 use Rattle.ir_core.specs.declared.instruction.Inst.{Inst}
@@ -11,7 +11,7 @@ use Rattle.ir_core.specs.declared.module.Function.{Function}
 use Rattle.ir_core.specs.declared.module.Module.{Module}
 use Rattle.ir_core.specs.declared.operand.Operand.{Operand}
 use Rattle.ir_core.specs.declared.ty.Ty.{Ty}
-use Rattle.ir_core.specs.Counts.{greatest, argument_counts, call_counts, stack_arguments}
+use Rattle.ir_core.specs.Counts.{greatest, argument_counts, stack_arguments}
 use Rattle.ir_core.specs.State.{Frame, State}
 use Rattle.ir_core.specs.Valid.{LocalKind, named_locals}
 use Rattle.ir_context.specs.Origins.{arg_origin}
@@ -19,9 +19,8 @@ use Rattle.isel_rows.proofs.CountLaws.{greatest_append}
 use Rattle.low_core.specs.Flat.{Bytes, Flat}
 use Rattle.low_core.specs.Plan.{Plan, Content}
 use Rattle.low_core.specs.Contents.{word_of}
-use Rattle.low_core.specs.Bridge.{Setting}
 use Rattle.low_core.specs.SelState.{SelFrame, words_in}
-use Rattle.isel_rows.specs.Variables.{variables_of, argument_register, bytes_register}
+use Rattle.isel_rows.specs.Variables.{variables_of}
 use Rattle.isel_rows.specs.Brought.{args_brought}
 use Rattle.isel.proofs.Beside.{memories, setting_of}
 use Rattle.isel.proofs.Here.{IsHere, memory, ready}

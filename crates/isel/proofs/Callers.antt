@@ -1,5 +1,5 @@
 -- The caller of a call that returns goes on beside that of registers, and the objects of the call are dead.
-use Rattle.std.proofs.Common.{◌≡◌, ℕ, zero, suc, ◌+◌, ◌<◌, ◌≤◌, true, List, [], ◌∷◌, length, Option, Some, None, Ok, slice_get, refl, ap, sym, ◌∙◌, subst, inl, inr, arith, All}
+use Rattle.std.proofs.Common.{◌≡◌, ℕ, zero, suc, ◌≤◌, true, List, [], ◌∷◌, length, Option, Some, None, Ok, refl, ap, sym, ◌∙◌, subst, inl, inr, arith, All}
 use Rattle.behavior.specs.System.{iter}
 use Rattle.ir_core.specs.declared.instruction.Op.TheVariants.{Call}
 use Rattle.ir_core.specs.declared.kind.Kind.{Kind}
@@ -14,7 +14,7 @@ use Rattle.ir_core.specs.State.{Local, Frame, State, Nothing, turned, with_local
 use Rattle.ir_core.specs.Stops.{and_then}
 use Rattle.ir_core.specs.Typing.{returns_nothing}
 use Rattle.ir_core.specs.Valid.{LocalKind, named_locals, names_value, env_of}
-use Rattle.ir_sound.specs.WellTyped.{Each, IsOwn, IsInBlock, Awaits, IsWaiting, AreWaiting, present}
+use Rattle.ir_sound.specs.WellTyped.{Each, IsOwn, Awaits, IsWaiting, present}
 use Rattle.ir_sound.proofs.SameLaws.{not_true, some_is}
 use Rattle.low_core.specs.Flat.{Bytes}
 use Rattle.low_core.specs.Plan.{Plan, Content}

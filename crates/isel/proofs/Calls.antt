@@ -1,10 +1,9 @@
 -- Calls: of functions by their numbers or by their addresses, and of functions outside of the module.
-use Rattle.std.proofs.Common.{◌≡◌, ℕ, zero, suc, ◌+◌, Bool, true, false, List, [], ◌∷◌, ◌++◌, map, length, Option, Some, None, Ok, Err, slice_get, refl, ap, sym, ◌∙◌, subst, inl}
+use Rattle.std.proofs.Common.{◌≡◌, ℕ, zero, suc, Bool, true, false, List, [], ◌∷◌, map, length, Option, Some, None, Ok, Err, slice_get, refl, ap, sym, ◌∙◌, subst, inl}
 use Rattle.std.specs.Prelude.{◌&&◌, nat_eq, option_map, if◌then◌else◌}
 use Rattle.std.proofs.lemmas.Bool.{and_parts, and_from, eqb-true, eq-eqb}
 use Rattle.behavior.specs.Moment.{AreBytes}
 use Rattle.ir_core.specs.declared.instruction.Arg.{Arg}
-use Rattle.ir_core.specs.declared.instruction.Inst.{Inst}
 use Rattle.ir_core.specs.declared.instruction.Op.TheVariants.{Call}
 use Rattle.ir_core.specs.declared.kind.Kind.{Kind}
 use Rattle.ir_core.specs.declared.kind.Kind.TheVariants.{Pointer}
@@ -13,22 +12,20 @@ use Rattle.ir_core.specs.declared.memory.Value.{Value}
 use Rattle.ir_core.specs.declared.memory.Value.TheVariants.{Num, Null, At, Fun}
 use Rattle.ir_core.specs.declared.module.Module.{Module}
 use Rattle.ir_core.specs.declared.operand.Operand.{Operand}
-use Rattle.ir_core.specs.declared.operand.Operand.TheVariants.{Int, Bool as Truth, Null as NullWord, Undef, Poison, Local as LocalName, Global, Const}
+use Rattle.ir_core.specs.declared.operand.Operand.TheVariants.{Local as LocalName, Global}
 use Rattle.ir_core.specs.declared.ty.Ty.{Ty}
 use Rattle.ir_core.specs.Calls.{outer_of, Inside, target_named, call_turn}
 use Rattle.ir_core.specs.Kinds.{kind_of}
 use Rattle.ir_core.specs.Mentions.{of_args, of_callee}
 use Rattle.ir_core.specs.Operands.{local_value, function_number, values_of}
 use Rattle.ir_core.specs.State.{Frame, State, turned}
-use Rattle.ir_core.specs.Step.{past, instruction_turn}
+use Rattle.ir_core.specs.Step.{past}
 use Rattle.ir_core.specs.Stops.{Left, Malformed, Answer, and_then, found_or}
-use Rattle.ir_core.specs.Valid.{LocalKind, named_locals, env_of}
-use Rattle.ir_sound.specs.WellTyped.{IsOfKind, present}
+use Rattle.ir_core.specs.Valid.{LocalKind, named_locals}
 use Rattle.ir_sound.proofs.RowLaws.{Each_parts, item_at}
 use Rattle.ir_context.specs.Origins.{register_of}
 use Rattle.ir_context.specs.Reads.{origin_value}
 use Rattle.ir_context.specs.Registers.{register, number_of}
-use Rattle.low_core.specs.declared.sel.SelOp.{SelOp}
 use Rattle.low_core.specs.declared.sel.SelOp.TheVariants as sel
 use Rattle.low_core.specs.Flat.{Bytes, Flat}
 use Rattle.low_core.specs.Plan.{Plan, Content}
@@ -38,7 +35,7 @@ use Rattle.low_core.specs.SelState.{SelFrame, SelState, words_in}
 use Rattle.low_core.specs.SelStep.{function_at, enters}
 use Rattle.flat_memory.proofs.Named.{names_law}
 use Rattle.isel_rows.specs.Brought.{args_brought, AllBrought}
-use Rattle.isel_rows.specs.Calls.{register_into, behind_args, named_ops, call_ops}
+use Rattle.isel_rows.specs.Calls.{register_into, named_ops}
 use Rattle.isel_rows.specs.Selected.{module_selected}
 use Rattle.isel_rows.specs.Variables.{variables_of, register_read}
 use Rattle.isel.proofs.Accesses.{when_answered}
@@ -54,7 +51,7 @@ use Rattle.isel.proofs.Results.{Stands, IsMet, fine}
 use Rattle.isel.proofs.Straight.{moved}
 use Rattle.isel.proofs.Tame.{IsTame, value_tame, values_tame}
 use Rattle.isel.proofs.Turns.{later}
-use Rattle.isel.proofs.Values.{HasValue, operand_has}
+use Rattle.isel.proofs.Values.{operand_has}
 use Rattle.isel.proofs.Words.{HasWord, word_read}
 
 -- the function at an address is the one to which a pointer may arise and that stands there

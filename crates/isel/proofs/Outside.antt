@@ -1,5 +1,5 @@
 -- Calls of functions outside of the module: one operation behind their arguments. A lifetime marker does nothing.
-use Rattle.std.proofs.Common.{◌≡◌, ◌≢◌, ℕ, ◌+◌, ◌-◌, ◌%◌, ◌^◌, ◌<◌, ◌≤◌, List, [], ◌∷◌, ◌++◌, map, take, length, Option, Some, None, Ok, Err, slice_get, refl, ap, sym, ◌∙◌, subst, inl, arith}
+use Rattle.std.proofs.Common.{◌≡◌, ℕ, ◌-◌, ◌%◌, ◌^◌, ◌<◌, List, [], ◌∷◌, take, length, Option, Some, None, slice_get, refl, ap, sym, ◌∙◌, inl, arith}
 use Rattle.std.proofs.Math.Nat.{mod-lt}
 use Rattle.behavior.specs.Moment.{AreBytes}
 use Rattle.rd_num.specs.declared.width.Width.TheVariants.{W32}
@@ -7,7 +7,7 @@ use Rattle.ir_core.specs.declared.instruction.Arg.{Arg}
 use Rattle.ir_core.specs.declared.instruction.Inst.{Inst}
 use Rattle.ir_core.specs.declared.instruction.Op.TheVariants.{Call}
 use Rattle.ir_core.specs.declared.memory.Value.{Value}
-use Rattle.ir_core.specs.declared.memory.Value.TheVariants.{Num, Null, At, Fun}
+use Rattle.ir_core.specs.declared.memory.Value.TheVariants.{Num}
 use Rattle.ir_core.specs.declared.module.Module.{Module}
 use Rattle.ir_core.specs.declared.operand.Operand.TheVariants.{Global}
 use Rattle.ir_core.specs.declared.outer.Outer.{Outer}
@@ -18,14 +18,13 @@ use Rattle.ir_core.specs.Operands.{function_number}
 use Rattle.ir_core.specs.State.{Frame, State, Nothing, Print, Take, turned}
 use Rattle.ir_core.specs.Step.{past}
 use Rattle.ir_core.specs.Stops.{Ended, Trap, and_then}
-use Rattle.ir_core.specs.Valid.{LocalKind, named_locals}
+use Rattle.ir_core.specs.Valid.{LocalKind}
 use Rattle.ir_sound.proofs.Steps.{byte_at}
 use Rattle.low_core.specs.declared.sel.Which.TheVariants as which
 use Rattle.low_core.specs.declared.sel.SelOp.{SelOp}
 use Rattle.low_core.specs.declared.sel.SelOp.TheVariants.{Set, Outside}
 use Rattle.low_core.specs.Flat.{Bytes, Flat}
 use Rattle.low_core.specs.Plan.{Plan, Content}
-use Rattle.low_core.specs.Contents.{word_of}
 use Rattle.low_core.specs.Bridge.{Setting}
 use Rattle.low_core.specs.SelState.{SelFrame, SelState, with_register}
 use Rattle.low_core.specs.SelStep.{outside_turn, takes_byte}

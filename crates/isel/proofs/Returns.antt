@@ -1,5 +1,5 @@
 -- Returns: the caller goes on behind its call, or the run ends with the low 8 bits of the result.
-use Rattle.std.proofs.Common.{◌≡◌, ℕ, ◌+◌, ◌%◌, ◌<◌, true, List, [], ◌∷◌, length, Option, Some, None, Ok, Err, slice_get, refl, ap, sym, ◌∙◌, subst, inl, inr, arith}
+use Rattle.std.proofs.Common.{◌≡◌, ℕ, ◌+◌, ◌%◌, true, List, [], ◌∷◌, length, Option, Some, None, Ok, Err, slice_get, refl, ap, sym, ◌∙◌, subst, inl, inr, arith}
 use Rattle.std.specs.Prelude.{◌&&◌}
 use Rattle.std.proofs.lemmas.Bool.{and_parts}
 use Rattle.behavior.specs.Moment.{Agrees}
@@ -15,7 +15,7 @@ use Rattle.ir_core.specs.declared.ty.Ty.{Ty}
 use Rattle.ir_core.specs.Definitions.{label_names}
 use Rattle.ir_core.specs.Calls.{return_turn}
 use Rattle.ir_core.specs.Kinds.{kind_of, same_kind}
-use Rattle.ir_core.specs.Mentions.{of_operand, of_end}
+use Rattle.ir_core.specs.Mentions.{of_end}
 use Rattle.ir_core.specs.Operands.{value_of}
 use Rattle.ir_core.specs.State.{Frame, State, turned, source_moment}
 use Rattle.ir_core.specs.Step.{terminator_turn}
@@ -25,30 +25,26 @@ use Rattle.ir_core.specs.Valid.{LocalKind, named_locals, env_of}
 use Rattle.ir_sound.specs.WellTyped.{Each}
 use Rattle.ir_sound.proofs.SameLaws.{kind_is}
 use Rattle.ir_context.specs.Origins.{origin_of}
-use Rattle.low_core.specs.declared.sel.SelEnd.{SelEnd}
-use Rattle.low_core.specs.declared.sel.SelEnd.TheVariants as end
-use Rattle.low_core.specs.declared.sel.SelOp.{SelOp}
 use Rattle.low_core.specs.Flat.{Bytes, Flat}
 use Rattle.low_core.specs.Plan.{Plan, Content}
 use Rattle.low_core.specs.Contents.{word_of}
-use Rattle.low_core.specs.Bridge.{Setting}
 use Rattle.low_core.specs.SelState.{SelFrame, SelState, sel_moment, sel_turned}
 use Rattle.low_core.specs.SelStep.{end_turn, returns_with, sel_step}
 use Rattle.low_core.specs.Weights.{lean_own}
 use Rattle.isel_rows.specs.Brought.{Brought, operand_brought}
 use Rattle.isel_rows.specs.Rows.{closing_of}
 use Rattle.isel_rows.specs.Selected.{module_selected}
-use Rattle.isel_rows.specs.Variables.{variables_of, operand_register}
+use Rattle.isel_rows.specs.Variables.{variables_of}
 use Rattle.isel.proofs.Beside.{memories, setting_of, Meets}
 use Rattle.isel.proofs.Callers.{gives_back, gives_nothing}
-use Rattle.isel.proofs.Here.{IsHere, vs, memory, now, ready, closing, EndHere, ends_here}
+use Rattle.isel.proofs.Here.{IsHere, memory, now, ready, closing, ends_here}
 use Rattle.isel.proofs.Mentioned.{IsFine, end_fine}
 use Rattle.isel.proofs.Operands.{operand_brings}
 use Rattle.isel.proofs.Premises.{Premises, end_at}
 use Rattle.isel.proofs.Straight.{going, moved, passed, StandsAt, straight_end}
 use Rattle.isel.proofs.Tame.{IsTame, value_tame}
 use Rattle.isel.proofs.Values.{HasValue, operand_has}
-use Rattle.isel.proofs.Words.{HasWord, word_read}
+use Rattle.isel.proofs.Words.{word_read}
 
 module _ (m : Module) (plan : Plan) (contents : List Content) (p : Premises m plan contents) (input : List ℕ) (s : State) (f : Frame) (fs : List Frame) (h : SelFrame) (hs : List SelFrame) (bytes : Bytes)
     (x : IsHere m (setting_of m plan contents) s f fs h hs bytes) where

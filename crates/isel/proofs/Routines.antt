@@ -1,17 +1,14 @@
 -- Copies and fills: their arguments in registers, and then one operation. Of no bytes nothing is asked.
-use Rattle.std.proofs.Common.{◌≡◌, ℕ, ◌+◌, ◌%◌, ◌^◌, ◌<◌, true, List, [], ◌∷◌, ◌++◌, map, take, length, Option, Some, None, Ok, Err, slice_get, refl, ap, sym, ◌∙◌, subst, inl, arith}
-use Rattle.std.specs.Prelude.{◌&&◌}
+use Rattle.std.proofs.Common.{◌≡◌, ℕ, ◌%◌, ◌^◌, ◌<◌, true, List, [], ◌∷◌, take, length, Option, Some, None, Ok, slice_get, refl, ap, sym, ◌∙◌, subst, inl, arith}
 use Rattle.std.proofs.lemmas.Bool.{and_parts}
-use Rattle.std.proofs.Math.Nat.{mod-eq_of_lt}
 use Rattle.rd_num.specs.declared.width.Width.{Width}
 use Rattle.rd_num.specs.declared.width.Width.TheVariants.{W1, W8, W64}
 use Rattle.ir_core.specs.declared.instruction.Arg.{Arg}
 use Rattle.ir_core.specs.declared.instruction.Inst.{Inst}
 use Rattle.ir_core.specs.declared.instruction.Op.TheVariants.{Call}
-use Rattle.ir_core.specs.declared.kind.Kind.{Kind}
 use Rattle.ir_core.specs.declared.kind.Kind.TheVariants.{NoValue, Number, Pointer}
 use Rattle.ir_core.specs.declared.memory.Value.{Value}
-use Rattle.ir_core.specs.declared.memory.Value.TheVariants.{Num, Null, At, Fun}
+use Rattle.ir_core.specs.declared.memory.Value.TheVariants.{Num}
 use Rattle.ir_core.specs.declared.module.Module.{Module}
 use Rattle.ir_core.specs.declared.operand.Operand.TheVariants.{Global}
 use Rattle.ir_core.specs.declared.outer.Outer.TheVariants as outside

@@ -1,5 +1,5 @@
 -- A new frame on the stack: there is room for it, and nothing else is where it has its own memory.
-use Rattle.std.proofs.Common.{◌≡◌, ◌≢◌, ℕ, zero, suc, ◌+◌, ◌*◌, ◌-◌, ◌^◌, ◌<◌, ◌≤◌, List, [], ◌∷◌, ◌++◌, map, max, length, true, false, Option, Some, None, slice_get, refl, ap, sym, ◌∙◌, subst, inl, inr, ◌⊎◌, arith}
+use Rattle.std.proofs.Common.{◌≡◌, ◌≢◌, ℕ, zero, suc, ◌+◌, ◌*◌, ◌-◌, ◌<◌, ◌≤◌, List, [], ◌∷◌, ◌++◌, map, max, length, Some, slice_get, refl, ap, sym, ◌∙◌, subst, inl, inr, ◌⊎◌, arith}
 use Rattle.std.proofs.Math.Nat.{suc-mul}
 use Rattle.std.proofs.lemmas.Nat.{mul-le}
 use Rattle.ir_core.specs.declared.TheConstants.{MAX_CALLS}
@@ -10,15 +10,14 @@ use Rattle.ir_core.specs.Memory.{Memory}
 use Rattle.ir_core.specs.State.{Frame}
 use Rattle.x86_core.specs.Data.{stack_start, stack_end}
 use Rattle.low_core.specs.Flat.{Span, Bytes}
-use Rattle.low_core.specs.Plan.{FramePlan, Plan, Content, Lies, IsOffStack, PlanFits, global_spans}
+use Rattle.low_core.specs.Plan.{FramePlan, Plan, Content, IsOffStack, global_spans}
 use Rattle.low_core.specs.Contents.{Addresses}
 use Rattle.low_core.specs.Bridge.{Setting, CallMemory, Bridges}
 use Rattle.low_core.specs.SelState.{SelFrame, top_of, own_span}
 use Rattle.flat_memory.specs.Accesses.{AreFree, IsOff}
 use Rattle.flat_memory.proofs.Named.{off_law}
 use Rattle.isel_rows.specs.Functions.{function_selected}
-use Rattle.isel_rows.specs.Selected.{module_selected}
-use Rattle.isel.proofs.Beside.{greatest_frame, IsOnTop, AreBeside, memories, setting_of}
+use Rattle.isel.proofs.Beside.{greatest_frame, AreBeside, memories, setting_of}
 use Rattle.isel.proofs.Places.{function_there}
 use Rattle.isel.proofs.Premises.{Premises}
 

@@ -1,5 +1,5 @@
 -- Past an instruction whose last operation has an exchange with the outside, or gives a result to a register that may be missing.
-use Rattle.std.proofs.Common.{◌≡◌, ◌≢◌, ℕ, ◌+◌, ◌<◌, List, [], ◌∷◌, ◌++◌, length, Option, Some, Ok, Err, slice_get, refl, ap, sym, ◌∙◌, subst, inl, inr, arith}
+use Rattle.std.proofs.Common.{◌≡◌, ℕ, ◌+◌, List, [], ◌∷◌, ◌++◌, length, Option, Some, Ok, Err, slice_get, refl, ap, sym, ◌∙◌, subst, inl, inr, arith}
 use Rattle.std.proofs.lemmas.List.{append_assoc, length-append}
 use Rattle.behavior.specs.System.{iter}
 use Rattle.ir_core.specs.declared.instruction.Inst.{Inst}
@@ -8,8 +8,7 @@ use Rattle.ir_core.specs.declared.module.Module.{Module}
 use Rattle.ir_core.specs.Counts.{alloca_bytes}
 use Rattle.ir_core.specs.State.{Local, Frame, State, Exchange, turned, with_local}
 use Rattle.ir_core.specs.Stops.{Stop}
-use Rattle.ir_core.specs.Typing.{into_fits, kind_given}
-use Rattle.ir_core.specs.Valid.{LocalKind, named_locals, env_of}
+use Rattle.ir_core.specs.Valid.{LocalKind, named_locals}
 use Rattle.low_core.specs.declared.sel.SelOp.{SelOp}
 use Rattle.low_core.specs.Flat.{Bytes, Flat}
 use Rattle.low_core.specs.Plan.{Plan, Content}
@@ -20,7 +19,7 @@ use Rattle.low_core.specs.SelStep.{with_result, op_turn, sel_step}
 use Rattle.isel_rows.specs.Calls.{register_into}
 use Rattle.isel_rows.specs.Variables.{variables_of}
 use Rattle.isel_rows.specs.Selected.{module_selected}
-use Rattle.isel.proofs.Beside.{Holds, memories, setting_of, Meets}
+use Rattle.isel.proofs.Beside.{Holds, setting_of, Meets}
 use Rattle.isel.proofs.Delivered.{count_result, holds_result}
 use Rattle.isel.proofs.Here.{IsHere, memory, now, ops, stands_here, stops, into_variable}
 use Rattle.isel.proofs.Kept.{same_changed}
