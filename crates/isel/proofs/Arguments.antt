@@ -110,7 +110,7 @@ module _ (m : Module) (plan : Plan) (contents : List Content) (p : Premises m pl
       let room = x.call.registers in
       let now = ready m plan contents p input s f fs h hs bytes x in
       let y = all_bring plan h.own flat x.at V x.call.holds.values m args h.registers 0 us now (omega (arith, room, few)) (have_planned args us have)
-          (origins_have m plan contents p (memories (f ∷ fs) (h ∷ hs)) s.objects x.at bytes x.tied f h x.call x.typed args us have) in
+      (origins_have m plan contents p (memories (f ∷ fs) (h ∷ hs)) s.objects x.at bytes x.tied f h x.call x.typed args us have) in
       let count = y.count in
       let many = now.room in
       let less = now.few in

@@ -1,6 +1,7 @@
 -- The caller of a call that returns goes on beside that of registers, and the objects of the call are dead.
 use Rattle.std.proofs.Common.{◌≡◌, ℕ, zero, suc, ◌≤◌, true, List, [], ◌∷◌, length, Option, Some, None, Ok, refl, ap, sym, ◌∙◌, subst, inl, inr, arith, All}
 use Rattle.behavior.specs.System.{iter}
+use Rattle.ir_core.specs.declared.instruction.Inst.{Inst}
 use Rattle.ir_core.specs.declared.instruction.Op.TheVariants.{Call}
 use Rattle.ir_core.specs.declared.kind.Kind.{Kind}
 use Rattle.ir_core.specs.declared.kind.Kind.TheVariants.{NoValue, Number, Pointer}
@@ -160,7 +161,8 @@ module _ (m : Module) (plan : Plan) (contents : List Content) (p : Premises m pl
       let w = waiting in
       let fn_same : x.over.calls.0.fn ≡ x.call.fn = some_is x.over.calls.0.fn x.call.fn (sym x.over.calls.0.in_module ∙ x.call.in_module) in
       let kind : kind_of w.past.ret ≡ NoValue = w.past.gives ∙ ap (λ (fn : Function). kind_of fn.ret) fn_same ∙ nothing_kind (kind_of x.call.fn.ret) nothing in
-      let rules = rules_at m plan contents p f1.function w.stands.fn w.stands.in_module f1.block w.stands.block w.stands.in_function w.past.place (record { result = f.into; op = Call w.past.ret w.past.callee w.past.arguments }) w.past.at_place in
+      let i : Inst = record { result = f.into; op = Call w.past.ret w.past.callee w.past.arguments } in
+      let rules = rules_at m plan contents p f1.function w.stands.fn w.stands.in_module f1.block w.stands.block w.stands.in_function w.past.place i w.past.at_place in
       let none : f.into ≡ None = no_local f.into (kind_of w.past.ret) rules.named kind in
       goes_on count h2 f1.locals h1.registers
       (steps ∙ ap (λ o. sel_turned (ending h2) (and_then (delivered o None h1) (λ k. goes (ending h2) (k ∷ hs)))) (same ∙ into_is ∙ ap (register_into V) none)) refl c.holds

@@ -31,7 +31,7 @@ use Rattle.low_core.specs.Flat.{Bytes, Flat}
 use Rattle.low_core.specs.Plan.{Plan, Content}
 use Rattle.low_core.specs.Contents.{word_of}
 use Rattle.low_core.specs.Bridge.{Setting}
-use Rattle.low_core.specs.SelState.{SelFrame, SelState, words_in}
+use Rattle.low_core.specs.SelState.{SelFrame, SelState, SelTurn, words_in}
 use Rattle.low_core.specs.SelStep.{function_at, enters}
 use Rattle.flat_memory.proofs.Named.{names_law}
 use Rattle.isel_rows.specs.Brought.{args_brought, AllBrought}
@@ -92,10 +92,11 @@ module _ (m : Module) (plan : Plan) (contents : List Content) (p : Premises m pl
   kinds args = map (λ (a : Arg). kind_of a.ty) args
 
   -- a function of the module by its number
-  number_met : (into : Option (List ℕ)) (ret : Ty) (name : List ℕ) (args : List Arg) → (there : Stands m plan contents p input s f fs h hs bytes x into (Call ret (Global name) args)) → (k : ℕ) → function_number m name ≡ Some k → (us : List Value)
+  number_met : (into : Option (List ℕ)) (ret : Ty) (name : List ℕ) (args : List Arg) → (there : Stands m plan contents p input s f fs h hs bytes x into (Call ret (Global name) args)) → (k : ℕ) → function_number m name ≡ Some k
+      → (us : List Value)
       → Have m plan contents p input s f fs h hs bytes x args us
       → Meets m g input (length (ops m plan contents p input s f fs h hs bytes x (record { result = into; op = Call ret (Global name) args }) there)) spot
-          (turned s (call_turn m input s (past f ∷ fs) (kind_of ret) (kinds args) us into (target_named name (Some k))))
+      (turned s (call_turn m input s (past f ∷ fs) (kind_of ret) (kinds args) us into (target_named name (Some k))))
   number_met into ret name args there k is us have =
       let b = all_brought m plan contents p input s f fs h hs bytes x into ret (Global name) args there us have in
       let all : AllBrought = args_brought m V 0 args in
@@ -106,16 +107,18 @@ module _ (m : Module) (plan : Plan) (contents : List Content) (p : Premises m pl
       (ap (λ q. and_then q (λ ns. enters Malformed (module_selected m) plan t h2 hs r ns k)) b.words)
 
   -- a function by its address
-  address_met : (into : Option (List ℕ)) (ret : Ty) (name : List ℕ) (args : List Arg) → (there : Stands m plan contents p input s f fs h hs bytes x into (Call ret (LocalName name) args)) → (v : Value) → local_value f.locals name ≡ Ok v → (us : List Value)
+  address_met : (into : Option (List ℕ)) (ret : Ty) (name : List ℕ) (args : List Arg) → (there : Stands m plan contents p input s f fs h hs bytes x into (Call ret (LocalName name) args)) → (v : Value)
+      → local_value f.locals name ≡ Ok v → (us : List Value)
       → Have m plan contents p input s f fs h hs bytes x args us
       → Meets m g input (length (ops m plan contents p input s f fs h hs bytes x (record { result = into; op = Call ret (LocalName name) args }) there)) spot
-          (turned s (call_turn m input s (past f ∷ fs) (kind_of ret) (kinds args) us into (Inside v)))
+      (turned s (call_turn m input s (past f ∷ fs) (kind_of ret) (kinds args) us into (Inside v)))
   address_met into ret name args there (Num w n) is us have = inl refl
   address_met into ret name args there Null is us have = inl refl
   address_met into ret name args there (At o d) is us have = inl refl
   address_met into ret name args there (Fun k) is us have =
       let parts = Each_parts (IsFine m) (of_callee (LocalName name)) (of_args args) (fine m plan contents p input s f fs h hs bytes x into (Call ret (LocalName name) args) there).1 in
-      let v = operand_has m plan contents p (memories (f ∷ fs) (h ∷ hs)) s.objects x.at bytes x.tied f h x.call x.typed Pointer (LocalName name) (Fun k) (call_fits m plan contents p input s f fs h hs bytes x into ret (LocalName name) args there).0 parts.0 is in
+      let fits = (call_fits m plan contents p input s f fs h hs bytes x into ret (LocalName name) args there).0 in
+      let v = operand_has m plan contents p (memories (f ∷ fs) (h ∷ hs)) s.objects x.at bytes x.tied f h x.call x.typed Pointer (LocalName name) (Fun k) fits parts.0 is in
       let b = all_brought m plan contents p input s f fs h hs bytes x into ret (LocalName name) args there us have in
       let all : AllBrought = args_brought m V 0 args in
       let r : Option ℕ = register_into V into in
@@ -128,12 +131,15 @@ module _ (m : Module) (plan : Plan) (contents : List Content) (p : Premises m pl
       let found : function_at (word_of x.at (Fun k)) (module_selected m).taken plan.functions ≡ Some k =
       ap (λ n. function_at n (module_selected m).taken plan.functions) named
       ∙ function_found place.0 (module_selected m).taken plan.functions k v.known place.1 (λ j is_taken stands. p.setting.apart j k place.0 is_taken v.known stands place.1) in
+      let enter : List ℕ → ℕ → Answer SelTurn = (λ ns j. enters (Left Bounds) (module_selected m) plan t h2 hs r ns j) in
+      let at_place : ℕ → Answer ℕ = (λ at. found_or (Left Bounds) (function_at at (module_selected m).taken plan.functions)) in
       enters_met m plan contents p input s f fs h hs bytes x into ret (LocalName name) args there k (Left Bounds) all.ops (sel.CallAt a r all.registers) b.after us refl b.runs b.ready b.count have
-      (ap (λ q. and_then q (λ at. and_then (words_in b.after all.registers) (λ ns. and_then (found_or (Left Bounds) (function_at at (module_selected m).taken plan.functions)) (λ j. enters (Left Bounds) (module_selected m) plan t h2 hs r ns j)))) (word_read b.after a (word_of x.at (Fun k)) holds)
-      ∙ ap (λ q. and_then q (λ ns. and_then (found_or (Left Bounds) (function_at (word_of x.at (Fun k)) (module_selected m).taken plan.functions)) (λ j. enters (Left Bounds) (module_selected m) plan t h2 hs r ns j))) b.words
-      ∙ ap (λ o. and_then (found_or (Left Bounds) o) (λ j. enters (Left Bounds) (module_selected m) plan t h2 hs r (map (word_of x.at) us) j)) found)
+      (ap (λ q. and_then q (λ at. and_then (words_in b.after all.registers) (λ ns. and_then (at_place at) (λ j. enter ns j)))) (word_read b.after a (word_of x.at (Fun k)) holds)
+      ∙ ap (λ q. and_then q (λ ns. and_then (at_place (word_of x.at (Fun k))) (λ j. enter ns j))) b.words
+      ∙ ap (λ o. and_then (found_or (Left Bounds) o) (λ j. enter (map (word_of x.at) us) j)) found)
     where
-      by_value : (j : ℕ) (o : Option Value) → register x.call.holds.values j ≡ o → found_or (Left UnsetReason) o ≡ Ok (Fun k) → (after : List (Option ℕ)) → ((i : ℕ) (u : Value) → register x.call.holds.values i ≡ Some u → HasWord after i (word_of x.at u))
+      by_value : (j : ℕ) (o : Option Value) → register x.call.holds.values j ≡ o → found_or (Left UnsetReason) o ≡ Ok (Fun k) → (after : List (Option ℕ))
+          → ((i : ℕ) (u : Value) → register x.call.holds.values i ≡ Some u → HasWord after i (word_of x.at u))
           → HasWord after j (word_of x.at (Fun k))
       by_value j (Some u) stands e after have = let same : u ≡ Fun k = cc in subst (λ w. HasWord after j (word_of x.at w)) same (have j u stands)
       by_value j None stands e after have = absurd (cc)
@@ -144,24 +150,27 @@ module _ (m : Module) (plan : Plan) (contents : List Content) (p : Premises m pl
       by_number None e after have = absurd (cc)
 
   -- a function that is named
-  named_met : AreBytes input → (into : Option (List ℕ)) (ret : Ty) (name : List ℕ) (args : List Arg) → (there : Stands m plan contents p input s f fs h hs bytes x into (Call ret (Global name) args)) → (q : Option ℕ) → function_number m name ≡ q → (us : List Value)
+  named_met : AreBytes input → (into : Option (List ℕ)) (ret : Ty) (name : List ℕ) (args : List Arg) → (there : Stands m plan contents p input s f fs h hs bytes x into (Call ret (Global name) args)) → (q : Option ℕ)
+      → function_number m name ≡ q → (us : List Value)
       → Have m plan contents p input s f fs h hs bytes x args us
       → Meets m g input (length (ops m plan contents p input s f fs h hs bytes x (record { result = into; op = Call ret (Global name) args }) there)) spot
-          (turned s (call_turn m input s (past f ∷ fs) (kind_of ret) (kinds args) us into (target_named name q)))
+      (turned s (call_turn m input s (past f ∷ fs) (kind_of ret) (kinds args) us into (target_named name q)))
   named_met are into ret name args there (Some k) is us have = number_met into ret name args there k is us have
   named_met are into ret name args there None is us have = outer_met m plan contents p input s f fs h hs bytes x into ret name args there is are us have (outer_of name) refl
 
   -- a call
-  pub call_met : AreBytes input → (into : Option (List ℕ)) (ret : Ty) (callee : Operand) (args : List Arg) → Stands m plan contents p input s f fs h hs bytes x into (Call ret callee args) → IsMet m plan contents p input s f fs h hs bytes x into (Call ret callee args)
+  pub call_met : AreBytes input → (into : Option (List ℕ)) (ret : Ty) (callee : Operand) (args : List Arg) → Stands m plan contents p input s f fs h hs bytes x into (Call ret callee args)
+      → IsMet m plan contents p input s f fs h hs bytes x into (Call ret callee args)
   call_met are into ret (Global name) args there =
       let n : ℕ = length (ops m plan contents p input s f fs h hs bytes x (record { result = into; op = Call ret (Global name) args }) there) in
-      when_answered m plan contents p input s f fs h hs bytes x n spot (values_of m f.locals args) (λ us. call_turn m input s (past f ∷ fs) (kind_of ret) (kinds args) us into (target_named name (function_number m name))) (values_tame m f.locals args)
+      when_answered m plan contents p input s f fs h hs bytes x n spot (values_of m f.locals args)
+      (λ us. call_turn m input s (past f ∷ fs) (kind_of ret) (kinds args) us into (target_named name (function_number m name))) (values_tame m f.locals args)
       (λ us is. named_met are into ret name args there (function_number m name) refl us (args_read m plan contents p input s f fs h hs bytes x into ret (Global name) args there us is))
   call_met are into ret (LocalName name) args there = by_value (local_value f.locals name) refl
     where
       by_value : (q : Answer Value) → local_value f.locals name ≡ q
           → Meets m g input (length (ops m plan contents p input s f fs h hs bytes x (record { result = into; op = Call ret (LocalName name) args }) there)) spot
-              (turned s (and_then (and_then q (λ v. Ok (Inside v))) (λ target. and_then (values_of m f.locals args) (λ us. call_turn m input s (past f ∷ fs) (kind_of ret) (kinds args) us into target))))
+          (turned s (and_then (and_then q (λ v. Ok (Inside v))) (λ target. and_then (values_of m f.locals args) (λ us. call_turn m input s (past f ∷ fs) (kind_of ret) (kinds args) us into target))))
       by_value (Err stop) e = inl (subst IsTame e (value_tame m f.locals Pointer (LocalName name)))
       by_value (Ok v) e =
           when_answered m plan contents p input s f fs h hs bytes x (length (ops m plan contents p input s f fs h hs bytes x (record { result = into; op = Call ret (LocalName name) args }) there)) spot

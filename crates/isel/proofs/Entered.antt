@@ -40,7 +40,8 @@ second_false false c e = e
 second_false true c e = not_true (sym e)
 
 -- behind one more name, from which all of them differ
-numbered_behind : (before : List (List ℕ)) (n : List ℕ) (names : List (List ℕ)) (k : ℕ) (ps : List Param) → ((q : List ℕ) → is_among before q ≡ false → same_name n q ≡ false) → repeated before (map (λ (p : Param). p.name) ps) ≡ [] → AreNumbered names k ps
+numbered_behind : (before : List (List ℕ)) (n : List ℕ) (names : List (List ℕ)) (k : ℕ) (ps : List Param) → ((q : List ℕ) → is_among before q ≡ false → same_name n q ≡ false)
+    → repeated before (map (λ (p : Param). p.name) ps) ≡ [] → AreNumbered names k ps
     → AreNumbered (n ∷ names) (k + 1) ps
 numbered_behind before n names k [] apart none are = tt
 numbered_behind before n names k (p ∷ ps) apart none are =
@@ -58,10 +59,11 @@ params_numbered before (p ∷ ps) rest none =
     let more : List LocalKind = first_of_each (before ++ p.name ∷ []) (map param_kind ps ++ rest) in
     let is : first_of_each before (map param_kind (p ∷ ps) ++ rest) ≡ param_kind p ∷ more = ap (λ b. if b then first_of_each before (map param_kind ps ++ rest) else param_kind p ∷ more) f.new in
     let apart : (q : List ℕ) → is_among (before ++ p.name ∷ []) q ≡ false → same_name p.name q ≡ false =
-        (λ q e. differ_back q p.name (first_false (same_name q p.name) false (second_false (is_among before q) (same_name q p.name || false) (sym (list_any-append (same_name q) before (p.name ∷ [])) ∙ e)))) in
-    subst (λ vs. AreNumbered (named_locals vs) 0 (p ∷ ps)) (sym is)
-    (ap (λ b. if b then Some 0 else option_map (λ i. suc i) (number_of (named_locals more) p.name)) (same_itself p.name),
-      numbered_behind (before ++ p.name ∷ []) p.name (named_locals more) 0 ps apart f.rest (params_numbered (before ++ p.name ∷ []) ps rest f.rest))
+    (λ q e. differ_back q p.name (first_false (same_name q p.name) false (second_false (is_among before q) (same_name q p.name || false) (sym (list_any-append (same_name q) before (p.name ∷ [])) ∙ e)))) in
+    subst (λ vs. AreNumbered (named_locals vs) 0 (p ∷ ps)) (sym is) (
+      ap (λ b. if b then Some 0 else option_map (λ i. suc i) (number_of (named_locals more) p.name)) (same_itself p.name),
+      numbered_behind (before ++ p.name ∷ []) p.name (named_locals more) 0 ps apart f.rest (params_numbered (before ++ p.name ∷ []) ps rest f.rest),
+    )
 
 -- as many registers as before
 pub length_bound : (rs ns : List ℕ) (registers : List (Option ℕ)) → length (bound rs ns registers) ≡ length registers
@@ -81,7 +83,8 @@ no_value (suc count) zero v e = absurd (cc)
 no_value (suc count) (suc k) v e = no_value count k v e
 
 -- parameters from the k-th on hold the values of arguments that can arise
-pub params_hold : (objects : ℕ) (taken : List Bool) (at : Addresses) (vs : List LocalKind) (count : ℕ) (k : ℕ) (ps : List Param) (us : List Value) → length vs + 8 ≤ count → AreNumbered (named_locals vs) k ps → length us ≡ length ps → Each (IsKnown objects taken) us
+pub params_hold : (objects : ℕ) (taken : List Bool) (at : Addresses) (vs : List LocalKind) (count : ℕ) (k : ℕ) (ps : List Param) (us : List Value) → length vs + 8 ≤ count → AreNumbered (named_locals vs) k ps
+    → length us ≡ length ps → Each (IsKnown objects taken) us
     → Holds objects taken at (named_locals vs) (source.bound ps us) (bound (numbers_from k (length ps)) (map (word_of at) us) (replicate count None))
 params_hold objects taken at vs count k [] us room are even known = record {
   values = replicate (length (named_locals vs)) None;

@@ -86,7 +86,7 @@ module _ (m : Module) (plan : Plan) (contents : List Content) (p : Premises m pl
     module _ (k : ℕ) (wrong : Stop) (front : List SelOp) (last : SelOp) (after : List (Option ℕ)) (us : List Value) (are : front ++ last ∷ [] ≡ os) (runs : passed plan h.own flat h.registers front ≡ Ok after)
         (prepared : IsReady x.at V x.call.holds.values after) (count : length after ≡ length h.registers) (have : Have m plan contents p input s f fs h hs bytes x args us)
         (turns : op_turn (module_selected m) plan flat input (later m plan contents p input s f fs h hs bytes x after (length front)) (moved h after (length front)) hs last
-            ≡ enters wrong (module_selected m) plan (later m plan contents p input s f fs h hs bytes x after (length front)) (moved h after (length front)) hs (register_into V into) (map (word_of x.at) us) k) where
+        ≡ enters wrong (module_selected m) plan (later m plan contents p input s f fs h hs bytes x after (length front)) (moved h after (length front)) hs (register_into V into) (map (word_of x.at) us) k) where
       abbrev h2 : SelFrame
       h2 = moved h after (length front)
 

@@ -86,7 +86,8 @@ module _ (m : Module) (plan : Plan) (contents : List Content) (p : Premises m pl
     put_met named us have = inl refl
 
     -- a byte is taken, or there is none
-    take_met : AreBytes input → outer_of name ≡ outside.Getchar → Have m plan contents p input s f fs h hs bytes x args [] → (q : Option ℕ) → slice_get input s.taken ≡ q → Meets m g input count spot (turned s (read_byte s (past f ∷ fs) into q))
+    take_met : AreBytes input → outer_of name ≡ outside.Getchar → Have m plan contents p input s f fs h hs bytes x args [] → (q : Option ℕ) → slice_get input s.taken ≡ q
+        → Meets m g input count spot (turned s (read_byte s (past f ∷ fs) into q))
     take_met are named have (Some byte) is =
         let b = some_brought m plan contents p input s f fs h hs bytes x into ret (Global name) args there 0 [] have in
         let rs : List ℕ = (args_brought m V 0 (take 0 args)).registers in

@@ -107,7 +107,8 @@ module _ (m : Module) (plan : Plan) (contents : List Content) (p : Premises m pl
 pub value_returned : (m : Module) (plan : Plan) (contents : List Content) (p : Premises m plan contents) (input : List ℕ) (s : State) (f : Frame) (fs : List Frame) (h : SelFrame) (hs : List SelFrame) (bytes : Bytes)
     (x : IsHere m (setting_of m plan contents) s f fs h hs bytes) (ty : Ty) (a : Operand) (v : Value) → HasResult m plan contents p input s f fs h hs bytes x ty a v
     → Meets m (setting_of m plan contents) input (length (operand_brought m (variables_of x.call.fn) 0 (kind_of ty) a).ops + 1) (now m plan contents p input s f fs h hs bytes x) (turned s (return_turn s f fs (Some v)))
-value_returned m plan contents p input s f [] h [] bytes x ty a (Num w n) r = inr (inr (refl, subst (λ u. Agrees (source_moment (turned s (Err (Ended (n % 256))))) (sel_moment u)) (sym r.comes) (record { printed = refl; taken = refl; ending = refl })))
+value_returned m plan contents p input s f [] h [] bytes x ty a (Num w n) r =
+    inr (inr (refl, subst (λ u. Agrees (source_moment (turned s (Err (Ended (n % 256))))) (sel_moment u)) (sym r.comes) (record { printed = refl; taken = refl; ending = refl })))
 value_returned m plan contents p input s f [] h [] bytes x ty a Null r = inl refl
 value_returned m plan contents p input s f [] h [] bytes x ty a (At o d) r = inl refl
 value_returned m plan contents p input s f [] h [] bytes x ty a (Fun k) r = inl refl
@@ -133,7 +134,8 @@ module _ (m : Module) (plan : Plan) (contents : List Content) (p : Premises m pl
   -- an end of a block is met by its operations and one step more
   abbrev pub EndIsMet : Term → Type 0
   EndIsMet t =
-      Meets m (setting_of m plan contents) input (length (closing_of m (variables_of x.call.fn) (label_names x.call.fn) t).ops + 1) (now m plan contents p input s f fs h hs bytes x) (turned s (terminator_turn m s f fs x.call.fn x.call.block.label t))
+      Meets m (setting_of m plan contents) input (length (closing_of m (variables_of x.call.fn) (label_names x.call.fn) t).ops + 1) (now m plan contents p input s f fs h hs bytes x)
+      (turned s (terminator_turn m s f fs x.call.fn x.call.block.label t))
 
   -- a return without a value
   pub return_met : x.call.block.end ≡ Ret → EndIsMet Ret
@@ -144,6 +146,7 @@ module _ (m : Module) (plan : Plan) (contents : List Content) (p : Premises m pl
   return_value_met ty a is = by (value_of m f.locals (kind_of ty) a) refl
     where
       by : (q : Answer Value) → value_of m f.locals (kind_of ty) a ≡ q
-          → Meets m (setting_of m plan contents) input (length (operand_brought m (variables_of x.call.fn) 0 (kind_of ty) a).ops + 1) (now m plan contents p input s f fs h hs bytes x) (turned s (and_then q (λ v. return_turn s f fs (Some v))))
+          → Meets m (setting_of m plan contents) input (length (operand_brought m (variables_of x.call.fn) 0 (kind_of ty) a).ops + 1) (now m plan contents p input s f fs h hs bytes x)
+          (turned s (and_then q (λ v. return_turn s f fs (Some v))))
       by (Err stop) e = inl (subst IsTame e (value_tame m f.locals (kind_of ty) a))
       by (Ok v) e = value_returned m plan contents p input s f fs h hs bytes x ty a v (result_has m plan contents p input s f fs h hs bytes x none ty a is v e)

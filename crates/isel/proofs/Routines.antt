@@ -74,7 +74,8 @@ module _ (m : Module) (plan : Plan) (contents : List Content) (p : Premises m pl
     count = length os
 
     -- a copy
-    copies : outer_of name ≡ outside.Memcpy → (to from volatile : Value) (n : ℕ) (w : Width) → Have m plan contents p input s f fs h hs bytes x args (to ∷ from ∷ Num w n ∷ volatile ∷ []) → (objects : Memory) → copied s.objects to from n ≡ Ok objects
+    copies : outer_of name ≡ outside.Memcpy → (to from volatile : Value) (n : ℕ) (w : Width) → Have m plan contents p input s f fs h hs bytes x args (to ∷ from ∷ Num w n ∷ volatile ∷ []) → (objects : Memory)
+        → copied s.objects to from n ≡ Ok objects
         → Meets m g input count spot (turned s (Ok (record { frames = past f ∷ fs; objects = objects; exchange = Nothing })))
     copies named to from volatile n w have objects is =
         let b = some_brought m plan contents p input s f fs h hs bytes x into ret (Global name) args there 3 (to ∷ from ∷ Num w n ∷ volatile ∷ []) have in
@@ -97,19 +98,21 @@ module _ (m : Module) (plan : Plan) (contents : List Content) (p : Premises m pl
     copy_met named us have = inl refl
 
     -- the byte of a fill is one
-    fill_byte : outer_of name ≡ outside.Memset → (as' : List Arg) → args ≡ as' → (to volatile : Value) (byte n : ℕ) (v w : Width) → Have m plan contents p input s f fs h hs bytes x as' (to ∷ Num v byte ∷ Num w n ∷ volatile ∷ []) → byte < 2 ^ 8
+    fill_byte : outer_of name ≡ outside.Memset → (as' : List Arg) → args ≡ as' → (to volatile : Value) (byte n : ℕ) (v w : Width) → Have m plan contents p input s f fs h hs bytes x as' (to ∷ Num v byte ∷ Num w n ∷ volatile ∷ [])
+        → byte < 2 ^ 8
     fill_byte named [] same to volatile byte n v w have = absurd have
     fill_byte named (a ∷ []) same to volatile byte n v w have = absurd have.1
     fill_byte named (a ∷ b ∷ as') same to volatile byte n v w have =
         let fits : outer_fits outside.Memset (kind_of ret) (kinds_of (a ∷ b ∷ as')) ≡ true =
-            ap (λ l. outer_fits outside.Memset (kind_of ret) (kinds_of l)) (sym same) ∙ ap (λ o. outer_fits o (kind_of ret) (kinds_of args)) (sym named) ∙ outer_called m plan contents p input s f fs h hs bytes x into ret name args there none in
+        ap (λ l. outer_fits outside.Memset (kind_of ret) (kinds_of l)) (sym same) ∙ ap (λ o. outer_fits o (kind_of ret) (kinds_of args)) (sym named) ∙ outer_called m plan contents p input s f fs h hs bytes x into ret name args there none in
         let parts = and_parts (same_kind (kind_of ret) NoValue) (same_kinds (kinds_of (a ∷ b ∷ as')) (Pointer ∷ Number W8 ∷ Number W64 ∷ Number W1 ∷ [])) fits in
         let are = kinds_are (kinds_of (a ∷ b ∷ as')) (Pointer ∷ Number W8 ∷ Number W64 ∷ Number W1 ∷ []) parts.1 in
         let kind : kind_of b.ty ≡ Number W8 = cc in
         (subst (λ k. IsOfKind (present m s.objects) k (Num v byte)) kind have.1.0.of_kind).1
 
     -- a fill
-    fills : outer_of name ≡ outside.Memset → (to volatile : Value) (byte n : ℕ) (v w : Width) → Have m plan contents p input s f fs h hs bytes x args (to ∷ Num v byte ∷ Num w n ∷ volatile ∷ []) → (objects : Memory) → filled s.objects to byte n ≡ Ok objects
+    fills : outer_of name ≡ outside.Memset → (to volatile : Value) (byte n : ℕ) (v w : Width) → Have m plan contents p input s f fs h hs bytes x args (to ∷ Num v byte ∷ Num w n ∷ volatile ∷ []) → (objects : Memory)
+        → filled s.objects to byte n ≡ Ok objects
         → Meets m g input count spot (turned s (Ok (record { frames = past f ∷ fs; objects = objects; exchange = Nothing })))
     fills named to volatile byte n v w have objects is =
         let b = some_brought m plan contents p input s f fs h hs bytes x into ret (Global name) args there 3 (to ∷ Num v byte ∷ Num w n ∷ volatile ∷ []) have in

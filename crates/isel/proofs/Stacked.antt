@@ -47,7 +47,8 @@ frame_low (q ∷ qs) zero frame e =
 frame_low (q ∷ qs) (suc k) frame e = let r = frame_low qs k frame e in omega (arith, r)
 
 -- what each frame keeps, the greatest does
-greatest_kept : (calls limit : ℕ) (frames : List FramePlan) → ((k : ℕ) (frame : FramePlan) → slice_get frames k ≡ Some frame → calls * frame.bytes + 4096 ≤ limit) → 4096 ≤ limit → calls * greatest (map (λ (q : FramePlan). q.bytes) frames) + 4096 ≤ limit
+greatest_kept : (calls limit : ℕ) (frames : List FramePlan) → ((k : ℕ) (frame : FramePlan) → slice_get frames k ≡ Some frame → calls * frame.bytes + 4096 ≤ limit) → 4096 ≤ limit
+    → calls * greatest (map (λ (q : FramePlan). q.bytes) frames) + 4096 ≤ limit
 greatest_kept calls limit [] each least = let none : calls * 0 ≡ 0 = omega arith in omega (arith, none, least)
 greatest_kept calls limit (q ∷ qs) each least = by (q.bytes) (greatest (map (λ (r : FramePlan). r.bytes) qs)) (each 0 q refl) (greatest_kept calls limit qs (λ k frame e. each (suc k) frame e) least)
   where

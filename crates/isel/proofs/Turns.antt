@@ -102,7 +102,7 @@ module _ (m : Module) (plan : Plan) (contents : List Content) (p : Premises m pl
         → passed plan h.own flat h.registers front ≡ Ok after → IsReady x.at V x.call.holds.values after → length after ≡ length h.registers
         → let h2 : SelFrame = moved h after (length front) in
         op_turn (module_selected m) plan flat input (later after (length front)) h2 hs last
-            ≡ Ok (record { frames = record h2 { next = h2.next + 1; registers = with_result (register_into V i.result) (word_of x.at v) after } ∷ hs; bytes = bytes; exchange = exchange })
+        ≡ Ok (record { frames = record h2 { next = h2.next + 1; registers = with_result (register_into V i.result) (word_of x.at v) after } ∷ hs; bytes = bytes; exchange = exchange })
         → IsKnown (length s.objects) g.taken v
         → Meets m g input (length os) spot (turned s (Ok (record { frames = record f { next = f.next + 1; locals = with_local i.result v f.locals } ∷ fs; objects = s.objects; exchange = exchange })))
     lands_result front last after v exchange none are runs prepared count turns known =
