@@ -95,6 +95,7 @@ module _ (m : Module) (plan : Plan) (contents : List Content) (p : Premises m pl
     abbrev at : Addresses
     at = with_address x.at start
 
+    -- the operation of the alloca
     o : OpsAt m vars before x.call.block.insts f.next i
     o = ops_at m vars before x.call.block.insts f.next i there
 
@@ -108,6 +109,7 @@ module _ (m : Module) (plan : Plan) (contents : List Content) (p : Premises m pl
         let next = o.allocas in
         omega (arith, some, part, all, whole, next)
 
+    -- its bytes are free
     free : AreFree g s.objects x.at start size
     free =
         let r = room in
@@ -115,6 +117,7 @@ module _ (m : Module) (plan : Plan) (contents : List Content) (p : Premises m pl
         let z : start + 0 ≡ start = omega arith in
         subst (λ n. AreFree g s.objects x.at n size) z (free_part g s.objects x.at start x.call.left 0 size x.call.free (omega arith))
 
+    -- they are in the own memory of the call
     inside : covers start size h.own ≡ true
     inside =
         let r = room in
@@ -122,9 +125,11 @@ module _ (m : Module) (plan : Plan) (contents : List Content) (p : Premises m pl
         let whole = x.call.whole in
         and_from _ _ (le-leb h.own.start start (omega arith)) (le-leb (start + size) (h.own.start + h.own.size) (omega arith))
 
+    -- so it is made there
     allocates : Allocates g s.objects objects x.at at start size
     allocates = allocates_law g (record { own = h.own; objects = f.objects }) (memories fs hs) s.objects x.at bytes x.tied start size free inside x.call.writable
 
+    -- and what was known stays so
     changed : Changed g s.objects objects x.at at start size
     changed = alloca_changed g s.objects objects x.at at start size allocates
 
@@ -137,6 +142,7 @@ module _ (m : Module) (plan : Plan) (contents : List Content) (p : Premises m pl
     abbrev v : Value
     v = At (length s.objects) 0
 
+    -- variables hold their values, its place among them
     holds : Holds (length objects) g.taken at (named_locals vars) (with_local into v f.locals) after
     holds =
         let rules = rules_at m plan contents p f.function x.call.fn x.call.in_module f.block x.call.block x.call.in_function f.next i there in
@@ -148,6 +154,7 @@ module _ (m : Module) (plan : Plan) (contents : List Content) (p : Premises m pl
         (λ j u other e. get_set_other h.registers r j (Some start) (λ same. other (sym same)) ∙ old.words j u e)
         allocates.known
 
+    -- the call behind it
     call : IsCallBeside m g objects at (record f { next = f.next + 1; locals = with_local into v f.locals; objects = length s.objects ∷ f.objects }) (moved h after 1)
     call =
         let allocas = o.allocas in
@@ -174,6 +181,7 @@ module _ (m : Module) (plan : Plan) (contents : List Content) (p : Premises m pl
           free = subst (λ n. AreFree g objects at n left) further (changed.free (start + spaced size) left rest (λ d e low high same. omega (arith, same, high, enough)));
         }
 
+    -- the alloca is met by its operation
     pub alloca_meets : Meets m g input (length (ops m plan contents p input s f fs h hs bytes x i there)) (now m plan contents p input s f fs h hs bytes x) (turned s (instruction_turn m input s f fs into (op.Alloca ty count)))
     alloca_meets =
         let stands = stands_here m plan contents p input s f fs h hs bytes x i there in

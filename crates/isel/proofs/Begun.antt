@@ -62,9 +62,11 @@ module _ (m : Module) (plan : Plan) (contents : List Content) (p : Premises m pl
     abbrev f : Frame
     f = first_frame k fn us into
 
+    -- the first block of the function
     first_block : (b : Block) × (slice_get fn.blocks 0 ≡ Some b)
     first_block = item_at fn.blocks 0 (moves_at m plan contents p k fn there).some_block
 
+    -- there are registers for all
     long : length h.registers ≡ registers_count V fn
     long = length_bound (numbers_from 0 (length fn.params)) (map (word_of at) us) (replicate (registers_count V fn) no_word) ∙ length-replicate (registers_count V fn) no_word
       where
@@ -97,6 +99,7 @@ module _ (m : Module) (plan : Plan) (contents : List Content) (p : Premises m pl
           free = subst (λ n. AreFree g objects at n h.own.size) start (own_free m plan contents p objects at bytes fs hs are tied few k fn there frame planned);
         }
 
+    -- it stands on top of its callers
     on_top : IsOnTop plan h hs
     on_top =
         let room = has_room m plan contents p objects at bytes fs hs are tied few k fn there frame planned in
@@ -111,6 +114,7 @@ module _ (m : Module) (plan : Plan) (contents : List Content) (p : Premises m pl
           room = subst (λ n. stack_end ≤ h.base + n * greatest_frame plan) same room.room;
         }
 
+    -- the call has begun
     pub has_begun : HasBegun objects at bytes fs hs f h
     has_begun =
         let free = own_free m plan contents p objects at bytes fs hs are tied few k fn there frame planned in

@@ -55,6 +55,7 @@ nothing_kind NoValue e = refl
 nothing_kind (Number w) e = not_true e
 nothing_kind Pointer e = not_true e
 
+-- so what waits for nothing has no name
 no_local : (into : Option (List ℕ)) (kind : Kind) → names_value into kind ≡ true → kind ≡ NoValue → into ≡ None
 no_local None kind named is = refl
 no_local (Some name) kind named is = not_true (sym (ap (names_value (Some name)) is) ∙ named)
@@ -134,6 +135,7 @@ module _ (m : Module) (plan : Plan) (contents : List Content) (p : Premises m pl
   waiting : IsWaiting m (present m s.objects) (kind_of x.over.calls.0.fn.ret) f.into f1
   waiting = x.over.calls.1.0
 
+  -- the local that waits is a variable
   variable : IsVariableOf V f.into
   variable =
       let same : waiting.stands.fn ≡ c.fn = some_is waiting.stands.fn c.fn (sym waiting.stands.in_module ∙ c.in_module) in

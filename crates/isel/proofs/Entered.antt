@@ -35,6 +35,7 @@ first_false : (a c : Bool) → (a || c) ≡ false → a ≡ false
 first_false false c e = refl
 first_false true c e = not_true (sym e)
 
+-- nor is the second
 second_false : (a c : Bool) → (a || c) ≡ false → c ≡ false
 second_false false c e = e
 second_false true c e = not_true (sym e)

@@ -125,6 +125,7 @@ module _ (m : Module) (plan : Plan) (contents : List Content) (p : Premises m pl
             let args_many = length_map (λ (a : Arg). kind_of a.ty) args in
             have_count m plan contents p input s f fs h hs bytes x args us have ∙ sym args_many ∙ sym same ∙ many
 
+        -- the plan has a frame for it
         planned : (frame : FramePlan) × (slice_get plan.frames k ≡ Some frame)
         planned =
             let low = slice_get_within m.functions k fn there_fn in
@@ -151,6 +152,7 @@ module _ (m : Module) (plan : Plan) (contents : List Content) (p : Premises m pl
             let same = calls_count m plan contents p s.objects x.at fs hs x.callers in
             ap (λ n. nat_le MAX_CALLS (suc n)) same ∙ sym (ap (λ l. nat_le MAX_CALLS (length l)) x.top) ∙ e
 
+        -- too many calls, or one more
         by_depth : (deep : Bool) → nat_le MAX_CALLS (length s.frames) ≡ deep
             → Meets m g input (length os) spot (turned s (if deep then Err Depth else Ok (record { frames = first_frame k fn us into ∷ past f ∷ fs; objects = s.objects; exchange = Nothing })))
         by_depth true e =

@@ -69,6 +69,7 @@ module _ (m : Module) (plan : Plan) (contents : List Content) (p : Premises m pl
     abbrev Ops : Outer → List SelOp
     Ops o = outer_ops m V (register_into V into) o args
 
+    -- they are those that stand there
     ops_are : (o : Outer) → outer_of name ≡ o → Ops o ≡ os
     ops_are o named = sym (ap (named_ops m V (register_into V into) args name) none ∙ ap Ops named)
 
@@ -106,6 +107,7 @@ module _ (m : Module) (plan : Plan) (contents : List Content) (p : Premises m pl
         lands_result m plan contents p input s f fs h hs bytes x i there front (Outside which.Getchar (register_into V into) rs) b.after (Num W32 (2 ^ 32 - 1)) Nothing refl (ops_are outside.Getchar named) b.runs b.ready b.count
         (ap (λ q. and_then q (λ ns. outside_turn flat input t h2 hs (register_into V into) which.Getchar ns)) b.words ∙ ap (takes_byte t h2 hs (register_into V into)) is) (omega arith)
 
+    -- whatever its arguments are
     get_met : AreBytes input → outer_of name ≡ outside.Getchar → (us : List Value) → Have m plan contents p input s f fs h hs bytes x args us → Meets m g input count spot (turned s (outer_turn input s (past f ∷ fs) into outside.Getchar us))
     get_met are named [] have = take_met are named have (slice_get input s.taken) refl
     get_met are named (u ∷ us) have = inl refl

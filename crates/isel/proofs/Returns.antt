@@ -82,6 +82,7 @@ module _ (m : Module) (plan : Plan) (contents : List Content) (p : Premises m pl
     pub comes : let n : ℕ = length (operand_brought m V 0 (kind_of ty) a).ops in
         iter (sel_step (module_selected m) plan contents input) (n + 1) spot ≡ sel_turned (at_end after n) (returns_with (at_end after n) (moved h after n) hs (Some (word_of x.at v)))
 
+  -- it is there where the block ends so
   pub result_has : slice_get x.call.block.insts f.next ≡ None → (ty : Ty) (a : Operand) → x.call.block.end ≡ RetValue ty a → (v : Value) → value_of m f.locals (kind_of ty) a ≡ Ok v → HasResult ty a v
   result_has none ty a is v is_v =
       let rules = end_at m plan contents p f.function x.call.fn x.call.in_module f.block x.call.block x.call.in_function in

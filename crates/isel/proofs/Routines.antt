@@ -91,6 +91,7 @@ module _ (m : Module) (plan : Plan) (contents : List Content) (p : Premises m pl
         ∙ ap (puts_bytes h2 hs) law.gives)
         law.tied law.same
 
+    -- whatever the arguments of a copy are
     pub copy_met : outer_of name ≡ outside.Memcpy → (us : List Value) → Have m plan contents p input s f fs h hs bytes x args us → Meets m g input count spot (turned s (outer_turn input s (past f ∷ fs) into outside.Memcpy us))
     copy_met named (to ∷ from ∷ Num w n ∷ volatile ∷ []) have =
         when_answered m plan contents p input s f fs h hs bytes x count spot (copied s.objects to from n) (λ objects. Ok (record { frames = past f ∷ fs; objects = objects; exchange = Nothing })) (copied_tame s.objects to from n)
@@ -131,6 +132,7 @@ module _ (m : Module) (plan : Plan) (contents : List Content) (p : Premises m pl
         ∙ ap (puts_bytes h2 hs) law.gives)
         law.tied law.same
 
+    -- whatever the arguments of a fill are
     pub fill_met : outer_of name ≡ outside.Memset → (us : List Value) → Have m plan contents p input s f fs h hs bytes x args us → Meets m g input count spot (turned s (outer_turn input s (past f ∷ fs) into outside.Memset us))
     fill_met named (to ∷ Num v byte ∷ Num w n ∷ volatile ∷ []) have =
         when_answered m plan contents p input s f fs h hs bytes x count spot (filled s.objects to byte n) (λ objects. Ok (record { frames = past f ∷ fs; objects = objects; exchange = Nothing })) (filled_tame s.objects to byte n)

@@ -27,6 +27,7 @@ pub record HasRoom (first end top n most bytes : ℕ) : Type 0 where
   pub above : first ≤ top - bytes
   pub room : end ≤ top - bytes + suc n * most
 
+-- there is room for it
 pub more_room : (first end top n most calls bytes : ℕ) → end ≤ top + n * most → n < calls → calls * most + 4096 ≤ end - first → bytes ≤ most → HasRoom first end top n most bytes
 more_room first end top n most calls bytes before few all small =
     let one = suc-mul n most in
@@ -80,6 +81,7 @@ module _ (m : Module) (plan : Plan) (contents : List Content) (p : Premises m pl
       let base = are.1.base in
       omega (arith, more, base)
 
+  -- and there is room for the greatest below them
   pub top_high : (objects : Memory) (at : Addresses) (fs : List Frame) (hs : List SelFrame) → AreBeside m g objects at fs hs → stack_end ≤ top_of hs + length hs * greatest_frame plan
   top_high objects at [] [] are = omega arith
   top_high objects at [] (h ∷ hs) are = absurd are
@@ -125,20 +127,25 @@ module _ (m : Module) (plan : Plan) (contents : List Content) (p : Premises m pl
     abbrev pub own : Span
     own = own_span (function_selected m fn) frame (top_of hs)
 
+    -- there is room for its frame
     pub has_room : HasRoom stack_start stack_end (top_of hs) (length hs) (greatest_frame plan) frame.bytes
     has_room =
         let all = greatest_kept MAX_CALLS (stack_end - stack_start) plan.frames (λ j q e. p.fits.room j q e) (omega arith) in
         more_room stack_start stack_end (top_of hs) (length hs) (greatest_frame plan) MAX_CALLS frame.bytes (top_high objects at fs hs are) few all (frame_low plan.frames k frame planned)
 
+    -- in which it lies
     pub inside : frame.allocas + own.size ≤ frame.bytes
     inside = p.fits.allocas k (function_selected m fn) frame (function_there m k fn there) planned
 
+    -- it is on the stack
     pub own_high : stack_start ≤ own.start
     own_high = let above = has_room.above in omega (arith, above)
 
+    -- below the callers
     pub own_low : own.start + own.size ≤ top_of hs
     own_low = let below = has_room.below in let fit = inside in omega (arith, below, fit)
 
+    -- and apart from all other parts of memory
     off : IsOff own.start own.size (map (λ (c : CallMemory). c.own) (memories fs hs) ++ global_spans plan.globals contents)
     off =
         let low = own_low in
