@@ -23,4 +23,5 @@ pub mod Results
 pub mod Choices
 pub mod Casts
 pub mod Selects
+pub mod Geps
 pub mod Allocas
