@@ -1,15 +1,13 @@
 -- A pointer that moves along the path of its indices is met.
-use Rattle.std.proofs.Common.{◌≡◌, ◌≢◌, ℕ, ◌+◌, ◌%◌, ◌^◌, ◌<◌, true, List, [], ◌∷◌, ◌++◌, map, length, Option, Some, None, Ok, Err, slice_get, refl, ap, sym, ◌∙◌, subst, arith}
+use Rattle.std.proofs.Common.{◌≡◌, ℕ, ◌+◌, ◌%◌, ◌^◌, ◌<◌, true, List, [], ◌∷◌, ◌++◌, map, length, Option, Some, None, Ok, Err, slice_get, refl, ap, sym, ◌∙◌, subst, arith}
 use Rattle.std.specs.Prelude.{◌&&◌}
 use Rattle.std.specs.List.{list_all}
 use Rattle.std.proofs.lemmas.Bool.{and_parts}
 use Rattle.rd_num.specs.declared.width.Width.{Width}
-use Rattle.rd_num.specs.declared.width.Width.TheVariants.{W1, W8, W16, W32, W64}
 use Rattle.ir_core.specs.declared.ty.Ty.{Ty}
 use Rattle.ir_core.specs.declared.operand.Operand.{Operand}
 use Rattle.ir_core.specs.declared.operand.Operand.TheVariants.{Int, Bool as Truth, Null as NullWord, Undef, Poison, Local as LocalName, Global, Const}
 use Rattle.ir_core.specs.declared.instruction.Arg.{Arg}
-use Rattle.ir_core.specs.declared.instruction.Op.{Op}
 use Rattle.ir_core.specs.declared.instruction.Op.TheVariants.{Gep}
 use Rattle.ir_core.specs.declared.kind.Kind.{Kind}
 use Rattle.ir_core.specs.declared.kind.Kind.TheVariants.{NoValue, Number, Pointer}
@@ -18,35 +16,33 @@ use Rattle.ir_core.specs.declared.memory.Value.TheVariants.{Num, Null, At, Fun}
 use Rattle.ir_core.specs.declared.module.Module.{Module}
 use Rattle.ir_core.specs.Arithmetic.{modulus}
 use Rattle.ir_core.specs.Kinds.{kind_of}
-use Rattle.ir_core.specs.Mentions.{of_operand, of_typed, of_args, of_op}
-use Rattle.ir_core.specs.Operands.{value_of, values_of, index_words, bytes_to, function_number, global_number}
+use Rattle.ir_core.specs.Mentions.{of_typed, of_args, of_op}
+use Rattle.ir_core.specs.Operands.{value_of, values_of, index_words, bytes_to, global_number}
 use Rattle.ir_core.specs.Pointers.{moved_pointer}
 use Rattle.ir_core.specs.State.{Frame, State, turned}
-use Rattle.ir_core.specs.Step.{gives, result_of, instruction_turn}
+use Rattle.ir_core.specs.Step.{gives, result_of}
 use Rattle.ir_core.specs.Stops.{Answer, and_then, found_or}
-use Rattle.ir_core.specs.Typing.{is_index, has_kind, operand_fits, op_fits, known_arg, leads_from}
+use Rattle.ir_core.specs.Typing.{is_index, operand_fits, op_fits, known_arg, leads_from}
 use Rattle.ir_core.specs.Valid.{LocalKind, env_of, named_locals}
-use Rattle.ir_sound.specs.WellTyped.{Each, IsOfKind, Present, present}
-use Rattle.ir_sound.proofs.Operands.{number_of as number_is, value_gives}
+use Rattle.ir_sound.specs.WellTyped.{Each, IsOfKind, present}
+use Rattle.ir_sound.proofs.Operands.{value_gives}
 use Rattle.ir_sound.proofs.RowLaws.{Each_parts}
 use Rattle.ir_sound.proofs.SameLaws.{has_kind_is, not_true}
 use Rattle.ir_sound.specs.WellTyped.{Properly}
 use Rattle.ir_context.specs.declared.origin.Origin.{Origin}
-use Rattle.ir_context.specs.declared.origin.Origin.TheVariants.{Known, Register, Unset, Malformed}
 use Rattle.ir_context.specs.declared.path.Path.{Path}
 use Rattle.ir_context.specs.declared.path.Stride.{Stride}
 use Rattle.ir_context.specs.Laws.{MovesAlong}
 use Rattle.ir_context.specs.Origins.{known, register_of, place_in, place_of, origin_of, arg_origin}
-use Rattle.ir_context.specs.Paths.{path_of}
 use Rattle.ir_context.specs.Reads.{origin_value, stride_values, stride_bytes, moved_along}
-use Rattle.ir_context.specs.Registers.{register, number_of}
+use Rattle.ir_context.specs.Registers.{number_of}
 use Rattle.ir_context.proofs.OperandLaws.{operand_read, gep_moves}
 use Rattle.low_core.specs.declared.sel.SelOp.{SelOp}
 use Rattle.low_core.specs.Flat.{Bytes, Flat}
 use Rattle.low_core.specs.Plan.{Plan, Content}
 use Rattle.low_core.specs.Contents.{word_of}
 use Rattle.low_core.specs.Bridge.{Setting, IsKnown}
-use Rattle.low_core.specs.SelState.{SelFrame, SelState, with_register}
+use Rattle.low_core.specs.SelState.{SelFrame, with_register}
 use Rattle.low_core.specs.Weights.{lean_own}
 use Rattle.flat_memory.specs.Accesses.{IsPointer}
 use Rattle.flat_memory.proofs.Compare.{moved_law}
@@ -57,7 +53,7 @@ use Rattle.isel_rows.specs.Rows.{moved_ops, path_taken, result_register, ops_of}
 use Rattle.isel.proofs.Beside.{memories, setting_of, Meets}
 use Rattle.isel.proofs.Choices.{pointer_small, pointer_has}
 use Rattle.isel.proofs.Here.{IsHere, done, memory, now, ready, lands_set, result_below}
-use Rattle.isel.proofs.Holding.{IsVariable, variable_of}
+use Rattle.isel.proofs.Holding.{variable_of}
 use Rattle.isel.proofs.Mentioned.{IsFine, fields_small, all_small}
 use Rattle.isel.proofs.Moving.{AreRead, moved_gives}
 use Rattle.isel.proofs.Operands.{operand_brings, ready_after, brought_apart}
@@ -65,9 +61,8 @@ use Rattle.isel.proofs.Operations.{has, gives_or_left}
 use Rattle.isel.proofs.Paths.{IsIndex, AreIndices, path_read}
 use Rattle.isel.proofs.Premises.{Premises}
 use Rattle.isel.proofs.Results.{Stands, IsMet, rules, fine}
-use Rattle.isel.proofs.Straight.{Gave, gave, passed, passed_both}
+use Rattle.isel.proofs.Straight.{gave, passed, passed_both}
 use Rattle.isel.proofs.Tame.{IsTame, then_tame, value_tame, values_tame, words_tame, bytes_tame, moved_tame}
-use Rattle.isel.proofs.Values.{HasValue}
 
 -- an index has a number's kind
 index_kind : (kind : Kind) → is_index kind ≡ true → (w : Width) × (kind ≡ Number w)
