@@ -24,4 +24,5 @@ pub mod Choices
 pub mod Casts
 pub mod Selects
 pub mod Geps
+pub mod Edges
 pub mod Allocas
