@@ -25,4 +25,5 @@ pub mod Casts
 pub mod Selects
 pub mod Geps
 pub mod Edges
+pub mod Ends
 pub mod Allocas
