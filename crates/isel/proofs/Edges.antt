@@ -1,7 +1,6 @@
 -- Along an edge both runs come to the start of the same block.
-use Rattle.std.proofs.Common.{◌≡◌, ◌≢◌, ℕ, zero, suc, ◌+◌, Bool, true, false, List, [], ◌∷◌, map, length, take, Option, Some, None, Ok, Err, slice_get, refl, ap, sym, ◌∙◌, subst, inl, inr, arith}
-use Rattle.std.specs.Prelude.{◌&&◌, not, if◌then◌else◌, option_map}
-use Rattle.std.specs.List.{list_all}
+use Rattle.std.proofs.Common.{◌≡◌, ℕ, zero, suc, ◌+◌, true, false, List, [], ◌∷◌, length, take, Option, Some, None, Ok, slice_get, refl, ap, sym, ◌∙◌, subst, inl, inr, arith}
+use Rattle.std.specs.Prelude.{not, if◌then◌else◌, option_map}
 use Rattle.std.proofs.lemmas.Bool.{and_parts, eqb-true}
 use Rattle.std.proofs.lemmas.List.Sums.{sum_by-cons}
 use Rattle.behavior.specs.System.{iter}
@@ -14,15 +13,14 @@ use Rattle.ir_core.specs.declared.ty.NamedTy.{NamedTy}
 use Rattle.ir_core.specs.Counts.{alloca_bytes}
 use Rattle.ir_core.specs.Definitions.{label_names}
 use Rattle.ir_core.specs.Names.{same_name, number_where}
-use Rattle.ir_core.specs.State.{Frame, State, Local, Nothing, turned}
+use Rattle.ir_core.specs.State.{Frame, State, Nothing, turned}
 use Rattle.ir_core.specs.Step.{Choice, choices_of, given_at_once, in_block, goes_to}
 use Rattle.ir_core.specs.Stops.{and_then, found_or, Malformed}
-use Rattle.ir_core.specs.Valid.{LocalKind, named_locals, alloca_fits, is_phi, is_entry}
+use Rattle.ir_core.specs.Valid.{LocalKind, alloca_fits, is_phi, is_entry}
 use Rattle.ir_core.proofs.LookupLaws.{number-names}
 use Rattle.ir_sound.specs.Typed.{no_phi}
 use Rattle.ir_sound.proofs.RowLaws.{all_at}
 use Rattle.ir_sound.proofs.SameLaws.{not_true, some_is, differ_back}
-use Rattle.ir_context.specs.Registers.{number_of}
 use Rattle.low_core.specs.Flat.{Bytes}
 use Rattle.low_core.specs.Plan.{Plan, Content}
 use Rattle.low_core.specs.Bridge.{Setting}
@@ -33,9 +31,8 @@ use Rattle.isel_rows.specs.Variables.{variables_of, number_or_first}
 use Rattle.isel_rows.specs.Rows.{block_number}
 use Rattle.isel_rows.specs.Functions.{allocas_in}
 use Rattle.isel_rows.specs.Selected.{module_selected}
-use Rattle.isel.proofs.Beside.{allocas_before, IsCallBeside, IsOnTop, setting_of, Meets}
+use Rattle.isel.proofs.Beside.{allocas_before, setting_of, Meets}
 use Rattle.isel.proofs.Here.{IsHere, now}
-use Rattle.isel.proofs.Mentioned.{Found, found}
 use Rattle.isel.proofs.Operands.{IsReady}
 use Rattle.isel.proofs.Places.{take_whole}
 use Rattle.isel.proofs.Premises.{Premises, rules_at, moves_at}

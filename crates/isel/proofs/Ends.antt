@@ -1,5 +1,5 @@
 -- Ends of blocks that lead to blocks, or nowhere: both runs go to the same block, or stop alike.
-use Rattle.std.proofs.Common.{◌≡◌, ℕ, ◌+◌, ◌%◌, ◌<◌, Bool, true, false, List, [], ◌∷◌, length, Option, Some, None, Ok, Err, slice_get, refl, ap, sym, ◌∙◌, subst, inl, inr, arith}
+use Rattle.std.proofs.Common.{◌≡◌, ℕ, ◌+◌, ◌%◌, ◌<◌, Bool, true, false, List, [], ◌∷◌, length, Option, None, Ok, Err, slice_get, refl, ap, sym, ◌∙◌, subst, inl, inr, arith}
 use Rattle.std.specs.Prelude.{◌||◌, not, nat_eq, if◌then◌else◌}
 use Rattle.std.specs.List.{list_any}
 use Rattle.rd_num.specs.declared.width.Width.TheVariants.{W1}
@@ -21,10 +21,10 @@ use Rattle.ir_core.specs.Definitions.{label_names}
 use Rattle.ir_core.specs.Kinds.{kind_of}
 use Rattle.ir_core.specs.Mentions.{OfLabel, of_operand, of_end}
 use Rattle.ir_core.specs.Operands.{value_of}
-use Rattle.ir_core.specs.State.{Frame, State, Turn, turned, source_moment}
+use Rattle.ir_core.specs.State.{Frame, State, turned, source_moment}
 use Rattle.ir_core.specs.Step.{if_true, goes_to, terminator_turn}
 use Rattle.ir_core.specs.Stops.{Stop, Ended, Divide, Trap, Depth, Left, Malformed, Answer, and_then, ending_of}
-use Rattle.ir_core.specs.Typing.{labels_of, operand_fits, term_fits}
+use Rattle.ir_core.specs.Typing.{labels_of, term_fits}
 use Rattle.ir_core.specs.Valid.{LocalKind, env_of, named_locals, is_entry, spares_entry}
 use Rattle.ir_sound.specs.WellTyped.{Each}
 use Rattle.ir_sound.proofs.RowLaws.{all_at, Each_parts}
@@ -45,7 +45,7 @@ use Rattle.isel_rows.specs.Rows.{Closing, closing_of, block_number}
 use Rattle.isel_rows.specs.Selected.{module_selected}
 use Rattle.isel.proofs.Beside.{setting_of, Meets}
 use Rattle.isel.proofs.Edges.{at_block, goes_met}
-use Rattle.isel.proofs.Here.{IsHere, memory, now, EndHere, ends_here, ready}
+use Rattle.isel.proofs.Here.{IsHere, memory, now, ends_here, ready}
 use Rattle.isel.proofs.Mentioned.{IsFine, end_fine}
 use Rattle.isel.proofs.Operands.{IsReady, operand_brings, ready_after}
 use Rattle.isel.proofs.Operations.{has, low_same}
