@@ -23,6 +23,9 @@ pub mod Results
 pub mod Choices
 pub mod Casts
 pub mod Selects
+pub mod Geps
+pub mod Edges
+pub mod Ends
 pub mod Allocas
 pub mod Delivered
 pub mod Arguments
