@@ -40,3 +40,4 @@ pub mod Enters
 pub mod Calls
 pub mod Callers
 pub mod Returns
+pub mod Counted
