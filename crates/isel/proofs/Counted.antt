@@ -45,6 +45,11 @@ load_some W16 r s = omega arith
 load_some W32 r s = omega arith
 load_some W64 r s = omega arith
 
+-- an instruction that isn't a phi
+abbrev pub IsNoPhi : Op → Type 0
+IsNoPhi (Phi ty entries) = ⊥
+IsNoPhi op = Unit {0}
+
 behind_some : (b : AllBrought) (call : List ℕ → SelOp) → 0 < length (behind_args b call)
 behind_some b call = last_some b.ops (call b.registers ∷ []) (omega arith)
 
@@ -80,11 +85,6 @@ module _ (m : Module) (vs : List LocalKind) where
       let first = constant_moved vs from p.constant in
       let others = strides_moved vs first.register p.strides in
       last_some first.ops (others.ops ++ SelOp.Copy r others.register ∷ []) (last_some others.ops (SelOp.Copy r others.register ∷ []) (omega arith))
-
-  -- an instruction that isn't a phi
-  abbrev pub IsNoPhi : Op → Type 0
-  IsNoPhi (Phi ty entries) = ⊥
-  IsNoPhi op = Unit {0}
 
   pub ops_some : (at : ℕ) (into : Option (List ℕ)) (op : Op) → IsNoPhi op → 0 < length (ops_of m vs at into op)
   ops_some at into (Bin op ty a b) none = one_some (operand_brought m vs 0 (kind_of ty) a) _ (λ s. one_some (operand_brought m vs 1 (kind_of ty) b) (λ t. bin_op op (width_of (kind_of ty)) (result_register vs into) s t ∷ []) (λ t. omega arith))

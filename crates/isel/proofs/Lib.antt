@@ -41,3 +41,4 @@ pub mod Calls
 pub mod Callers
 pub mod Returns
 pub mod Counted
+pub mod Steps
