@@ -42,3 +42,4 @@ pub mod Callers
 pub mod Returns
 pub mod Counted
 pub mod Steps
+pub mod Firsts
