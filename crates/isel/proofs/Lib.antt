@@ -43,3 +43,4 @@ pub mod Returns
 pub mod Counted
 pub mod Steps
 pub mod Firsts
+pub mod Begins
