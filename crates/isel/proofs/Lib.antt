@@ -44,3 +44,4 @@ pub mod Counted
 pub mod Steps
 pub mod Firsts
 pub mod Begins
+pub mod Keeps
