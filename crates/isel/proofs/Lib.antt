@@ -45,3 +45,4 @@ pub mod Steps
 pub mod Firsts
 pub mod Begins
 pub mod Keeps
+pub mod Selection
