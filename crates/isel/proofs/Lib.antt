@@ -46,3 +46,6 @@ pub mod Firsts
 pub mod Begins
 pub mod Keeps
 pub mod Selection
+pub mod ShapePaths
+pub mod ShapeWeights
+pub mod ShapeWeighs
