@@ -7,3 +7,5 @@ pub mod Start
 pub mod Loops
 pub mod Fills
 pub mod Copies
+pub mod Lent
+pub mod Memcpy
