@@ -91,14 +91,17 @@ word_again ss p small = bytes_low 8 (le_number (range_at ss p 8)) ∙ bytes_back
 pub byte_again : (ss : List Segment) (p : ℕ) → ((q : ℕ) → p ≤ q → q < p + 1 → byte_at ss q < 256) → le_bytes 1 (le_number (range_at ss p 1) % 2 ^ 8) ≡ range_at ss p 1
 byte_again ss p small = bytes_low 1 (le_number (range_at ss p 1)) ∙ bytes_back (range_at ss p 1) (range_bytes ss 1 p small)
 
--- the first part of what may be copied
+-- the first part of what may be written, or copied
+pub writable_first : (ss : List Segment) (to n m : ℕ) → m ≤ n → Writable ss to n → Writable ss to m
+writable_first ss to n m fits x = record {
+  disjoint = x.disjoint;
+  below = λ some. let b = x.below (omega (arith, some, fits)) in omega (arith, b, fits);
+  allowed = λ p l low high some. x.allowed p l low (omega (arith, high, fits)) some;
+}
+
 pub copyable_first : (ss : List Segment) (to from n m : ℕ) → m ≤ n → Copyable ss to from n → Copyable ss to from m
 copyable_first ss to from n m fits x = record {
-  target = record {
-    disjoint = x.target.disjoint;
-    below = λ some. let b = x.target.below (omega (arith, some, fits)) in omega (arith, b, fits);
-    allowed = λ p l low high some. x.target.allowed p l low (omega (arith, high, fits)) some;
-  };
+  target = writable_first ss to n m fits x.target;
   below = λ some. let b = x.below (omega (arith, some, fits)) in omega (arith, b, fits);
   allowed = λ p l low high some. x.allowed p l low (omega (arith, high, fits)) some;
   bytes = λ q low high. x.bytes q low (omega (arith, high, fits));

@@ -9,3 +9,4 @@ pub mod Fills
 pub mod Copies
 pub mod Lent
 pub mod Memcpy
+pub mod Memset
