@@ -6,4 +6,5 @@
 //! take one, end a run and start one; copies and fills are not shown yet.
 #![tactic(auto)]
 
+pub mod code;
 pub mod law;
