@@ -10,3 +10,4 @@ pub mod Copies
 pub mod Lent
 pub mod Memcpy
 pub mod Memset
+pub mod Writing
