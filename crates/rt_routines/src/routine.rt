@@ -101,3 +101,75 @@ pub fn start(alloc: Global, call: u32, system: u32) -> Result<Func, NoMemory>
     code.put(&Instr::Ud2)?;
     Ok(code.finish(alloc))
 }
+
+/// putchar.
+#[tactic(auto, using(crate::proofs::Writing::row_written))]
+pub fn putchar(alloc: Global, system: u32) -> Result<Func, NoMemory>
+    ensures { IfOk result (λ f. f ≡ function_of (putchar_row system)) }
+{
+    let mut code = Code::new(alloc);
+    code.put(&Instr::Store(Size::W8, SPARE, Reg::Rdi))?;
+    put_ask(&mut code, PRINT)?;
+    code.put_jump(system)?;
+    code.put_row(&[Instr::Load(Size::W8, Reg::Rax, SPARE), Instr::Ret])?;
+    Ok(code.finish(alloc))
+}
+
+/// getchar, whose answer is that of -1 where the kernel has no byte.
+#[tactic(auto, using(crate::proofs::Writing::row_written))]
+pub fn getchar(alloc: Global, system: u32) -> Result<Func, NoMemory>
+    ensures { IfOk result (λ f. f ≡ function_of (getchar_row system)) }
+{
+    let mut code = Code::new(alloc);
+    put_ask(&mut code, TAKE)?;
+    code.put_jump(system)?;
+    code.put_row(&[
+        Instr::AluImm(ImmOp::Cmp, Wide::W32, Reg::Rax, 0),
+        Instr::Load(Size::W8, Reg::Rax, SPARE),
+        Instr::MovImm32(Reg::Rcx, u32::MAX),
+        Instr::Cmov(Cond::E, Reg::Rax, Reg::Rcx),
+        Instr::Ret,
+    ])?;
+    Ok(code.finish(alloc))
+}
+
+/// exit.
+#[tactic(auto, using(crate::proofs::Writing::row_written))]
+pub fn exit(alloc: Global, system: u32) -> Result<Func, NoMemory>
+    ensures { IfOk result (λ f. f ≡ function_of (exit_row system)) }
+{
+    let mut code = Code::new(alloc);
+    code.put(&Instr::MovImm32(Reg::Rax, EXIT))?;
+    code.put_jump(system)?;
+    code.put(&Instr::Ud2)?;
+    Ok(code.finish(alloc))
+}
+
+/// memcpy.
+#[tactic(auto, using(crate::proofs::Writing::row_written))]
+pub fn memcpy(alloc: Global) -> Result<Func, NoMemory>
+    ensures { IfOk result (λ f. f ≡ function_of memcpy_row) }
+{
+    let mut code = Code::new(alloc);
+    put_copy(&mut code, Size::W64, 8)?;
+    put_copy(&mut code, Size::W8, 1)?;
+    code.put(&Instr::Ret)?;
+    Ok(code.finish(alloc))
+}
+
+/// memset.
+#[tactic(auto, using(crate::proofs::Writing::row_written))]
+pub fn memset(alloc: Global) -> Result<Func, NoMemory>
+    ensures { IfOk result (λ f. f ≡ function_of memset_row) }
+{
+    let mut code = Code::new(alloc);
+    code.put_row(&[
+        Instr::Widen(WidenKind::Zero8, Reg::Rax, Reg::Rsi),
+        Instr::MovImm64(Reg::Rcx, EIGHT_ONES),
+        Instr::Imul(Wide::W64, Reg::Rax, Reg::Rcx),
+    ])?;
+    put_fill(&mut code, Size::W64, 8)?;
+    put_fill(&mut code, Size::W8, 1)?;
+    code.put(&Instr::Ret)?;
+    Ok(code.finish(alloc))
+}
