@@ -11,3 +11,4 @@ pub mod Lent
 pub mod Memcpy
 pub mod Memset
 pub mod Writing
+pub mod Sound
