@@ -12,3 +12,4 @@ pub mod Memcpy
 pub mod Memset
 pub mod Writing
 pub mod Sound
+pub mod Sites
