@@ -13,3 +13,4 @@ pub mod Memset
 pub mod Writing
 pub mod Sound
 pub mod Sites
+pub mod Linked
