@@ -14,3 +14,4 @@ pub mod Writing
 pub mod Sound
 pub mod Sites
 pub mod Linked
+pub mod Standing
