@@ -15,3 +15,4 @@ pub mod Sound
 pub mod Sites
 pub mod Linked
 pub mod Standing
+pub mod Planned
