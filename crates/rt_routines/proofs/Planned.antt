@@ -45,10 +45,6 @@ module _ (sel : Sel) (shaped : IsSel sel) (slot_draw : ℕ) (plan : SlotPlan) (p
   pub few_slots : length plan.slots < 2 ^ 20
   few_slots = let same = slots_are in let few = (bounds sel shaped).slots in omega (arith, same, few)
 
-  pub six : length (routines_of plan) ≡ 6
-  unfolding routines_of
-  six = refl
-
   pub are_sound : AreSound (routines_of plan) plan
   unfolding routines_of
   are_sound =
@@ -66,6 +62,11 @@ module _ (sel : Sel) (shaped : IsSel sel) (slot_draw : ℕ) (plan : SlotPlan) (p
   link_once =
       subst (λ (ss : List Slot0). LinkOnce (length plan.pointers) (routine_functions (length ss - 5)) ss) (sym planned.slots)
       (subst (λ n. LinkOnce n (routine_functions (length (slots_of sel) - 5)) (slots_of sel)) (sym pointers_are) (linked_once sel))
+
+-- there are six
+pub six : (plan : SlotPlan) → length (routines_of plan) ≡ 6
+unfolding routines_of
+six plan = refl
 
 -- each link ends in range
 pub links_end : (plan : SlotPlan) → Each (λ (f : Func). Each (λ (l : Link). l.at + 4 < 2 ^ 32) f.links) (routines_of plan)
