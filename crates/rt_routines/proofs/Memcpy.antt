@@ -1,5 +1,5 @@
 -- memcpy copies exactly so many bytes, eight at once and the rest one by one.
-use Rattle.std.proofs.Common.{◌≡◌, ℕ, ◌+◌, ◌-◌, ◌*◌, ◌/◌, ◌<◌, ◌≤◌, ◌⊎◌, ◌^◌, ◌%◌, List, [], ◌∷◌, ◌++◌, length, None, refl, sym, ◌∙◌, ap, inl, inr, arith, lit≤}
+use Rattle.std.proofs.Common.{◌≡◌, ℕ, ◌+◌, ◌-◌, ◌*◌, ◌/◌, ◌<◌, ◌≤◌, ◌⊎◌, ◌^◌, ◌%◌, List, [], ◌∷◌, ◌++◌, None, refl, sym, ◌∙◌, ap, inl, inr, arith, lit≤}
 use Rattle.std.proofs.lemmas.Bool.{cases_lt}
 use Rattle.behavior.specs.Simulation.{Comes}
 use Rattle.behavior.proofs.Stretch.{comes_one, comes_join, comes_wider}
@@ -146,5 +146,5 @@ module _ (o : Object) (n : ℕ) (is : IsFunction o n memcpy_row) where
   pub is_memcpy : IsMemcpy o n
   is_memcpy c out back called may =
       by_name (λ d. IsCalled o d back → (1 ≤ word d.regs Rdx → MayCopy d (word d.regs Rdi) (word d.regs Rsi) (word d.regs Rdx)) →
-        ComesBack o n (range_steps (word d.regs Rdx)) d out out back None (word d.regs Rdi) (range_at d.segments (word d.regs Rsi) (word d.regs Rdx)))
+      ComesBack o n (range_steps (word d.regs Rdx)) d out out back None (word d.regs Rdi) (range_at d.segments (word d.regs Rsi) (word d.regs Rdx)))
       (λ w u f ss h m. done w u f ss out back h m) c called.long called may

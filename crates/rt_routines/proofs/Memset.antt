@@ -199,5 +199,5 @@ module _ (o : Object) (n : ℕ) (is : IsFunction o n memset_row) where
   pub is_memset : IsMemset o n
   is_memset c out back called lent =
       by_name (λ d. IsCalled o d back → (1 ≤ word d.regs Rdx → IsLent writes d (word d.regs Rdi) (word d.regs Rdx)) →
-        ComesBack o n (range_steps (word d.regs Rdx)) d out out back None (word d.regs Rdi) (replicate (word d.regs Rdx) (word d.regs Rsi % 256)))
+      ComesBack o n (range_steps (word d.regs Rdx)) d out out back None (word d.regs Rdi) (replicate (word d.regs Rdx) (word d.regs Rsi % 256)))
       (λ w u f ss h m. done w u f ss out back h m) c called.long called lent

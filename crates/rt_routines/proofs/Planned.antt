@@ -23,13 +23,13 @@ pointers_long positions k (false ∷ ts) = ap suc (pointers_long positions k ts)
 
 -- where there are six slots or more, the routines of the last five are sound
 each_sound : (count : ℕ) → 6 ≤ count → count < 2 ^ 32 → Each (IsSoundFunction count) (routine_functions (count - 5))
-each_sound count some few = (
-    start_sound count few (count - 5) (count - 5 + 1) (omega (arith, some)) (omega (arith, some)),
-    (putchar_sound count few (count - 5 + 2) (omega (arith, some)),
-    (getchar_sound count few (count - 5 + 3) (omega (arith, some)),
-    (exit_sound count few (count - 5 + 4) (omega (arith, some)),
-    (memcpy_sound count few, (memset_sound count few, tt))))),
-  )
+each_sound count some few =
+    let first : ℕ = count - 5 in
+    let start = start_sound count few first (first + 1) (omega (arith, some)) (omega (arith, some)) in
+    let putchar = putchar_sound count few (first + 2) (omega (arith, some)) in
+    let getchar = getchar_sound count few (first + 3) (omega (arith, some)) in
+    let exit = exit_sound count few (first + 4) (omega (arith, some)) in
+    (start, (putchar, (getchar, (exit, (memcpy_sound count few, (memset_sound count few, tt))))))
 
 module _ (sel : Sel) (shaped : IsSel sel) (slot_draw : ℕ) (plan : SlotPlan) (planned : IsPlan sel slot_draw plan) where
   -- a pointer for each function

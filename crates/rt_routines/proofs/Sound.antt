@@ -1,16 +1,22 @@
 -- Each routine keeps the rules of objects by itself.
-use Rattle.std.proofs.Common.{◌≡◌, ℕ, ◌+◌, ◌-◌, ◌<◌, ◌≤◌, ◌^◌, Bool, true, ◌&&◌, nat_lt, List, [], ◌∷◌, ◌++◌, length, Option, Some, None, refl, arith, lit≤}
+use Rattle.std.proofs.Common.{◌≡◌, ℕ, ◌+◌, ◌<◌, ◌≤◌, ◌^◌, Bool, true, ◌&&◌, nat_lt, List, [], ◌∷◌, ◌++◌, length, Option, Some, None, refl, arith, lit≤}
 use Rattle.std.proofs.lemmas.Bool.{and_parts, ltb-true}
+use Rattle.x86_core.specs.declared.reg.Reg.TheVariants.{Rax, Rcx, Rsi}
+use Rattle.x86_core.specs.declared.instr.Wide.{Wide}
+use Rattle.x86_core.specs.declared.instr.Size.{Size}
+use Rattle.x86_core.specs.declared.instr.WidenKind.{WidenKind}
 use Rattle.x86_core.specs.declared.instr.Instr.{Instr}
+use Rattle.x86_core.specs.declared.instr.Instr.TheVariants.{MovImm64, Imul, Widen, Ret}
+use Rattle.x86_core.specs.Encoding.{IsInstr}
 use Rattle.obj_core.specs.declared.object.Link.{Link}
 use Rattle.obj_core.specs.Object.{Each, IsByte, IsLink}
 use Rattle.obj_core.specs.Disassembly.{found, starts_at, size_of, spelled}
 use Rattle.obj_core.specs.WellFormed.{bad_branches, forbidden_in, open_end}
-use Rattle.obj_rows.specs.Marked.{Marked, instrs_of, row_size, link_ending, links_from, IsRow, IsSlotBelow, MarksBelow}
+use Rattle.obj_rows.specs.Marked.{Marked, all_unlinked, instrs_of, row_size, link_ending, links_from, IsRow, IsSlotBelow, MarksBelow}
 use Rattle.obj_rows.specs.Sound.{IsSoundFunction}
 use Rattle.obj_rows.proofs.Rows.{spelled_size}
 use Rattle.obj_rows.proofs.Rules.{row_disassembles, links_are_good}
-use Rattle.rt_routines.specs.Code.{start_row, putchar_row, getchar_row, exit_row, memcpy_row, memset_row, function_of}
+use Rattle.rt_routines.specs.Code.{start_row, putchar_row, getchar_row, exit_row, copy_loop, memcpy_row, eight_ones, fill_loop, memset_row, function_of}
 
 -- bytes are small
 abbrev are_small : List ℕ → Bool
@@ -81,16 +87,34 @@ getchar_spelled system =
 pub exit_spelled : (system : ℕ) → IsRow (exit_row system)
 exit_spelled system = ((lit≤ tt, tt), ((lit≤ tt, refl), ((tt, tt), tt)))
 
+-- without links
+unlinked_spelled : (is : List Instr) → Each IsInstr is → IsRow (all_unlinked is)
+unlinked_spelled [] h = tt
+unlinked_spelled (i ∷ is) h = ((h.0, tt), unlinked_spelled is h.1)
+
+each_append : (xs ys : List Instr) → Each IsInstr xs → Each IsInstr ys → Each IsInstr (xs ++ ys)
+each_append [] ys h k = k
+each_append (x ∷ xs) ys h k = (h.0, each_append xs ys h.1 k)
+
+copy_spelled : (size : Size) (bytes : ℕ) → bytes < 2 ^ 31 → Each IsInstr (copy_loop size bytes)
+copy_spelled size bytes small = (small, (lit≤ tt, (lit≤ tt, (lit≤ tt, (small, (small, (small, (lit≤ tt, tt))))))))
+
+fill_spelled : (size : Size) (bytes : ℕ) → bytes < 2 ^ 31 → Each IsInstr (fill_loop size bytes)
+fill_spelled size bytes small = (small, (lit≤ tt, (lit≤ tt, (small, (small, (lit≤ tt, tt))))))
+
 pub memcpy_spelled : IsRow memcpy_row
 memcpy_spelled =
-    ((lit≤ tt, tt), ((lit≤ tt, tt), ((lit≤ tt, tt), ((lit≤ tt, tt), ((lit≤ tt, tt), ((lit≤ tt, tt), ((lit≤ tt, tt), ((lit≤ tt, tt),
-    ((lit≤ tt, tt), ((lit≤ tt, tt), ((lit≤ tt, tt), ((lit≤ tt, tt), ((lit≤ tt, tt), ((lit≤ tt, tt), ((lit≤ tt, tt), ((lit≤ tt, tt), ((tt, tt), tt)))))))))))))))))
+    unlinked_spelled (copy_loop Size.W64 8 ++ (copy_loop Size.W8 1 ++ Ret ∷ []))
+    (each_append (copy_loop Size.W64 8) (copy_loop Size.W8 1 ++ Ret ∷ []) (copy_spelled Size.W64 8 (lit≤ tt))
+    (each_append (copy_loop Size.W8 1) (Ret ∷ []) (copy_spelled Size.W8 1 (lit≤ tt)) (tt, tt)))
 
 pub memset_spelled : IsRow memset_row
 memset_spelled =
-    ((tt, tt), ((lit≤ tt, tt), ((tt, tt),
-    ((lit≤ tt, tt), ((lit≤ tt, tt), ((lit≤ tt, tt), ((lit≤ tt, tt), ((lit≤ tt, tt), ((lit≤ tt, tt),
-    ((lit≤ tt, tt), ((lit≤ tt, tt), ((lit≤ tt, tt), ((lit≤ tt, tt), ((lit≤ tt, tt), ((lit≤ tt, tt), ((tt, tt), tt))))))))))))))))
+    let front = Widen WidenKind.Zero8 Rax Rsi ∷ MovImm64 Rcx eight_ones ∷ Imul Wide.W64 Rax Rcx ∷ [] in
+    unlinked_spelled (front ++ (fill_loop Size.W64 8 ++ (fill_loop Size.W8 1 ++ Ret ∷ [])))
+    (each_append front (fill_loop Size.W64 8 ++ (fill_loop Size.W8 1 ++ Ret ∷ [])) (tt, (lit≤ tt, (tt, tt)))
+    (each_append (fill_loop Size.W64 8) (fill_loop Size.W8 1 ++ Ret ∷ []) (fill_spelled Size.W64 8 (lit≤ tt))
+    (each_append (fill_loop Size.W8 1) (Ret ∷ []) (fill_spelled Size.W8 1 (lit≤ tt)) (tt, tt))))
 
 -- what computes of them
 start_keeps : (call system : ℕ) → Keeps (start_row call system)

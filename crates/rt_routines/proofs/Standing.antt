@@ -18,7 +18,7 @@ use Rattle.obj_rows.specs.Routines.{AreRoutines}
 use Rattle.slot_plan.specs.Slots.{routine_slots, slots_of, IsPlan}
 use Rattle.slot_plan.proofs.Bounds.{bounds}
 use Rattle.slot_plan.proofs.Places.{behind}
-use Rattle.rt_routines.specs.Code.{start_row, putchar_row, getchar_row, exit_row, memcpy_row, memset_row, function_of, routine_functions, routines_of}
+use Rattle.rt_routines.specs.Code.{start_row, function_of, routine_functions, routines_of}
 use Rattle.rt_routines.proofs.Sites.{own_there}
 use Rattle.rt_routines.proofs.Linked.{call_end, last_end, putchar_end, getchar_end, exit_end}
 use Rattle.rt_routines.proofs.Sound.{start_spelled, putchar_spelled, getchar_spelled, exit_spelled, memcpy_spelled, memset_spelled}
@@ -49,7 +49,8 @@ only_last (x ∷ []) e back same = absurd cc
 only_last (x ∷ y ∷ xs) e back same = absurd cc
 
 -- a planned slot is a slot of the object
-slots_at : (fs : List Func) (first : ℕ) (planned : List Slot0) (slots : List Slot) (k : ℕ) (s : Slot0) → AreSlotsOf fs first planned slots → slice_get planned k ≡ Some s → (t : Slot) × (slice_get slots k ≡ Some t) × IsSlotOf fs (first + k) s t
+slots_at : (fs : List Func) (first : ℕ) (planned : List Slot0) (slots : List Slot) (k : ℕ) (s : Slot0) → AreSlotsOf fs first planned slots → slice_get planned k ≡ Some s →
+    (t : Slot) × (slice_get slots k ≡ Some t) × IsSlotOf fs (first + k) s t
 slots_at fs first [] slots k s are there = absurd cc
 slots_at fs first (p ∷ ps) [] k s are there = absurd are
 slots_at fs first (p ∷ ps) (t ∷ ts) zero s are there =
@@ -107,11 +108,12 @@ module _ (sel : Sel) (shaped : IsSel sel) (slot_draw : ℕ) (plan : SlotPlan) (p
   back_is k e back own ends =
       let number : 0 + length program ≡ count = let l = program_long in omega (arith, l) in
       let parts : ends_from k 0 o.functions ≡ ends_from k 0 program ++ e ∷ [] =
-          ap (λ (fs : List Func). ends_from k 0 fs) functions_are ∙ ends_append k 0 program (routine_functions first) ∙ ap (λ n. ends_from k 0 program ++ ends_from k n (routine_functions first)) number
-          ∙ ap (λ (es : List CodeAt). ends_from k 0 program ++ es) own in
+      ap (λ (fs : List Func). ends_from k 0 fs) functions_are ∙ ends_append k 0 program (routine_functions first) ∙ ap (λ n. ends_from k 0 program ++ ends_from k n (routine_functions first)) number
+      ∙ ap (λ (es : List CodeAt). ends_from k 0 program ++ es) own in
       only_last (ends_from k 0 program) e back (sym parts ∙ ends)
 
-  system_there : (j : ℕ) (site : Site) (e : CodeAt) → slice_get (routine_slots count sel.main) j ≡ Some (Slot0.System site) → ends_from (first + j) count (routine_functions first) ≡ e ∷ [] → slice_get o.slots (first + j) ≡ Some (Slot.System e)
+  system_there : (j : ℕ) (site : Site) (e : CodeAt) → slice_get (routine_slots count sel.main) j ≡ Some (Slot0.System site) → ends_from (first + j) count (routine_functions first) ≡ e ∷ [] →
+      slice_get o.slots (first + j) ≡ Some (Slot.System e)
   system_there j site e at own = let r = planned_slot (first + j) (Slot0.System site) (own_there sel j ∙ at) in by r.0 r.1 r.2
     where
       by : (t : Slot) → slice_get o.slots (first + j) ≡ Some t → IsSlotOf o.functions (first + j) (Slot0.System site) t → slice_get o.slots (first + j) ≡ Some (Slot.System e)

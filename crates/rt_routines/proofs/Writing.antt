@@ -1,5 +1,5 @@
 -- Code that is written is the row that was written.
-use Rattle.std.proofs.Common.{◌≡◌, ℕ, ◌+◌, List, [], ◌∷◌, ◌++◌, length, refl, ap, sym, ◌∙◌, append_assoc, length-append, arith}
+use Rattle.std.proofs.Common.{◌≡◌, ℕ, ◌+◌, List, [], ◌∷◌, ◌++◌, length, ap, sym, ◌∙◌, append_assoc, length-append}
 use Rattle.std.proofs.lemmas.List.{append-nil}
 use Rattle.x86_core.specs.Encoding.{encoding}
 use Rattle.obj_core.specs.declared.object.Link.{Link}
@@ -24,9 +24,9 @@ row_behind (x ∷ xs) c =
     let long : length (c.bytes ++ one) ≡ length c.bytes + size_of x.instr = length-append c.bytes one in
     row_behind xs (with_one x c)
     ∙ same_code (c.bytes ++ one ++ spelled (instrs_of xs)) (c.bytes ++ (one ++ spelled (instrs_of xs)))
-      (c.links ++ links ++ links_from (length (c.bytes ++ one)) xs) (c.links ++ (links ++ links_from (length c.bytes + size_of x.instr) xs))
-      (append_assoc c.bytes one (spelled (instrs_of xs)))
-      (ap (λ k. c.links ++ links ++ links_from k xs) long ∙ append_assoc c.links links (links_from (length c.bytes + size_of x.instr) xs))
+    (c.links ++ links ++ links_from (length (c.bytes ++ one)) xs) (c.links ++ (links ++ links_from (length c.bytes + size_of x.instr) xs))
+    (append_assoc c.bytes one (spelled (instrs_of xs)))
+    (ap (λ k. c.links ++ links ++ links_from k xs) long ∙ append_assoc c.links links (links_from (length c.bytes + size_of x.instr) xs))
 
 -- a row that is written from the start on
 pub row_written : (row : List Marked) → function_with (with_row row empty_code) ≡ function_of row

@@ -1,4 +1,4 @@
-//! What routines do in any object in which they stand, with their slots, and what those of a plan keep.
+//! What routines do in any object in which they stand, and what those of a plan keep.
 
 ghost use Rattle.std.specs.Prelude.{◌≡◌, ◌+◌, ◌<◌, ◌≤◌, ◌^◌, ℕ, List, length, slice_get, Some};
 ghost use Rattle.ir_core.specs.declared.TheConstants.{MAX_CALLS};

@@ -1,9 +1,11 @@
 //! The routines that stand behind the functions of every object: what four of them do, as laws without code.
 //!
-//! `specs/Code` has the rows of all six, `specs/Routines` what each has to do, with a bound on its
-//! steps, `specs/Assembled` how an object is put together of functions, routines, slots and data, and
-//! `specs/Sound` what routines must keep by themselves. `proofs/` shows it of those that print a byte,
-//! take one, end a run and start one; copies and fills are not shown yet.
+//! `specs/Code` has the rows of all six, and `routines` writes them, exactly these, for a plan of
+//! slots, of which the last five are theirs. `law` says of each row what it does wherever it stands,
+//! in the words of `obj_rows`, with a bound on its steps; of the six of a plan, that they keep the
+//! rules of objects by themselves and are linked once to each slot of theirs; and of each object
+//! that is put together with them, that they do what they should in it. Offsets count bytes from
+//! a routine's start.
 #![tactic(auto)]
 
 ghost use Rattle.std.specs.Prelude.{◌≡◌, ◌<◌, ◌≤◌, ◌^◌, IfOk, length};

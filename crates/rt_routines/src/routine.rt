@@ -1,7 +1,7 @@
 //! The six routines, each as a function of an object.
 //!
-//! Rows stand in the order of `specs/Code`, and their displacements as they are there. A routine is
-//! told the slots that it uses by their numbers.
+//! Rows stand in the order of `specs/Code`, with the displacements that they have there. A routine
+//! is told the slots that it uses by their numbers.
 
 ghost use Rattle.std.specs.Prelude.{◌≡◌, ◌<◌, ◌^◌, IfOk, OnOk, length, pos, negsuc};
 ghost use Rattle.obj_rows.specs.Marked.{all_unlinked};
@@ -16,9 +16,13 @@ use std::alloc::Global;
 use x86_core::instr::{Cond, ImmOp, Instr, Mem, Size, Wide, WidenKind};
 use x86_core::reg::Reg;
 
-/// What the kernel is asked for in rax.
+/// What the kernel is asked for in rax: a byte is taken.
 const TAKE: u32 = 0;
+
+/// Bytes are printed.
 const PRINT: u32 = 1;
+
+/// The run ends.
 const EXIT: u32 = 60;
 
 /// The first of the eight bytes below the stack.
