@@ -29,3 +29,4 @@ pub mod Facts
 pub mod PlainStep
 pub mod Leaving
 pub mod Arguments
+pub mod Passing
