@@ -30,3 +30,5 @@ pub mod PlainStep
 pub mod Leaving
 pub mod Arguments
 pub mod Passing
+pub mod Bound
+pub mod Receiving
