@@ -32,3 +32,5 @@ pub mod Arguments
 pub mod Passing
 pub mod Bound
 pub mod Receiving
+pub mod Taking
+pub mod Counts
