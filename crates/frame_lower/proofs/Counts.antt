@@ -1,5 +1,5 @@
 -- How many instructions the rows of calls have.
-use Rattle.std.proofs.Common.{◌≡◌, ℕ, zero, suc, ◌+◌, ◌*◌, ◌≤◌, List, [], ◌∷◌, ◌++◌, drop, length, Option, Some, None, refl, ap, arith, length-append}
+use Rattle.std.proofs.Common.{◌≡◌, ℕ, suc, ◌+◌, ◌*◌, ◌≤◌, List, [], ◌∷◌, drop, length, Option, Some, None, refl, ap, arith, length-append}
 use Rattle.x86_core.specs.declared.reg.Reg.{Reg}
 use Rattle.x86_core.specs.declared.instr.Instr.TheVariants.{Pop}
 use Rattle.obj_core.specs.Saved.{saved_register}

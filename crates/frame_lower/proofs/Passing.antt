@@ -1,5 +1,5 @@
 -- The arguments of a call: those past the sixth go to the lowest words of the frame, the first six to their registers.
-use Rattle.std.proofs.Common.{◌≡◌, ◌≢◌, ℕ, zero, suc, ◌+◌, ◌*◌, ◌%◌, ◌^◌, ◌<◌, ◌≤◌, true, List, [], ◌∷◌, ◌++◌, drop, length, Option, Ok, inl, inr, ◌⊎◌, refl, sym, ◌∙◌, ap, subst, arith, append_assoc, lit≤}
+use Rattle.std.proofs.Common.{◌≡◌, ℕ, zero, suc, ◌+◌, ◌*◌, ◌%◌, ◌^◌, ◌<◌, ◌≤◌, List, [], ◌∷◌, ◌++◌, drop, length, Option, Ok, inl, inr, ◌⊎◌, refl, ◌∙◌, ap, subst, arith, append_assoc, lit≤}
 use Rattle.std.specs.Prelude.{pos}
 use Rattle.std.proofs.lemmas.Bool.{cases_lt}
 use Rattle.rd_num.specs.Number.{le_bytes}
@@ -9,7 +9,6 @@ use Rattle.x86_core.specs.declared.reg.Reg.TheVariants.{Rax, R11}
 use Rattle.x86_core.specs.declared.image.Segment.{Segment}
 use Rattle.x86_core.specs.declared.instr.Size.{Size}
 use Rattle.x86_core.specs.declared.instr.Instr.{Instr}
-use Rattle.x86_core.specs.Registers.{word}
 use Rattle.x86_core.specs.Arithmetic.{moved}
 use Rattle.x86_rows.specs.Addresses.{byte_at, range_at, SameShape}
 use Rattle.x86_rows.specs.Straight.{Through, ran, exec}
@@ -25,13 +24,13 @@ use Rattle.frame_rows.specs.declared.spot.Spot.{Spot}
 use Rattle.frame_rows.specs.declared.spot.Spot.TheVariants.{Own, Frame}
 use Rattle.frame_rows.specs.Code.{frame_word, home_read, home_write}
 use Rattle.frame_rows.specs.Ties.{Differ, Keeps, Room, Tied}
-use Rattle.frame_rows.specs.Words.{Words, held_in, with_held, core_of}
-use Rattle.frame_rows.proofs.Registers.{Same, word_held, scratch_written}
+use Rattle.frame_rows.specs.Words.{Words, with_held, core_of}
+use Rattle.frame_rows.proofs.Registers.{Same, scratch_written}
 use Rattle.frame_rows.proofs.Homes.{room_same}
 use Rattle.frame_rows.proofs.Kept.{contains_same, tied_same}
 use Rattle.frame_rows.proofs.Results.{reads_one}
 use Rattle.frame_lower.specs.Calls.{argument_registers, into_registers, into_words, pass_row}
-use Rattle.frame_lower.proofs.Arguments.{HaveWords, have_drop, have_long, AreHeld, StandAt, AreScratch, arguments_scratch, filled, same_refl, same_trans, filled_same, filled_held, SixSame, six_held}
+use Rattle.frame_lower.proofs.Arguments.{HaveWords, have_drop, AreHeld, StandAt, AreScratch, arguments_scratch, filled, same_refl, same_trans, filled_same, filled_held, six_held}
 
 -- after a write of rax to a word of the frame
 record PutWord (base : ℕ) (k : ℕ) (w : Words) (f : Flags) (ss : List Segment) (n : ℕ) : Type 0 where

@@ -1,5 +1,5 @@
 -- The parameters of a function come home: the first six from registers, the others from the caller's lowest words.
-use Rattle.std.proofs.Common.{◌≡◌, ℕ, zero, suc, ◌+◌, ◌*◌, ◌%◌, ◌^◌, ◌<◌, ◌≤◌, true, List, [], ◌∷◌, ◌++◌, drop, length, Option, None, Ok, inl, inr, ◌⊎◌, refl, sym, ◌∙◌, ap, subst, arith, append_assoc, lit≤, replicate}
+use Rattle.std.proofs.Common.{◌≡◌, ℕ, zero, suc, ◌+◌, ◌*◌, ◌^◌, ◌<◌, ◌≤◌, List, [], ◌∷◌, ◌++◌, drop, length, None, inl, inr, ◌⊎◌, refl, ◌∙◌, ap, subst, arith, append_assoc, lit≤, replicate}
 use Rattle.std.specs.Prelude.{pos}
 use Rattle.rd_num.specs.Number.{le_bytes, le_number}
 use Rattle.x86_core.specs.declared.flags.Flags.{Flags}
@@ -32,7 +32,7 @@ use Rattle.frame_rows.proofs.Kept.{keeps_same, contains_same}
 use Rattle.frame_lower.specs.Calls.{argument_registers, from_registers, from_words, receive_row}
 use Rattle.frame_lower.specs.Frames.{kept_bytes}
 use Rattle.frame_lower.proofs.Arguments.{AreSmall, small_drop, AreHeld, held_same, StandAt, stand_same, AreScratch, arguments_scratch}
-use Rattle.frame_lower.proofs.Bound.{none_set, firsts, first_one, HomesApart, apart_firsts, apart_behind, apart_between, AreHome, home_stays, home_joined, bound_home, bound_small}
+use Rattle.frame_lower.proofs.Bound.{none_set, firsts, HomesApart, apart_firsts, apart_behind, apart_between, AreHome, home_stays, home_joined, bound_home, bound_small}
 
 -- a word above rsp
 abbrev above : ℕ → Mem

@@ -1,5 +1,5 @@
 -- The result of a call goes to its home, where it is wanted.
-use Rattle.std.proofs.Common.{◌≡◌, ◌≢◌, ℕ, ◌^◌, ◌<◌, List, [], ◌∷◌, Option, Some, None, refl, sym}
+use Rattle.std.proofs.Common.{◌≡◌, ◌≢◌, ℕ, ◌^◌, ◌<◌, List, [], Option, Some, None, refl, sym}
 use Rattle.x86_core.specs.declared.flags.Flags.{Flags}
 use Rattle.x86_core.specs.declared.reg.Reg.TheVariants.{Rax}
 use Rattle.x86_core.specs.declared.image.Segment.{Segment}
