@@ -22,3 +22,5 @@ pub mod Stage
 pub mod Rests
 pub mod Facts
 pub mod PlainStep
+pub mod Bits
+pub mod Branching
