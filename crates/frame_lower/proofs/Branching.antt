@@ -112,31 +112,31 @@ module _ (o : Object) (sel : Sel) (plan : Plan) (contents : List Content) (by : 
   module _ (f : SelFrame) (callers : List SelFrame) (bytes : Bytes) (printed : List ℕ) (taken depth : ℕ) (w : Words) (fl : Flags) (ss : List Segment) (off : ℕ) (b : SelBlock)
       (is_function : slice_get sel.functions f.function ≡ Some (function_in sel f.function)) (is_block : slice_get (function_in sel f.function).blocks f.block ≡ Some b)
       (stands : Stands (code_in sel by f.function) off (rest_in sel by f.function off f.block f.next b)) (whole : Tells f depth callers (live f.function f.block f.next) bytes w ss) (none : slice_get b.ops f.next ≡ None) where
-    abbrev s : SelState
+    abbrev pub s : SelState
     s = state_of f callers bytes printed taken
 
-    abbrev out : Outside
+    abbrev pub out : Outside
     out = record { left = drop taken input; printed = printed; taken = taken }
 
-    abbrev at : ℕ → Words → Flags → State Place
+    abbrev pub at : ℕ → Words → Flags → State Place
     at p v fl2 = standing out (Place.Code f.function p) (core_of v fl2 ss)
 
-    abbrev t : State Place
+    abbrev pub t : State Place
     t = at off w fl
 
-    abbrev Turned_ : Answer SelTurn → Type 0
+    abbrev pub Turned_ : Answer SelTurn → Type 0
     Turned_ = Turned o sel plan contents by live suits input f callers bytes printed taken depth w fl ss off b is_function is_block stands whole
 
-    abbrev row : List Marked
+    abbrev pub row : List Marked
     row = code_in sel by f.function
 
-    abbrev start : ℕ → ℕ
+    abbrev pub start : ℕ → ℕ
     start = starts_in sel by f.function
 
-    end_here : (e : SelEnd) → b.end ≡ e → Stands row off (end_row (by f.function) start off e)
+    pub end_here : (e : SelEnd) → b.end ≡ e → Stands row off (end_row (by f.function) start off e)
     end_here e is = subst (λ x. Stands row off (end_row (by f.function) start off x)) is (end_stands sel by f.function f.block f.next b row off stands none)
 
-    low : (p : ℕ) (part : List Marked) → Stands row p part → p + row_size part < 2 ^ 31
+    pub low : (p : ℕ) (part : List Marked) → Stands row p part → p + row_size part < 2 ^ 31
     low p part h = let m = within row p part h in let short = suits.short f.function _ is_function in omega (arith, m, short)
 
     target_of : (d : ℕ) → IsOneOf d (leads_to b.end) → (c : SelBlock) × (slice_get (function_in sel f.function).blocks d ≡ Some c)
@@ -144,14 +144,14 @@ module _ (o : Object) (sel : Sel) (plan : Plan) (contents : List Content) (by : 
         let below = one_of (λ n. n < length (function_in sel f.function).blocks) (leads_to b.end) d (block_shaped o sel plan contents by live suits f.function f.block _ b is_function is_block).targets leads in
         (get_or (function_in sel f.function).blocks d b, slice_get-get_or (function_in sel f.function).blocks d b below)
 
-    low_start : (d : ℕ) → IsOneOf d (leads_to b.end) → start d < 2 ^ 31
+    pub low_start : (d : ℕ) → IsOneOf d (leads_to b.end) → start d < 2 ^ 31
     low_start d goes =
         let c = target_of d goes in
         let m = low (start d) (rest_in sel by f.function (start d) d 0 c.0) (block_stands sel by f.function d c.0 c.1) in
         omega (arith, m)
 
     -- to the start of a block, with other scratch registers
-    arrives : (d : ℕ) (v : Words) (fl2 : Flags) → IsOneOf d (leads_to b.end) → Same w v → Stage_ (sel_turned s (to_block s f callers d)) (at (start d) v fl2)
+    pub arrives : (d : ℕ) (v : Words) (fl2 : Flags) → IsOneOf d (leads_to b.end) → Same w v → Stage_ (sel_turned s (to_block s f callers d)) (at (start d) v fl2)
     arrives d v fl2 goes same =
         let c = target_of d goes in
         record {
@@ -175,11 +175,11 @@ module _ (o : Object) (sel : Sel) (plan : Plan) (contents : List Content) (by : 
         }
 
     -- a jump in the function
-    jumps_to : (p to : ℕ) (v : Words) (fl2 : Flags) → to < 2 ^ 31 → p + 5 < 2 ^ 31 → Stands row p (unlinked (Jmp (between (p + 5) to)) ∷ []) → step (at p v fl2) ≡ at to v fl2
+    pub jumps_to : (p to : ℕ) (v : Words) (fl2 : Flags) → to < 2 ^ 31 → p + 5 < 2 ^ 31 → Stands row p (unlinked (Jmp (between (p + 5) to)) ∷ []) → step (at p v fl2) ≡ at to v fl2
     jumps_to p to v fl2 a z h =
         jumps o f.function row (suits.codes f.function _ is_function) out p (core_of v fl2 ss) None (between (p + 5) to) h ∙ ap (λ q. at q v fl2) (leads (p + 5) to z a)
 
-    go_step : (d : ℕ) → b.end ≡ end.Go d → Turned_ (to_block s f callers d)
+    pub go_step : (d : ℕ) → b.end ≡ end.Go d → Turned_ (to_block s f callers d)
     go_step d is =
         let to : IsOneOf d (leads_to b.end) = subst (λ x. IsOneOf d (leads_to x)) (sym is) (inl refl) in
         let here : off + 0 ≡ off = omega arith in
@@ -190,7 +190,7 @@ module _ (o : Object) (sel : Sel) (plan : Plan) (contents : List Content) (by : 
         (comes_wider step 1 1 1 most_steps t u (omega arith) (omega arith) (comes_one step t u (jumps_to off (start d) w fl (low_start d to) (omega (arith, near)) h)))
         (inl (arrives d w fl to (record { rbx = refl; rbp = refl; rsp = refl; r12 = refl; r13 = refl; r14 = refl; r15 = refl }))))
 
-    trap_step : b.end ≡ end.Trap → Turned_ (Err stop.Trap)
+    pub trap_step : b.end ≡ end.Trap → Turned_ (Err stop.Trap)
     trap_step is =
         let stops : exec (Ud2 ∷ []) (core_of w fl ss) ≡ Stopped ending.Invalid = ap (λ r. and_on r (exec [])) (ud2 (core_of w fl ss)) in
         stops_at o sel plan contents by live suits input f callers bytes printed taken depth w fl ss off b is_function is_block stands whole (Ud2 ∷ []) [] stop.Trap ending.Invalid (end_here end.Trap is) stops (omega arith) (omega arith) refl refl

@@ -24,3 +24,4 @@ pub mod Facts
 pub mod PlainStep
 pub mod Bits
 pub mod Branching
+pub mod ChoiceStep
