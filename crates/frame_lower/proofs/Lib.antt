@@ -7,6 +7,11 @@ pub mod Written
 pub mod Functions
 pub mod Greatest
 pub mod FrameLaws
+pub mod Counting
+pub mod Sixteen
+pub mod Order
+pub mod Entering
+pub mod Saved
 pub mod Marks
 pub mod Programs
 pub mod Once
@@ -16,6 +21,15 @@ pub mod LinkedOnce
 pub mod Tame
 pub mod Displacements
 pub mod Ranged
+pub mod Avoided
+pub mod Branches
+pub mod Closed
+pub mod Keeping
+pub mod Targets
+pub mod RowKeeps
+pub mod Chosen
+pub mod Totals
+pub mod WellFormed
 pub mod Bodies
 pub mod Chains
 pub mod Stage
@@ -25,3 +39,7 @@ pub mod PlainStep
 pub mod Bits
 pub mod Branching
 pub mod ChoiceStep
+pub mod Leaving
+pub mod Arguments
+pub mod Suited
+pub mod Suiting
