@@ -43,3 +43,4 @@ pub mod Leaving
 pub mod Arguments
 pub mod Suited
 pub mod Suiting
+pub mod Passing
