@@ -44,3 +44,4 @@ pub mod Arguments
 pub mod Suited
 pub mod Suiting
 pub mod Passing
+pub mod OwnMemory
