@@ -45,3 +45,4 @@ pub mod Suited
 pub mod Suiting
 pub mod Passing
 pub mod OwnMemory
+pub mod Returning
