@@ -1,5 +1,5 @@
 -- The functions of a program one after another: each is within the limits, and so is the number of their calls.
-use Rattle.std.proofs.Common.{◌≡◌, ℕ, zero, suc, ◌+◌, ◌*◌, ◌<◌, ◌≤◌, ◌^◌, Bool, true, false, List, [], ◌∷◌, ◌++◌, length, map, get_or, drop, Some, slice_get, refl, ap, sym, subst, ◌∙◌, arith, append_assoc}
+use Rattle.std.proofs.Common.{◌≡◌, ℕ, zero, suc, ◌+◌, ◌-◌, ◌*◌, ◌<◌, ◌≤◌, ◌^◌, Bool, true, false, List, [], ◌∷◌, ◌++◌, length, map, min, take, get_or, drop, Some, slice_get, refl, ap, sym, subst, ◌∙◌, arith, append_assoc}
 use Rattle.std.specs.List.{All, sum_by}
 use Rattle.std.proofs.lemmas.List.Elements.{All-cons, All-nil, All-head, All-tail}
 use Rattle.std.proofs.lemmas.List.Sums.{sum_by-cons}
@@ -15,10 +15,12 @@ use Rattle.low_core.specs.declared.sel.Sel.{Sel}
 use Rattle.low_core.specs.SelShaped.{OpFits, IsOpShaped, IsBlockShaped, IsFunShaped, IsSel}
 use Rattle.low_core.specs.SelWeights.{sel_block_weight, sel_function_weight}
 use Rattle.obj_core.specs.declared.object.Func.{Func}
+use Rattle.std.proofs.lemmas.List.{length-take}
+use Rattle.obj_rows.specs.Assembled.{with_first_cuts}
 use Rattle.slot_plan.specs.Slots.{takens}
 use Rattle.slot_plan.proofs.Bounds.{takens_few}
 use Rattle.frame_lower.specs.Blocks.{calls_in, calls_of_blocks}
-use Rattle.frame_lower.specs.Functions.{Choices, functions_with, function_row, lowered, making_with, saved_function, slot_number}
+use Rattle.frame_lower.specs.Functions.{Choices, functions_with, function_row, lowered, making_with, saved_function, slot_number, with_cuts}
 use Rattle.frame_lower.specs.Given.{HasPlaces, HavePlaces, NamesPlace, IsSmall, calls_of_functions}
 use Rattle.frame_lower.proofs.Sizes.{calls_few}
 
@@ -43,16 +45,23 @@ homes_at (g ∷ fs) (is ∷ hss) (suc n) f hs have below at homes = homes_at fs 
 pub calls_more : (f : SelFun) (fs : List SelFun) → calls_of_functions (f ∷ fs) ≡ calls_of_blocks f.blocks + calls_of_functions fs
 calls_more f fs = sum_by-cons (λ (g : SelFun). calls_of_blocks g.blocks) f fs
 
+-- so many cuts fewer are left
+left_fewer : (cuts : List ℕ) (left : ℕ) → left - length (take left cuts) ≡ left - length cuts
+left_fewer cuts left = let t : length (take left cuts) ≡ min left (length cuts) = length-take left cuts in omega (arith, t)
+
 -- one more function
-pub functions_step : (globals functions : List ℕ) (reg_draw : ℕ) (names : List (List Reg)) (homes : List (List Home)) (n slot next : ℕ) (f : SelFun) (rest : List SelFun) (all : List Func) (new : Func) →
-    new ≡ saved_function (function_row (making_with globals functions reg_draw n (get_or names n []) (get_or homes n []) f) slot f) → next ≡ slot + calls_of_blocks f.blocks →
-    (all ++ new ∷ []) ++ functions_with globals functions reg_draw names homes (n + 1) next rest ≡ all ++ functions_with globals functions reg_draw names homes n slot (f ∷ rest)
-functions_step globals functions reg_draw names homes n slot next f rest all new is next_is =
+pub functions_step : (globals functions : List ℕ) (reg_draw : ℕ) (names : List (List Reg)) (homes : List (List Home)) (n slot next left fewer : ℕ) (f : SelFun) (rest : List SelFun) (all : List Func) (new : Func) →
+    let whole = saved_function (function_row (making_with globals functions reg_draw n (get_or names n []) (get_or homes n []) f) slot f) in
+    new ≡ with_cuts left whole → next ≡ slot + calls_of_blocks f.blocks → fewer ≡ left - length (take left whole.cuts) →
+    (all ++ new ∷ []) ++ with_first_cuts fewer (functions_with globals functions reg_draw names homes (n + 1) next rest) ≡ all ++ with_first_cuts left (functions_with globals functions reg_draw names homes n slot (f ∷ rest))
+functions_step globals functions reg_draw names homes n slot next left fewer f rest all new is next_is fewer_is =
     let go = functions_with globals functions reg_draw names homes in
-    append_assoc all (new ∷ []) (go (n + 1) next rest)
-    ∙ ap (λ x. all ++ x ∷ go (n + 1) next rest) is
-    ∙ ap (λ k. all ++ saved_function (function_row (making_with globals functions reg_draw n (get_or names n []) (get_or homes n []) f) slot f) ∷ go k next rest) (let e : n + 1 ≡ suc n = omega arith in e)
-    ∙ ap (λ k. all ++ saved_function (function_row (making_with globals functions reg_draw n (get_or names n []) (get_or homes n []) f) slot f) ∷ go (suc n) k rest) next_is
+    let whole = saved_function (function_row (making_with globals functions reg_draw n (get_or names n []) (get_or homes n []) f) slot f) in
+    append_assoc all (new ∷ []) (with_first_cuts fewer (go (n + 1) next rest))
+    ∙ ap (λ x. all ++ x ∷ with_first_cuts fewer (go (n + 1) next rest)) is
+    ∙ ap (λ k. all ++ with_cuts left whole ∷ with_first_cuts fewer (go k next rest)) (let e : n + 1 ≡ suc n = omega arith in e)
+    ∙ ap (λ k. all ++ with_cuts left whole ∷ with_first_cuts fewer (go (suc n) k rest)) next_is
+    ∙ ap (λ k. all ++ with_cuts left whole ∷ with_first_cuts k (go (suc n) (slot + calls_of_blocks f.blocks) rest)) (fewer_is ∙ left_fewer whole.cuts left)
 
 -- a function of a program within the limits is within them
 names_place : (sel : Sel) (f : SelFun) (op : SelOp) → OpFits sel f op → NamesPlace f op

@@ -1,5 +1,5 @@
 -- The functions of an object that a program of registers becomes.
-use Rattle.std.specs.Prelude.{ℕ, suc, ◌+◌, ◌*◌, List, [], ◌∷◌, ◌++◌, map, get_or, if◌then◌else◌, pos}
+use Rattle.std.specs.Prelude.{ℕ, suc, ◌+◌, ◌*◌, List, [], ◌∷◌, ◌++◌, map, take, get_or, if◌then◌else◌, pos}
 use Rattle.x86_core.specs.declared.reg.Reg.{Reg}
 use Rattle.x86_core.specs.declared.reg.Reg.TheVariants.{Rsp}
 use Rattle.x86_core.specs.declared.instr.Wide.{Wide}
@@ -46,6 +46,10 @@ cuts_from at (i ∷ j ∷ is) =
 -- a row as a function of an object
 abbrev pub saved_function : List Marked → Func
 saved_function row = record { kind = FuncKind.Saved; bytes = spelled (instrs_of row); links = links_from 0 row; cuts = cuts_from 0 (instrs_of row) }
+
+-- a function with so many of its cuts, the first ones
+abbrev pub with_cuts : ℕ → Func → Func
+with_cuts most f = record f { cuts = take most f.cuts }
 
 -- the address of a function as a pointer
 abbrev pub slot_number : SlotAddr → ℕ

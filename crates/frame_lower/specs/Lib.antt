@@ -9,3 +9,4 @@ pub mod Given
 pub mod Chain
 pub mod Alive
 pub mod Suits
+pub mod Planned

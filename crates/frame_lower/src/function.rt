@@ -1,13 +1,13 @@
 //! The code of a whole function.
 
-ghost use Rattle.std.specs.Prelude.{◌≡◌, ◌+◌, ◌<◌, ◌≤◌, ◌^◌, ℕ, [], map, All, IfOk, OnOk, length};
+ghost use Rattle.std.specs.Prelude.{◌≡◌, ◌+◌, ◌<◌, ◌≤◌, ◌^◌, ℕ, [], map, take, All, IfOk, OnOk, length};
 ghost use Rattle.std.specs.List.{sum_by};
 ghost use Rattle.low_core.specs.declared.sel.SelBlock.{SelBlock};
 ghost use Rattle.low_core.specs.SelWeights.{arguments_of, sel_block_weight, sel_function_weight};
 ghost use Rattle.obj_core.specs.declared.object.FuncKind.TheVariants.{Saved as SavedKind};
 ghost use Rattle.obj_rows.specs.Marked.{all_unlinked};
 ghost use Rattle.frame_lower.specs.Blocks.{calls_of_blocks};
-ghost use Rattle.frame_lower.specs.Functions.{front_row, function_row, saved_function};
+ghost use Rattle.frame_lower.specs.Functions.{front_row, function_row, saved_function, with_cuts};
 ghost use Rattle.frame_lower.specs.Making.{IsFit, BlocksReach, making};
 ghost use Rattle.frame_lower.specs.Rows as rows;
 ghost use Rattle.frame_lower.specs.Writing.{empty_code, link_of, with_row};
@@ -51,19 +51,30 @@ fn object_cuts(alloc: Global, cuts: &[usize]) -> Result<List<u32>, NoMemory>
     Ok(all)
 }
 
-/// Code as a function that saves registers.
-fn finished(alloc: Global, code: Code) -> Result<Func, NoMemory>
+/// The first ones of some cuts.
+fn first_cuts(cuts: &[usize], most: usize) -> &[usize]
+    ensures { result.now ≡ take most cuts.now }
+{
+    if most < cuts.len() {
+        &cuts[..most]
+    } else {
+        cuts
+    }
+}
+
+/// Code as a function that saves registers, with so many of its cuts.
+fn finished(alloc: Global, code: Code, most: usize) -> Result<Func, NoMemory>
     requires links { All (λ (l : Linked0). l.at < 2 ^ 32) code.links }
-    requires cuts { All (λ at. at < 2 ^ 32) code.cuts }
+    requires cuts { All (λ at. at < 2 ^ 32) (take most code.cuts) }
     ensures { IfOk result (λ f. f ≡ record {
       kind = SavedKind;
       bytes = code.bytes;
       links = map link_of code.links;
-      cuts = code.cuts;
+      cuts = take most code.cuts;
     }) }
 {
     let links = object_links(alloc, code.links.as_slice())?;
-    let cuts = object_cuts(alloc, code.cuts.as_slice())?;
+    let cuts = object_cuts(alloc, first_cuts(code.cuts.as_slice(), most))?;
     Ok(Func {
         kind: FuncKind::Saved,
         bytes: code.bytes,
@@ -117,8 +128,14 @@ impl<'a> Maker<'a> {
         Ok(code)
     }
 
-    /// A function, whose calls go by the slots from one on.
-    pub fn function(&self, alloc: Global, first: u32, function: &SelFun) -> Result<Func, NoMemory>
+    /// A function with so many of its cuts, whose calls go by the slots from one on.
+    pub fn function(
+        &self,
+        alloc: Global,
+        first: u32,
+        most: usize,
+        function: &SelFun,
+    ) -> Result<Func, NoMemory>
         requires fit { IsFit self.now }
         requires params { length function.now.params ≤ 32 }
         requires reaches { BlocksReach self.now function.now.blocks }
@@ -127,10 +144,10 @@ impl<'a> Maker<'a> {
         requires slots { first + calls_of_blocks function.now.blocks < 2 ^ 32 }
         requires light { sel_function_weight function.now < 2 ^ 30 }
         ensures { IfOk result (λ f. f ≡
-            saved_function (function_row (making self.now) first function.now)) }
+            with_cuts most (saved_function (function_row (making self.now) first function.now))) }
     {
         let code = self.whole_code(alloc, first, function)?;
-        let f = finished(alloc, code)?;
+        let f = finished(alloc, code, most)?;
         Ok(f)
     }
 }

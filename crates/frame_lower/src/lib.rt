@@ -13,6 +13,7 @@ pub mod code;
 pub mod ends;
 pub mod frame;
 pub mod function;
+pub mod law;
 pub mod lower;
 pub mod maker;
 pub mod ops;

@@ -5,7 +5,7 @@ ghost use Rattle.obj_core.specs.Saved.{five_of};
 ghost use Rattle.obj_core.specs.Slots.{push_purpose};
 ghost use Rattle.frame_lower.specs.Blocks.{calls_of_blocks};
 ghost use Rattle.frame_lower.specs.Frames.{frame_words, room_bytes};
-ghost use Rattle.frame_lower.specs.Functions.{function_row, making_with, saved_function, slot_number};
+ghost use Rattle.frame_lower.specs.Functions.{function_row, making_with, saved_function, slot_number, with_cuts};
 ghost use Rattle.frame_lower.specs.Given.{HasPlaces, IsSmall};
 
 use crate::frame::{home_words, passed_words, spots};
@@ -51,13 +51,14 @@ pub struct Shared<'a> {
 }
 
 impl<'a> Shared<'a> {
-    /// A function of a number, with its homes and the names of its colours; its calls go by the slots
-    /// from one on.
+    /// A function of a number with so many of its cuts, with its homes and the names of its colours;
+    /// its calls go by the slots from one on.
     pub fn function(
         &self,
         alloc: Global,
         number: u32,
         first: u32,
+        most: usize,
         names: &[Reg],
         homes: &[Home],
         function: &SelFun,
@@ -65,9 +66,9 @@ impl<'a> Shared<'a> {
         requires small { IsSmall function.now }
         requires places { HasPlaces function.now homes.now }
         requires slots { first + calls_of_blocks function.now.blocks < 2 ^ 32 }
-        ensures { IfOk result (λ f. f ≡ saved_function (function_row (making_with
+        ensures { IfOk result (λ f. f ≡ with_cuts most (saved_function (function_row (making_with
             self.now.globals.now self.now.functions.now self.now.reg_seed number names.now
-            homes.now function.now) first function.now)) }
+            homes.now function.now) first function.now))) }
     {
         let passed = passed_words(function);
         let words = passed + home_words(homes);
@@ -81,7 +82,7 @@ impl<'a> Shared<'a> {
             room: 8 * words + function.frame,
             order: order.as_slice(),
         };
-        let made = maker.function(alloc, first, function)?;
+        let made = maker.function(alloc, first, most, function)?;
         Ok(made)
     }
 }

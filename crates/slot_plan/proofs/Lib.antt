@@ -1,3 +1,4 @@
 pub mod InTurn
 pub mod Bounds
 pub mod Places
+pub mod Taken

@@ -4,6 +4,7 @@ use Rattle.std.proofs.lemmas.List.Elements.{All-same}
 use Rattle.ir_core.specs.declared.limit.TheConstants.{MAX_CODE, MAX_FUNCTIONS}
 use Rattle.low_core.specs.declared.sel.SelFun.{SelFun}
 use Rattle.low_core.specs.SelWeights.{sel_function_weight}
+use Rattle.obj_rows.specs.Assembled.{most_cuts, with_first_cuts}
 use Rattle.slot_plan.specs.Slots.{takens}
 use Rattle.slot_plan.proofs.Bounds.{takens_few}
 use Rattle.frame_lower.specs.Given.{IsSmall, calls_of_functions}
@@ -44,6 +45,6 @@ returns c =
     let one : c.pointed-first.result + 1 ≡ suc (takens c.args.sel.now.taken) = (let p = c.pointed-first.ensures in let same : takens c.as_slice-4.result.now ≡ takens c.args.sel.now.taken = ap takens c.as_slice-4.ensures in omega (arith, p, same)) in
     record {
       is = c.in_ok-all.ensures
-          ∙ lowered_is choices c.args.sel.now c.as_slice-2.result.now c.as_slice-3.result.now c.as_slice-5.result.now c.as_slice-6.result.now (c.pointed-first.result + 1) c.as_slice-7.result.now
-          c.as_slice-2.ensures (c.as_slice-3.ensures ∙ c.in_ok-functions.ensures ∙ ap (map slot_number) c.as_slice.ensures) c.as_slice-5.ensures c.as_slice-6.ensures one c.as_slice-7.ensures;
+          ∙ ap (with_first_cuts most_cuts) (lowered_is choices c.args.sel.now c.as_slice-2.result.now c.as_slice-3.result.now c.as_slice-5.result.now c.as_slice-6.result.now (c.pointed-first.result + 1) c.as_slice-7.result.now
+          c.as_slice-2.ensures (c.as_slice-3.ensures ∙ c.in_ok-functions.ensures ∙ ap (map slot_number) c.as_slice.ensures) c.as_slice-5.ensures c.as_slice-6.ensures one c.as_slice-7.ensures);
     }

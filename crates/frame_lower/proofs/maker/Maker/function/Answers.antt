@@ -1,8 +1,9 @@
 use Rattle.std.proofs.Common.{◌<◌, ◌^◌, ap, sym, subst, ◌∙◌, arith}
 use Rattle.std.specs.List.{All}
+use Rattle.std.proofs.lemmas.List.Elements.{All-take}
 use Rattle.frame_lower.specs.declared.code.Code.{Code}
 use Rattle.frame_lower.specs.declared.code.Linked.{Linked}
-use Rattle.frame_lower.specs.Functions.{function_row}
+use Rattle.frame_lower.specs.Functions.{function_row, with_cuts}
 use Rattle.frame_lower.specs.Making.{making}
 use Rattle.frame_lower.proofs.Functions.{function_of, function_written}
 use Rattle.frame_lower.proofs.Sizes.{function_light}
@@ -23,7 +24,9 @@ finished-requires-clause-cuts c =
     let row = function_row by c.args.first c.args.function.now in
     let few = function_light by c.requires.fit.five c.args.first c.args.function.now c.requires.params in
     let light = c.requires.light in
-    subst (λ (d : Code). All (λ n. n < 2 ^ 32) d.cuts) (sym c.in_ok-code.ensures) (whole_cuts_inside (2 ^ 32) row (omega arith))
+    All-take (λ n. n < 2 ^ 32) c.args.most _ (subst (λ (d : Code). All (λ n. n < 2 ^ 32) d.cuts) (sym c.in_ok-code.ensures) (whole_cuts_inside (2 ^ 32) row (omega arith)))
 
 pub returns : goal.returns
-returns c = c.in_ok-f.ensures ∙ ap function_of c.in_ok-code.ensures ∙ function_written (function_row (making c.args.self.now) c.args.first c.args.function.now)
+returns c =
+    c.in_ok-f.ensures
+    ∙ ap (with_cuts c.args.most) (ap function_of c.in_ok-code.ensures ∙ function_written (function_row (making c.args.self.now) c.args.first c.args.function.now))
