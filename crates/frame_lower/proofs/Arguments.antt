@@ -1,5 +1,5 @@
 -- Words of several registers, and words that stand in processor registers or one above another in memory.
-use Rattle.std.proofs.Common.{◌≡◌, ℕ, zero, suc, ◌+◌, ◌*◌, ◌^◌, ◌<◌, ◌≤◌, true, List, [], ◌∷◌, drop, length, Option, Ok, Err, inl, inr, ◌⊎◌, refl, sym, ◌∙◌, ap, subst, arith}
+use Rattle.std.proofs.Common.{◌≡◌, ℕ, zero, suc, ◌+◌, ◌*◌, ◌^◌, ◌<◌, ◌≤◌, true, List, [], ◌∷◌, drop, length, Option, Ok, Err, inl, inr, ◌⊎◌, refl, ◌∙◌, ap, arith}
 use Rattle.rd_num.specs.Number.{le_bytes}
 use Rattle.ir_core.specs.declared.memory.Reason.TheVariants.{Unset}
 use Rattle.ir_core.specs.Stops.{Left, Answer, and_then}

@@ -36,7 +36,17 @@ pub mod Stage
 pub mod Rests
 pub mod Facts
 pub mod PlainStep
+pub mod Bits
+pub mod Branching
+pub mod ChoiceStep
 pub mod Leaving
 pub mod Arguments
 pub mod Suited
 pub mod Suiting
+pub mod Passing
+pub mod Bound
+pub mod Receiving
+pub mod Taking
+pub mod Counts
+pub mod OwnMemory
+pub mod Returning
