@@ -98,7 +98,7 @@ module _ (m : Module) (vs : List LocalKind) where
   truth_stands true = let z : 1 < 2 ^ 64 = omega arith in z
   truth_stands false = let z : 0 < 2 ^ 64 = omega arith in z
 
-  register_stands : (o : Option ℕ) → ((k : ℕ) → o ≡ Some k → k < length vs) → OriginStands (register_of o)
+  pub register_stands : (o : Option ℕ) → ((k : ℕ) → o ≡ Some k → k < length vs) → OriginStands (register_of o)
   register_stands (Some k) go = go k refl
   register_stands None go = tt
 
