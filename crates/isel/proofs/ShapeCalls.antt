@@ -112,7 +112,7 @@ module _ (m : Module) (fn : Function) where
       let long = length-take-le (arity which) args enough in
       let front : length (take (arity which) args) ≤ length args = omega (arith, long, enough) in
       arguments_fit (take (arity which) args) (λ rs. Outside which into rs) (omega (arith, few, front)) (front_fine m (arity which) args fine)
-      (λ rs same below. outside_fits m fn which into rs (same ∙ long) result to below (omega (arith, limit, front, same)))
+      (λ rs same below. outside_fits m fn which into rs (same ∙ long) result to below (omega (arith, few, front, same)) (omega (arith, limit, front, same)))
 
   idle_fits : Each (Fits m fn) (idle_ops (vs m fn))
   idle_fits = (set_fits m fn (idle_register (vs m fn)) 0 (behind_variables m fn 6 (omega arith)) (omega arith), tt)
@@ -159,7 +159,7 @@ module _ (m : Module) (fn : Function) where
           arguments_fit args (λ rs. Call f into rs) few fine
           (λ rs same below. call_fits m fn f into rs
               (record { fn = function_selected m g; stands = selected_at m f g is; params = numbers_length 0 (length g.params) ∙ called_length g ret args typed ∙ sym same })
-              to below (omega (arith, limit, same)))
+              to below (omega (arith, few, same)) (omega (arith, limit, same)))
       of_function None is typed = let x = item_at m.functions f (there f refl) in none_is x.0 (sym is ∙ x.1)
 
   -- by what is called
@@ -174,7 +174,7 @@ module _ (m : Module) (fn : Function) where
       let number : Option ℕ = number_of (named_locals (vs m fn)) name in
       let source : ℕ = register_read (vs m fn) (register_of number) in
       arguments_fit args (λ rs. CallAt source (register_into (vs m fn) into) rs) few fine
-      (λ rs same below. address_fits m fn source (register_into (vs m fn) into) rs (read_below m fn (register_of number) (register_stands m (vs m fn) number (variable_below m (vs m fn) name))) (into_below into) below (omega (arith, limit, same)))
+      (λ rs same below. address_fits m fn source (register_into (vs m fn) into) rs (read_below m fn (register_of number) (register_stands m (vs m fn) number (variable_below m (vs m fn) name))) (into_below into) below (omega (arith, few, same)) (omega (arith, limit, same)))
   call_fit env into ret (Int n) args typed few limit fine = not_true typed
   call_fit env into ret (Truth b) args typed few limit fine = not_true typed
   call_fit env into ret NullWord args typed few limit fine = not_true typed

@@ -18,6 +18,7 @@ use Rattle.low_core.specs.declared.sel.SelOp.TheVariants.{Set, Copy, Alu, Div, W
 use Rattle.low_core.specs.declared.sel.Which.{Which}
 use Rattle.low_core.specs.Plan.{NamesOneOf}
 use Rattle.low_core.specs.SelShaped.{IsWide, AluFits, IsAnyBelow, HasResult, IsCallOf, IsOpShaped, arity}
+use Rattle.low_core.specs.SelWeights.{arguments_of}
 use Rattle.low_core.specs.Weights.{allocas_room}
 use Rattle.isel_rows.specs.Variables.{variables_of, registers_count}
 use Rattle.isel_rows.specs.Functions.{function_selected}
@@ -46,9 +47,9 @@ module _ (m : Module) (fn : Function) where
   pub registers_least : length vs + 14 ≤ count
   registers_least = omega arith
 
-  -- an operation fits: it is shaped, and a global that it names is one of the module
+  -- an operation fits: it is shaped, a global that it names is one of the module, and it has no more arguments than a call of the function has
   abbrev pub Fits : SelOp → Type 0
-  Fits op = IsOpShaped (module_selected m) (function_selected m fn) op × NamesOneOf (length m.globals) op
+  Fits op = IsOpShaped (module_selected m) (function_selected m fn) op × NamesOneOf (length m.globals) op × (arguments_of op ≤ most)
 
   abbrev pub IsBelow : ℕ → Type 0
   IsBelow r = r < count
@@ -67,47 +68,47 @@ module _ (m : Module) (fn : Function) where
 
   -- operations that assign a register
   pub set_fits : (r n : ℕ) → r < count → n < 2 ^ 64 → Fits (Set r n)
-  set_fits r n to word = (record { reads = no_reads; assigns = to; fits = word; few = omega arith }, tt)
+  set_fits r n to word = (record { reads = no_reads; assigns = to; fits = word; few = omega arith }, tt, omega arith)
 
   pub copy_fits : (r s : ℕ) → r < count → s < count → Fits (Copy r s)
-  copy_fits r s to first = (record { reads = one_read s first; assigns = to; fits = tt; few = omega arith }, tt)
+  copy_fits r s to first = (record { reads = one_read s first; assigns = to; fits = tt; few = omega arith }, tt, omega arith)
 
   pub alu_fits : (op : SelAlu) (w : Width) (r s t : ℕ) → AluFits op w → r < count → s < count → t < count → Fits (Alu op w r s t)
-  alu_fits op w r s t wide to first second = (record { reads = two_reads s t first second; assigns = to; fits = wide; few = omega arith }, tt)
+  alu_fits op w r s t wide to first second = (record { reads = two_reads s t first second; assigns = to; fits = wide; few = omega arith }, tt, omega arith)
 
   pub div_fits : (signed rest : Bool) (w : Width) (r s t : ℕ) → IsWide w → r < count → s < count → t < count → Fits (Div signed rest w r s t)
-  div_fits signed rest w r s t wide to first second = (record { reads = two_reads s t first second; assigns = to; fits = wide; few = omega arith }, tt)
+  div_fits signed rest w r s t wide to first second = (record { reads = two_reads s t first second; assigns = to; fits = wide; few = omega arith }, tt, omega arith)
 
   pub widen_fits : (signed : Bool) (from into : Width) (r s : ℕ) → bits from ≤ bits into → r < count → s < count → Fits (Widen signed from into r s)
-  widen_fits signed from into r s up to first = (record { reads = one_read s first; assigns = to; fits = up; few = omega arith }, tt)
+  widen_fits signed from into r s up to first = (record { reads = one_read s first; assigns = to; fits = up; few = omega arith }, tt, omega arith)
 
   pub test_fits : (pred : Pred) (w : Width) (r s t : ℕ) → r < count → s < count → t < count → Fits (Test pred w r s t)
-  test_fits pred w r s t to first second = (record { reads = two_reads s t first second; assigns = to; fits = tt; few = omega arith }, tt)
+  test_fits pred w r s t to first second = (record { reads = two_reads s t first second; assigns = to; fits = tt; few = omega arith }, tt, omega arith)
 
   pub pick_fits : (r c s t : ℕ) → r < count → c < count → s < count → t < count → Fits (Pick r c s t)
-  pick_fits r c s t to condition first second = (record { reads = All-cons IsBelow c (s ∷ t ∷ []) condition (two_reads s t first second); assigns = to; fits = tt; few = omega arith }, tt)
+  pick_fits r c s t to condition first second = (record { reads = All-cons IsBelow c (s ∷ t ∷ []) condition (two_reads s t first second); assigns = to; fits = tt; few = omega arith }, tt, omega arith)
 
   pub load_fits : (w : Width) (r s : ℕ) → IsWide w → r < count → s < count → Fits (Load w r s)
-  load_fits w r s wide to first = (record { reads = one_read s first; assigns = to; fits = wide; few = omega arith }, tt)
+  load_fits w r s wide to first = (record { reads = one_read s first; assigns = to; fits = wide; few = omega arith }, tt, omega arith)
 
   pub store_fits : (w : Width) (s t : ℕ) → IsWide w → s < count → t < count → Fits (Store w s t)
-  store_fits w s t wide first second = (record { reads = two_reads s t first second; assigns = tt; fits = wide; few = omega arith }, tt)
+  store_fits w s t wide first second = (record { reads = two_reads s t first second; assigns = tt; fits = wide; few = omega arith }, tt, omega arith)
 
   pub frame_fits : (r at : ℕ) → r < count → at ≤ allocas_room m.types fn → Fits (FrameAt r at)
-  frame_fits r at to room = (record { reads = no_reads; assigns = to; fits = room; few = omega arith }, tt)
+  frame_fits r at to room = (record { reads = no_reads; assigns = to; fits = room; few = omega arith }, tt, omega arith)
 
   pub global_fits : (r g : ℕ) → r < count → g < length m.globals → Fits (GlobalAt r g)
-  global_fits r g to there = (record { reads = no_reads; assigns = to; fits = tt; few = omega arith }, there)
+  global_fits r g to there = (record { reads = no_reads; assigns = to; fits = tt; few = omega arith }, there, omega arith)
 
   pub function_fits : (r f : ℕ) → r < count → slice_get (map (is_taken m) m.functions) f ≡ Some true → Fits (FunctionAt r f)
-  function_fits r f to taken = (record { reads = no_reads; assigns = to; fits = taken; few = omega arith }, tt)
+  function_fits r f to taken = (record { reads = no_reads; assigns = to; fits = taken; few = omega arith }, tt, omega arith)
 
   -- calls
-  pub call_fits : (f : ℕ) (into : Option ℕ) (rs : List ℕ) → IsCallOf (module_selected m) f (length rs) → IsAnyBelow count into → Each IsBelow rs → length rs ≤ MAX_PARAMETERS → Fits (Call f into rs)
-  call_fits f into rs is to below few = (record { reads = all_of IsBelow rs below; assigns = to; fits = is; few = few }, tt)
+  pub call_fits : (f : ℕ) (into : Option ℕ) (rs : List ℕ) → IsCallOf (module_selected m) f (length rs) → IsAnyBelow count into → Each IsBelow rs → length rs ≤ most → length rs ≤ MAX_PARAMETERS → Fits (Call f into rs)
+  call_fits f into rs is to below some few = (record { reads = all_of IsBelow rs below; assigns = to; fits = is; few = few }, tt, some)
 
-  pub address_fits : (s : ℕ) (into : Option ℕ) (rs : List ℕ) → s < count → IsAnyBelow count into → Each IsBelow rs → length rs ≤ MAX_PARAMETERS → Fits (CallAt s into rs)
-  address_fits s into rs first to below few = (record { reads = All-cons IsBelow s rs first (all_of IsBelow rs below); assigns = to; fits = tt; few = few }, tt)
+  pub address_fits : (s : ℕ) (into : Option ℕ) (rs : List ℕ) → s < count → IsAnyBelow count into → Each IsBelow rs → length rs ≤ most → length rs ≤ MAX_PARAMETERS → Fits (CallAt s into rs)
+  address_fits s into rs first to below some few = (record { reads = All-cons IsBelow s rs first (all_of IsBelow rs below); assigns = to; fits = tt; few = few }, tt, some)
 
-  pub outside_fits : (which : Which) (into : Option ℕ) (rs : List ℕ) → length rs ≡ arity which → HasResult which into → IsAnyBelow count into → Each IsBelow rs → length rs ≤ MAX_PARAMETERS → Fits (Outside which into rs)
-  outside_fits which into rs as_many result to below few = (record { reads = all_of IsBelow rs below; assigns = to; fits = (as_many, result); few = few }, tt)
+  pub outside_fits : (which : Which) (into : Option ℕ) (rs : List ℕ) → length rs ≡ arity which → HasResult which into → IsAnyBelow count into → Each IsBelow rs → length rs ≤ most → length rs ≤ MAX_PARAMETERS → Fits (Outside which into rs)
+  outside_fits which into rs as_many result to below some few = (record { reads = all_of IsBelow rs below; assigns = to; fits = (as_many, result); few = few }, tt, some)
