@@ -44,7 +44,7 @@ use Rattle.isel.proofs.ShapeOrigins.{variable_below, register_stands}
 use Rattle.isel.proofs.ShapeBrought.{behind_variables, read_below, AllFit, args_fit, args_count}
 
 -- the first item that passes is that of the number
-first_by_number : {X : Type 0} (test : X → Bool) (xs : List X) → first_where test xs ≡ option_and_then (slice_get xs) (number_where test xs)
+pub first_by_number : {X : Type 0} (test : X → Bool) (xs : List X) → first_where test xs ≡ option_and_then (slice_get xs) (number_where test xs)
 first_by_number test [] = refl
 first_by_number {X = X} test (x ∷ xs) = of_test (test x) (first_by_number test xs)
   where
