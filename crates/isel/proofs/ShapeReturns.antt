@@ -1,4 +1,4 @@
--- What is selected has no more returns and no more calls by address than the module has returns and calls through a local.
+-- What is selected has no more returns than the module.
 use Rattle.std.proofs.Common.{◌≡◌, ℕ, ◌+◌, ◌≤◌, Bool, true, false, List, [], ◌∷◌, ◌++◌, length, map, take, Option, Some, None, slice_get, refl, ap, ◌∙◌, arith}
 use Rattle.std.specs.Prelude.{◌&&◌, nat_eq, if◌then◌else◌}
 use Rattle.std.specs.List.{list_all, sum_by}
@@ -82,7 +82,7 @@ blocks_return m variables labels at (b ∷ bs) =
     omega (arith, first, others, s, t)
 
 -- sums over functions
-sums_below : {A B : Type 0} (made : A → B) (F : B → ℕ) (G : A → ℕ) (xs : List A) → Each (λ x. F (made x) ≤ G x) xs → sum_by F (map made xs) ≤ sum_by G xs
+pub sums_below : {A B : Type 0} (made : A → B) (F : B → ℕ) (G : A → ℕ) (xs : List A) → Each (λ x. F (made x) ≤ G x) xs → sum_by F (map made xs) ≤ sum_by G xs
 sums_below made F G [] all = omega arith
 sums_below made F G (x ∷ xs) all =
     let first = all.0 in
@@ -96,139 +96,3 @@ module_returns m =
     let F : SelFun → ℕ = λ f. sum_by (λ (b : SelBlock). is_return b.end) f.blocks in
     let G : Function → ℕ = λ f. sum_by (λ (b : Block). returns_at b.end) f.blocks in
     sums_below (function_selected m) F G m.functions (each_there (λ f. F (function_selected m f) ≤ G f) m.functions (λ k f at. blocks_return m (variables_of f) (label_names f) 0 f.blocks))
-
--- calls by address among operations
-abbrev addresses : List SelOp → ℕ
-addresses ops = sum_by is_call_by_address ops
-
-both : (xs ys : List SelOp) → addresses (xs ++ ys) ≡ addresses xs + addresses ys
-both xs ys = sum_by-append is_call_by_address xs ys
-
-module _ (m : Module) (vs : List LocalKind) where
-  -- there are none in what brings operands
-  value_none : (r : ℕ) (v : Value) → addresses (value_ops vs r v) ≡ 0
-  value_none r (Num w n) = refl
-  value_none r Null = refl
-  value_none r (At g by) = of_test (nat_eq by 0)
-    where
-      of_test : (b : Bool) → addresses (if b then sel.GlobalAt r g ∷ [] else sel.GlobalAt r g ∷ sel.Set (bytes_register vs) by ∷ sel.Alu alu.Add W64 r r (bytes_register vs) ∷ []) ≡ 0
-      of_test true = refl
-      of_test false = refl
-  value_none r (Fun f) = refl
-
-  brought_none : (r : ℕ) (o : Origin) → addresses (brought vs r o).ops ≡ 0
-  brought_none r (Known v) = value_none r v
-  brought_none r (Register k) = refl
-  brought_none r Unset = refl
-  brought_none r Malformed = refl
-
-  args_none : (k : ℕ) (args : List Arg) → addresses (args_brought m vs k args).ops ≡ 0
-  args_none k [] = refl
-  args_none k (a ∷ args) =
-      let first = brought_none (argument_register vs k) (arg_origin m (named_locals vs) a) in
-      let others = args_none (k + 1) args in
-      let e = both (brought vs (argument_register vs k) (arg_origin m (named_locals vs) a)).ops (args_brought m vs (k + 1) args).ops in
-      omega (arith, first, others, e)
-
-  one_none : (k : ℕ) (kind : Kind) (a : Operand) (rest : List SelOp) → addresses ((operand_brought m vs k kind a).ops ++ rest) ≡ addresses rest
-  one_none k kind a rest =
-      let e = both (operand_brought m vs k kind a).ops rest in
-      let first = brought_none (operand_register vs k) (origin_of m (named_locals vs) kind a) in
-      omega (arith, e, first)
-
-  -- nor in what moves a pointer
-  constant_none : (from by : ℕ) → addresses (constant_moved vs from by).ops ≡ 0
-  constant_none from by = of_test (nat_eq by 0)
-    where
-      moves : List SelOp
-      moves = sel.Set (bytes_register vs) by ∷ sel.Alu alu.Add W64 (moved_register vs) from (bytes_register vs) ∷ []
-
-      of_test : (b : Bool) →
-          let x : Brought = if b then record { ops = []; register = from } else record { ops = moves; register = moved_register vs } in
-          addresses x.ops ≡ 0
-      of_test true = refl
-      of_test false = refl
-
-  strides_none : (from : ℕ) (ss : List Stride) → addresses (strides_moved vs from ss).ops ≡ 0
-  strides_none from [] = refl
-  strides_none from (s ∷ ss) =
-      let others = strides_none (moved_register vs) ss in
-      let e = both (stride_ops vs from s) (strides_moved vs (moved_register vs) ss).ops in
-      omega (arith, others, e)
-
-  moved_none : (r : ℕ) (p : Path) (from : ℕ) → addresses (moved_ops vs r p from) ≡ 0
-  moved_none r p from =
-      let first = constant_moved vs from p.constant in
-      let others = strides_moved vs first.register p.strides in
-      let last : List SelOp = sel.Copy r others.register ∷ [] in
-      let a = constant_none from p.constant in
-      let b = strides_none first.register p.strides in
-      let c = both first.ops (others.ops ++ last) in
-      let d = both others.ops last in
-      omega (arith, a, b, c, d)
-
-  -- nor in single operations
-  bin_none : (op : BinOp) (w : Width) (r s t : ℕ) → is_call_by_address (bin_op op w r s t) ≡ 0
-  bin_none Add w r s t = refl
-  bin_none Sub w r s t = refl
-  bin_none Mul w r s t = refl
-  bin_none Udiv w r s t = refl
-  bin_none Sdiv w r s t = refl
-  bin_none Urem w r s t = refl
-  bin_none Srem w r s t = refl
-  bin_none Shl w r s t = refl
-  bin_none Lshr w r s t = refl
-  bin_none Ashr w r s t = refl
-  bin_none And w r s t = refl
-  bin_none Or w r s t = refl
-  bin_none Xor w r s t = refl
-
-  cast_none : (op : CastOp) (from to : Width) (r s : ℕ) → is_call_by_address (cast_op op from to r s) ≡ 0
-  cast_none Trunc from to r s = refl
-  cast_none Zext from to r s = refl
-  cast_none Sext from to r s = refl
-
-  load_none : (w : Width) (r s : ℕ) → addresses (load_ops w r s) ≡ 0
-  load_none W1 r s = refl
-  load_none W8 r s = refl
-  load_none W16 r s = refl
-  load_none W32 r s = refl
-  load_none W64 r s = refl
-
-  -- a call
-  arguments_call : (args : List Arg) (call : List ℕ → SelOp) (n : ℕ) → ((rs : List ℕ) → is_call_by_address (call rs) ≡ n) → addresses (behind_args (args_brought m vs 0 args) call) ≡ n
-  arguments_call args call n is =
-      let b : AllBrought = args_brought m vs 0 args in
-      let e = both b.ops (call b.registers ∷ []) in
-      let a = args_none 0 args in
-      let c = is b.registers in
-      omega (arith, e, a, c)
-
-  outside_none : (into : Option ℕ) (which : Which) (args : List Arg) → addresses (outside_ops m vs into which args) ≡ 0
-  outside_none into which args = arguments_call (take (arity which) args) (λ rs. sel.Outside which into rs) 0 (λ rs. refl)
-
-  outer_none : (into : Option ℕ) (o : Outer) (args : List Arg) → addresses (outer_ops m vs into o args) ≡ 0
-  outer_none into outside.Putchar args = outside_none into Putchar args
-  outer_none into outside.Getchar args = outside_none into Getchar args
-  outer_none into outside.Exit args = outside_none None Exit args
-  outer_none into outside.Memcpy args = outside_none None Memcpy args
-  outer_none into outside.Memset args = outside_none None Memset args
-  outer_none into outside.TrapNow args = outside_none None Trap args
-  outer_none into outside.Lifetime args = refl
-  outer_none into outside.NoOuter args = refl
-
-  named_none : (into : Option ℕ) (args : List Arg) (name : List ℕ) (o : Option ℕ) → addresses (named_ops m vs into args name o) ≡ 0
-  named_none into args name (Some f) = arguments_call args (λ rs. sel.Call f into rs) 0 (λ rs. refl)
-  named_none into args name None = outer_none into (outer_of name) args
-
-  call_calls : (env : Env) (into : Option ℕ) (ret : _) (callee : Operand) (args : List Arg) → callee_fits m env (kind_of ret) (kinds_of args) callee ≡ true → addresses (call_ops m vs into callee args) ≤ local_calls_at (Call ret callee args)
-  call_calls env into ret (Global name) args typed = let a = named_none into args name (function_number m name) in omega (arith, a)
-  call_calls env into ret (LocalName name) args typed =
-      let a = arguments_call args (λ rs. sel.CallAt (register_read vs (register_of (number_of (named_locals vs) name))) into rs) 1 (λ rs. refl) in
-      omega (arith, a)
-  call_calls env into ret (Int n) args typed = not_true typed
-  call_calls env into ret (Truth b) args typed = not_true typed
-  call_calls env into ret NullWord args typed = not_true typed
-  call_calls env into ret Undef args typed = not_true typed
-  call_calls env into ret Poison args typed = not_true typed
-  call_calls env into ret (Const place) args typed = not_true typed
