@@ -6,15 +6,17 @@
 //! of the other program, and the files `proofs/Shape*` show that the second keeps its rules.
 #![tactic(auto)]
 
-ghost use Rattle.std.specs.Prelude.{◌≡◌, ◌≤◌, IfOk};
+ghost use Rattle.std.specs.Prelude.{◌≡◌, ◌≤◌, All, IfOk, length};
 ghost use Rattle.behavior.specs.Preserves.{Preserves, ReachesWithin};
 ghost use Rattle.low_core.specs.Contents.{data_bytes};
 ghost use Rattle.low_core.specs.Plain.{plain, moves_run};
-ghost use Rattle.low_core.specs.Plan.{Plan, PlanFits};
+ghost use Rattle.low_core.specs.declared.sel.SelFun.{SelFun};
+ghost use Rattle.low_core.specs.Plan.{NamesOneOf, Plan, PlanFits};
+ghost use Rattle.low_core.specs.SelParts.{ops_of};
 ghost use Rattle.low_core.specs.SelRun.{sel_run};
 ghost use Rattle.low_core.specs.SelShaped.{IsSel};
-ghost use Rattle.low_core.specs.SelWeights.{sel_weight};
-ghost use Rattle.low_core.specs.Shaped.{IsLean};
+ghost use Rattle.low_core.specs.SelWeights.{sel_weight, sel_returns_of, calls_by_address_of};
+ghost use Rattle.low_core.specs.Shaped.{IsLean, returns_of, local_calls_of};
 ghost use Rattle.low_core.specs.Weights.{weight};
 ghost use Rattle.isel_rows.specs.Selected.{selected};
 ghost use Rattle.isel.specs.Bound.{longest};
@@ -44,6 +46,14 @@ pub fn select<'a>(alloc: Global, lean: &Lean<'a>) -> Result<Sel, NoMemory>
         (sel_run sel plan (data_bytes lean.now.base.now plan))) }
     ensures weighs { IfOk result (λ sel.
         sel_weight sel ≤ weight (plain lean.now.base.now lean.now.bodies)) }
+    ensures returns { IfOk result (λ sel.
+        sel_returns_of sel ≤ returns_of (plain lean.now.base.now lean.now.bodies)) }
+    ensures calls { IfOk result (λ sel. calls_by_address_of sel
+        ≤ local_calls_of (plain lean.now.base.now lean.now.bodies)) }
+    ensures functions { IfOk result (λ sel.
+        length sel.functions ≡ length lean.now.base.now.functions) }
+    ensures names { IfOk result (λ sel. All (λ (f : SelFun).
+        All (NamesOneOf (length lean.now.base.now.globals)) (ops_of f)) sel.functions) }
 {
     let sel = select_program(alloc, lean)?;
     Ok(sel)
