@@ -1,5 +1,5 @@
 -- What brings operands and arguments into registers fits the function.
-use Rattle.std.proofs.Common.{◌≡◌, ℕ, ◌+◌, ◌<◌, ◌≤◌, Bool, true, false, List, [], ◌∷◌, ◌++◌, length, map, Option, Some, None, refl, arith}
+use Rattle.std.proofs.Common.{◌≡◌, ℕ, ◌+◌, ◌<◌, ◌≤◌, Bool, true, false, List, [], ◌∷◌, length, refl, arith}
 use Rattle.std.specs.Prelude.{nat_eq, if◌then◌else◌}
 use Rattle.rd_num.specs.declared.width.Width.TheVariants.{W64}
 use Rattle.ir_core.specs.declared.instruction.Arg.{Arg}
@@ -20,10 +20,10 @@ use Rattle.ir_context.specs.Origins.{arg_origin, origin_of}
 use Rattle.low_core.specs.declared.sel.SelAlu.TheVariants.{Add}
 use Rattle.low_core.specs.declared.sel.SelOp.{SelOp}
 use Rattle.low_core.specs.declared.sel.SelOp.TheVariants.{Set, Alu, GlobalAt}
-use Rattle.isel_rows.specs.Variables.{operand_register, bytes_register, argument_register, unset_register, register_read}
+use Rattle.isel_rows.specs.Variables.{operand_register, bytes_register, argument_register, register_read}
 use Rattle.isel_rows.specs.Brought.{Brought, AllBrought, place_ops, value_ops, brought, operand_brought, args_brought}
 use Rattle.isel.proofs.Mentioned.{IsFine}
-use Rattle.isel.proofs.ShapeForms.{vs, count, most, registers_room, registers_least, Fits, IsBelow, set_fits, alu_fits, global_fits, function_fits}
+use Rattle.isel.proofs.ShapeForms.{vs, most, registers_room, registers_least, Fits, IsBelow, set_fits, alu_fits, global_fits, function_fits}
 use Rattle.isel.proofs.ShapeOrigins.{ValueStands, OriginStands, operand_stands}
 
 module _ (m : Module) (fn : Function) where

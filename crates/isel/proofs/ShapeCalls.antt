@@ -1,6 +1,6 @@
 -- What is selected for a call fits the function: as many arguments as parameters, and a result where there is one.
-use Rattle.std.proofs.Common.{◌≡◌, ℕ, zero, suc, ◌+◌, ◌<◌, ◌≤◌, Bool, true, false, List, [], ◌∷◌, ◌++◌, length, map, take, Option, Some, None, slice_get, refl, ap, sym, ◌∙◌, subst, arith}
-use Rattle.std.specs.Prelude.{◌&&◌, option_map, option_and_then, if◌then◌else◌}
+use Rattle.std.proofs.Common.{◌≡◌, ℕ, zero, suc, ◌+◌, ◌<◌, ◌≤◌, Bool, true, false, List, [], ◌∷◌, length, map, take, Option, Some, None, slice_get, refl, ap, sym, ◌∙◌, subst, arith}
+use Rattle.std.specs.Prelude.{option_map, option_and_then, if◌then◌else◌}
 use Rattle.std.proofs.lemmas.Bool.{and_parts}
 use Rattle.std.proofs.lemmas.List.{length-take-le}
 use Rattle.std.proofs.lemmas.Option.{slice_get-map}
@@ -32,7 +32,7 @@ use Rattle.low_core.specs.declared.sel.SelOp.{SelOp}
 use Rattle.low_core.specs.declared.sel.SelOp.TheVariants.{Call, CallAt, Outside}
 use Rattle.low_core.specs.declared.sel.Which.{Which}
 use Rattle.low_core.specs.declared.sel.Which.TheVariants.{Putchar, Getchar, Exit, Memcpy, Memset, Trap}
-use Rattle.low_core.specs.SelShaped.{IsAnyBelow, IsCallOf, HasResult, arity}
+use Rattle.low_core.specs.SelShaped.{IsAnyBelow, HasResult, arity}
 use Rattle.isel_rows.specs.Variables.{idle_register, register_read}
 use Rattle.isel_rows.specs.Brought.{AllBrought, args_brought}
 use Rattle.isel_rows.specs.Calls.{register_into, behind_args, idle_ops, outside_ops, outer_ops, named_ops, call_ops}
@@ -41,7 +41,7 @@ use Rattle.isel_rows.specs.Selected.{module_selected}
 use Rattle.isel.proofs.Mentioned.{IsFine}
 use Rattle.isel.proofs.ShapeForms.{vs, count, most, registers_least, Fits, IsBelow, set_fits, call_fits, address_fits, outside_fits}
 use Rattle.isel.proofs.ShapeOrigins.{variable_below, register_stands}
-use Rattle.isel.proofs.ShapeBrought.{behind_variables, read_below, AllFit, args_fit, args_count}
+use Rattle.isel.proofs.ShapeBrought.{behind_variables, read_below, args_fit, args_count}
 
 -- the first item that passes is that of the number
 pub first_by_number : {X : Type 0} (test : X → Bool) (xs : List X) → first_where test xs ≡ option_and_then (slice_get xs) (number_where test xs)

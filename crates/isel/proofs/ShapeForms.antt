@@ -1,5 +1,5 @@
 -- Operations that fit a function which is selected: by the form of an operation, what is asked of its numbers and widths.
-use Rattle.std.proofs.Common.{◌≡◌, ℕ, ◌+◌, ◌^◌, ◌<◌, ◌≤◌, Bool, true, List, [], ◌∷◌, length, map, Option, Some, None, slice_get, arith}
+use Rattle.std.proofs.Common.{◌≡◌, ℕ, ◌+◌, ◌^◌, ◌<◌, ◌≤◌, Bool, true, List, [], ◌∷◌, length, map, Option, Some, slice_get, arith}
 use Rattle.std.specs.List.{All}
 use Rattle.std.proofs.lemmas.List.Elements.{All-nil, All-cons}
 use Rattle.rd_num.specs.declared.width.Width.{Width}
@@ -12,7 +12,6 @@ use Rattle.ir_core.specs.Counts.{greatest, call_counts}
 use Rattle.ir_core.specs.Valid.{LocalKind}
 use Rattle.ir_sound.specs.WellTyped.{Each}
 use Rattle.low_core.specs.declared.sel.SelAlu.{SelAlu}
-use Rattle.low_core.specs.declared.sel.SelFun.{SelFun}
 use Rattle.low_core.specs.declared.sel.SelOp.{SelOp}
 use Rattle.low_core.specs.declared.sel.SelOp.TheVariants.{Set, Copy, Alu, Div, Widen, Test, Pick, Load, Store, FrameAt, GlobalAt, FunctionAt, Call, CallAt, Outside}
 use Rattle.low_core.specs.declared.sel.Which.{Which}

@@ -1,5 +1,5 @@
 -- A function that is selected is shaped: parameters, blocks, and room in its frame.
-use Rattle.std.proofs.Common.{◌≡◌, ℕ, zero, suc, ◌+◌, ◌-◌, ◌*◌, ◌<◌, ◌≤◌, List, [], ◌∷◌, ◌++◌, length, map, Some, slice_get, refl, arith}
+use Rattle.std.proofs.Common.{◌≡◌, ℕ, zero, suc, ◌+◌, ◌-◌, ◌<◌, ◌≤◌, List, [], ◌∷◌, length, map, Some, slice_get, arith}
 use Rattle.std.specs.List.{flat_map}
 use Rattle.ir_core.specs.declared.limit.TheConstants.{MAX_FRAME}
 use Rattle.ir_core.specs.declared.module.Function.{Function}
@@ -11,7 +11,7 @@ use Rattle.ir_sound.proofs.RowLaws.{Each_both, Each_more}
 use Rattle.low_core.specs.declared.sel.SelBlock.{SelBlock}
 use Rattle.low_core.specs.declared.sel.SelOp.{SelOp}
 use Rattle.low_core.specs.SelParts.{ops_of}
-use Rattle.low_core.specs.SelShaped.{IsNoneOf, AreApart, IsBlockShaped, IsFunShaped}
+use Rattle.low_core.specs.SelShaped.{AreApart, IsBlockShaped, IsFunShaped}
 use Rattle.low_core.specs.SelWeights.{arguments_of, words_passed, sel_room}
 use Rattle.low_core.specs.Shaped.{IsModuleShaped}
 use Rattle.low_core.specs.Weights.{lean_own}

@@ -1,5 +1,5 @@
 -- What is known of each instruction and each end of a module that is shaped: types, mentions, and few arguments.
-use Rattle.std.proofs.Common.{◌≡◌, ℕ, suc, ◌≤◌, true, List, [], ◌∷◌, ◌++◌, length, map, Some, slice_get, refl, arith}
+use Rattle.std.proofs.Common.{◌≡◌, ℕ, suc, ◌≤◌, true, List, [], ◌∷◌, length, map, Some, slice_get, refl, arith}
 use Rattle.std.specs.List.{flat_map}
 use Rattle.ir_core.specs.declared.instruction.Inst.{Inst}
 use Rattle.ir_core.specs.declared.limit.TheConstants.{MAX_PARAMETERS}

@@ -1,12 +1,11 @@
 -- The program of registers that is selected for a shaped module keeps the rules of such programs.
-use Rattle.std.proofs.Common.{◌≡◌, ℕ, ◌+◌, ◌<◌, ◌≤◌, List, [], ◌∷◌, length, map, Some, slice_get, refl, ap, sym, ◌∙◌, arith}
+use Rattle.std.proofs.Common.{◌≡◌, ℕ, ◌<◌, List, [], ◌∷◌, length, map, Some, slice_get, refl, ap, sym, ◌∙◌, arith}
 use Rattle.std.specs.List.{All}
 use Rattle.ir_core.specs.declared.module.Function.{Function}
 use Rattle.ir_core.specs.declared.module.Module.{Module}
 use Rattle.ir_sound.specs.WellTyped.{Each}
 use Rattle.ir_sound.proofs.RowLaws.{Each_at, Each_more, length_map}
 use Rattle.low_core.specs.declared.sel.SelFun.{SelFun}
-use Rattle.low_core.specs.declared.sel.SelOp.{SelOp}
 use Rattle.low_core.specs.Plan.{NamesOneOf}
 use Rattle.low_core.specs.SelParts.{ops_of}
 use Rattle.low_core.specs.SelShaped.{IsFunShaped, IsSel}
@@ -18,7 +17,7 @@ use Rattle.isel.proofs.ShapeForms.{all_of, Fits}
 use Rattle.isel.proofs.ShapeCalls.{numbers_length, selected_at}
 use Rattle.isel.proofs.ShapeKnown.{each_there, blocks_known}
 use Rattle.isel.proofs.ShapeFunctions.{ops_fit, function_fits}
-use Rattle.isel.proofs.ShapeMain.{MainAt, main_at, main_there, main_selected}
+use Rattle.isel.proofs.ShapeMain.{main_at, main_there, main_selected}
 use Rattle.isel.proofs.ShapeWeighs.{module_weighs}
 
 -- each function has a block

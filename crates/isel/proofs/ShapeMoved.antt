@@ -1,5 +1,5 @@
 -- What moves a pointer along a path fits the function.
-use Rattle.std.proofs.Common.{◌≡◌, ℕ, ◌+◌, ◌^◌, ◌<◌, ◌≤◌, Bool, true, false, List, [], ◌∷◌, ◌++◌, length, map, Option, Some, None, refl, arith, slice_get}
+use Rattle.std.proofs.Common.{ℕ, ◌^◌, ◌<◌, ◌≤◌, Bool, true, false, List, [], ◌∷◌, ◌++◌, arith}
 use Rattle.std.specs.Prelude.{nat_eq, if◌then◌else◌}
 use Rattle.rd_num.specs.declared.width.Width.{Width}
 use Rattle.rd_num.specs.declared.width.Width.TheVariants.{W1, W8, W16, W32, W64}
@@ -12,7 +12,7 @@ use Rattle.ir_context.specs.declared.path.Path.{Path}
 use Rattle.ir_context.specs.declared.path.Stride.{Stride}
 use Rattle.low_core.specs.declared.sel.SelAlu.TheVariants.{Add, Mul}
 use Rattle.low_core.specs.declared.sel.SelOp.{SelOp}
-use Rattle.low_core.specs.declared.sel.SelOp.TheVariants.{Set, Copy, Alu, Widen}
+use Rattle.low_core.specs.declared.sel.SelOp.TheVariants.{Set, Copy, Alu}
 use Rattle.isel_rows.specs.Variables.{bytes_register, index_register, moved_register, register_read, width_read}
 use Rattle.isel_rows.specs.Brought.{Brought}
 use Rattle.isel_rows.specs.Rows.{constant_moved, stride_ops, strides_moved, moved_ops}

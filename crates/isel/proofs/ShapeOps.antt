@@ -1,12 +1,11 @@
 -- What is selected for an instruction or an end fits the function.
-use Rattle.std.proofs.Common.{◌≡◌, ℕ, ◌+◌, ◌^◌, ◌<◌, ◌≤◌, Bool, true, false, List, [], ◌∷◌, ◌++◌, length, map, Option, Some, None, refl, sym, ◌∙◌, subst, arith}
+use Rattle.std.proofs.Common.{◌≡◌, ℕ, ◌<◌, ◌≤◌, true, false, List, [], ◌∷◌, ◌++◌, map, Option, Some, None, refl, sym, ◌∙◌, subst, arith}
 use Rattle.std.specs.Prelude.{◌&&◌, nat_lt}
 use Rattle.std.specs.List.{list_all}
 use Rattle.std.proofs.lemmas.Bool.{and_parts, ltb-true}
 use Rattle.rd_num.specs.declared.width.Width.{Width}
 use Rattle.rd_num.specs.declared.width.Width.TheVariants.{W1, W8, W16, W32, W64}
 use Rattle.rd_num.specs.Number.{bits}
-use Rattle.ir_core.specs.declared.instruction.Arg.{Arg}
 use Rattle.ir_core.specs.declared.instruction.BinOp.{BinOp}
 use Rattle.ir_core.specs.declared.instruction.BinOp.TheVariants.{Add, Sub, Mul, Udiv, Sdiv, Urem, Srem, Shl, Lshr, Ashr, And, Or, Xor}
 use Rattle.ir_core.specs.declared.instruction.CastOp.{CastOp}
@@ -19,11 +18,10 @@ use Rattle.ir_core.specs.declared.limit.TheConstants.{MAX_PARAMETERS}
 use Rattle.ir_core.specs.declared.module.Function.{Function}
 use Rattle.ir_core.specs.declared.module.Module.{Module}
 use Rattle.ir_core.specs.declared.operand.Operand.{Operand}
-use Rattle.ir_core.specs.declared.ty.Ty.{Ty}
 use Rattle.ir_core.specs.Counts.{argument_counts}
 use Rattle.ir_core.specs.Kinds.{kind_of}
 use Rattle.ir_core.specs.Mentions.{OfType, of_operand, of_typed, of_args, of_callee, of_op}
-use Rattle.ir_core.specs.Typing.{Env, is_number, bin_fits, cast_fits, is_result, kinds_of, callee_fits, arg_fits, operand_fits, op_fits}
+use Rattle.ir_core.specs.Typing.{Env, bin_fits, cast_fits, is_result, kinds_of, callee_fits, arg_fits, operand_fits, op_fits}
 use Rattle.ir_core.specs.Valid.{named_locals}
 use Rattle.ir_sound.specs.WellTyped.{Each}
 use Rattle.ir_sound.proofs.RowLaws.{Each_both, Each_parts}
@@ -36,14 +34,14 @@ use Rattle.low_core.specs.declared.sel.SelOp.{SelOp}
 use Rattle.low_core.specs.declared.sel.SelOp.TheVariants as sel
 use Rattle.low_core.specs.SelShaped.{IsWide, IsAnyBelow}
 use Rattle.low_core.specs.Weights.{allocas_room}
-use Rattle.isel_rows.specs.Variables.{idle_register, width_of}
+use Rattle.isel_rows.specs.Variables.{width_of}
 use Rattle.isel_rows.specs.Brought.{Brought, operand_brought}
 use Rattle.isel_rows.specs.Calls.{register_into}
 use Rattle.isel_rows.specs.Rows.{register_or_idle, result_register, bin_op, cast_op, stored_width, load_ops, moved_ops, path_taken, ops_of}
 use Rattle.isel.proofs.Mentioned.{IsFine}
 use Rattle.isel.proofs.ShapeForms.{vs, count, most, Fits, IsBelow, copy_fits, alu_fits, div_fits, widen_fits, test_fits, pick_fits, load_fits, store_fits, frame_fits}
-use Rattle.isel.proofs.ShapeOrigins.{OriginStands, path_stands, taken_stands, args_stand}
-use Rattle.isel.proofs.ShapeBrought.{behind_variables, BroughtFits, operand_fits as operand_brings}
+use Rattle.isel.proofs.ShapeOrigins.{path_stands, taken_stands, args_stand}
+use Rattle.isel.proofs.ShapeBrought.{behind_variables, operand_fits as operand_brings}
 use Rattle.isel.proofs.ShapeMoved.{moved_fits}
 use Rattle.isel.proofs.ShapeCalls.{into_below, call_fit}
 

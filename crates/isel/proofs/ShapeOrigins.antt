@@ -1,5 +1,5 @@
 -- Where operands come from, in a module that is shaped: words, globals that there are, functions to which pointers may arise, and variables.
-use Rattle.std.proofs.Common.{◌≡◌, ℕ, ◌+◌, ◌%◌, ◌^◌, ◌<◌, Bool, true, false, List, [], ◌∷◌, ◌++◌, length, map, Option, Some, None, slice_get, refl, subst, arith}
+use Rattle.std.proofs.Common.{◌≡◌, ℕ, ◌+◌, ◌%◌, ◌^◌, ◌<◌, Bool, true, false, List, [], ◌∷◌, length, map, Option, Some, None, slice_get, refl, arith}
 use Rattle.std.specs.Prelude.{ℤ}
 use Rattle.rd_num.specs.declared.width.Width.{Width}
 use Rattle.rd_num.specs.declared.width.Width.TheVariants.{W1, W8, W16, W32, W64}
@@ -9,7 +9,6 @@ use Rattle.ir_core.specs.declared.kind.Kind.{Kind}
 use Rattle.ir_core.specs.declared.kind.Kind.TheVariants.{NoValue, Number, Pointer}
 use Rattle.ir_core.specs.declared.memory.Value.{Value}
 use Rattle.ir_core.specs.declared.memory.Value.TheVariants.{Num, Null, At, Fun}
-use Rattle.ir_core.specs.declared.module.Function.{Function}
 use Rattle.ir_core.specs.declared.module.GlobalVar.{GlobalVar}
 use Rattle.ir_core.specs.declared.module.Module.{Module}
 use Rattle.ir_core.specs.declared.operand.Index0.{Index0}
@@ -23,7 +22,7 @@ use Rattle.ir_core.specs.Operands.{global_number, function_number, named_value, 
 use Rattle.ir_core.specs.Valid.{LocalKind, named_locals}
 use Rattle.ir_core.proofs.Fits.{literal_fits}
 use Rattle.ir_sound.specs.WellTyped.{Each}
-use Rattle.ir_sound.proofs.RowLaws.{number_below, length_map, Each_both, Each_parts, Each_more}
+use Rattle.ir_sound.proofs.RowLaws.{number_below, length_map, Each_both, Each_parts}
 use Rattle.ir_context.specs.declared.origin.Origin.{Origin}
 use Rattle.ir_context.specs.declared.origin.Origin.TheVariants.{Known, Register, Unset, Malformed}
 use Rattle.ir_context.specs.declared.path.Path.{Path}
