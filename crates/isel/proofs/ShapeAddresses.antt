@@ -19,6 +19,7 @@ use Rattle.ir_core.specs.declared.operand.Operand.{Operand}
 use Rattle.ir_core.specs.declared.operand.Operand.TheVariants.{Int, Bool as Truth, Null as NullWord, Undef, Poison, Local as LocalName, Global, Const}
 use Rattle.ir_core.specs.declared.outer.Outer.{Outer}
 use Rattle.ir_core.specs.declared.outer.Outer.TheVariants as outside
+use Rattle.ir_core.specs.declared.ty.Ty.{Ty}
 use Rattle.ir_core.specs.Calls.{outer_of}
 use Rattle.ir_core.specs.Kinds.{kind_of}
 use Rattle.ir_core.specs.Operands.{function_number}
@@ -168,7 +169,8 @@ module _ (m : Module) (vs : List LocalKind) where
   named_none into args name (Some f) = arguments_call args (λ rs. sel.Call f into rs) 0 (λ rs. refl)
   named_none into args name None = outer_none into (outer_of name) args
 
-  pub call_calls : (env : Env) (into : Option ℕ) (ret : _) (callee : Operand) (args : List Arg) → callee_fits m env (kind_of ret) (kinds_of args) callee ≡ true → addresses (call_ops m vs into callee args) ≤ local_calls_at (Call ret callee args)
+  pub call_calls : (env : Env) (into : Option ℕ) (ret : Ty) (callee : Operand) (args : List Arg) → callee_fits m env (kind_of ret) (kinds_of args) callee ≡ true
+      → addresses (call_ops m vs into callee args) ≤ local_calls_at (Call ret callee args)
   call_calls env into ret (Global name) args typed = let a = named_none into args name (function_number m name) in omega (arith, a)
   call_calls env into ret (LocalName name) args typed =
       let a = arguments_call args (λ rs. sel.CallAt (register_read vs (register_of (number_of (named_locals vs) name))) into rs) 1 (λ rs. refl) in

@@ -15,7 +15,7 @@ use Rattle.ir_core.specs.Definitions.{label_names}
 use Rattle.ir_core.specs.Kinds.{kind_of}
 use Rattle.ir_core.specs.Mentions.{OfLabel, of_operand, of_end}
 use Rattle.ir_core.specs.Names.{same_name}
-use Rattle.ir_core.specs.Valid.{env_of}
+use Rattle.ir_core.specs.Valid.{LocalKind, env_of}
 use Rattle.ir_sound.specs.WellTyped.{Each}
 use Rattle.ir_sound.proofs.RowLaws.{Each_both, Each_parts, Each_more, length_map, number_below}
 use Rattle.ir_context.specs.Registers.{number_of}
@@ -35,7 +35,7 @@ use Rattle.isel.proofs.ShapeOps.{op_fit}
 use Rattle.isel.proofs.ShapeKnown.{InstKnown, BlockKnown}
 
 -- as many blocks
-pub blocks_length : (m : Module) (variables : List _) (labels : List (List ℕ)) (at : ℕ) (bs : List Block) → length (blocks_selected m variables labels at bs) ≡ length bs
+pub blocks_length : (m : Module) (variables : List LocalKind) (labels : List (List ℕ)) (at : ℕ) (bs : List Block) → length (blocks_selected m variables labels at bs) ≡ length bs
 blocks_length m variables labels at [] = refl
 blocks_length m variables labels at (b ∷ bs) = ap (λ n. suc n) (blocks_length m variables labels (at + allocas_in m.types b.insts) bs)
 

@@ -11,7 +11,7 @@ use Rattle.ir_core.specs.declared.module.Module.{Module}
 use Rattle.ir_core.specs.declared.operand.Operand.{Operand}
 use Rattle.ir_core.specs.Kinds.{kind_of}
 use Rattle.ir_core.specs.Mentions.{of_operand, of_typed, of_args}
-use Rattle.ir_core.specs.Valid.{named_locals}
+use Rattle.ir_core.specs.Valid.{LocalKind, named_locals}
 use Rattle.ir_sound.specs.WellTyped.{Each}
 use Rattle.ir_sound.proofs.RowLaws.{Each_both, Each_parts}
 use Rattle.ir_context.specs.declared.origin.Origin.{Origin}
@@ -100,6 +100,6 @@ module _ (m : Module) (fn : Function) where
       }
 
 -- as many registers as arguments
-pub args_count : (m : Module) (variables : List _) (k : ℕ) (args : List Arg) → length (args_brought m variables k args).registers ≡ length args
+pub args_count : (m : Module) (variables : List LocalKind) (k : ℕ) (args : List Arg) → length (args_brought m variables k args).registers ≡ length args
 args_count m variables k [] = refl
 args_count m variables k (a ∷ args) = let others = args_count m variables (k + 1) args in omega (arith, others)

@@ -158,13 +158,13 @@ module _ (m : Module) (fn : Function) where
       of_function (Some g) is typed =
           arguments_fit args (λ rs. Call f into rs) few fine
           (λ rs same below. call_fits m fn f into rs
-              (record { fn = function_selected m g; stands = selected_at m f g is; params = numbers_length 0 (length g.params) ∙ called_length g ret args typed ∙ sym same })
-              to below (omega (arith, few, same)) (omega (arith, limit, same)))
+          (record { fn = function_selected m g; stands = selected_at m f g is; params = numbers_length 0 (length g.params) ∙ called_length g ret args typed ∙ sym same })
+          to below (omega (arith, few, same)) (omega (arith, limit, same)))
       of_function None is typed = let x = item_at m.functions f (there f refl) in none_is x.0 (sym is ∙ x.1)
 
   -- by what is called
-  pub call_fit : (env : Env) (into : Option (List ℕ)) (ret : Kind) (callee : Operand) (args : List Arg) → callee_fits m env ret (kinds_of args) callee ≡ true → length args ≤ most m fn → length args ≤ MAX_PARAMETERS → Each (IsFine m) (of_args args)
-      → Each (Fits m fn) (call_ops m (vs m fn) (register_into (vs m fn) into) callee args)
+  pub call_fit : (env : Env) (into : Option (List ℕ)) (ret : Kind) (callee : Operand) (args : List Arg) → callee_fits m env ret (kinds_of args) callee ≡ true → length args ≤ most m fn → length args ≤ MAX_PARAMETERS
+      → Each (IsFine m) (of_args args) → Each (Fits m fn) (call_ops m (vs m fn) (register_into (vs m fn) into) callee args)
   call_fit env into ret (Global name) args typed few limit fine =
       let test : Function → Bool = λ f. same_name f.name name in
       named_fit (register_into (vs m fn) into) ret args name (function_number m name)
@@ -174,7 +174,8 @@ module _ (m : Module) (fn : Function) where
       let number : Option ℕ = number_of (named_locals (vs m fn)) name in
       let source : ℕ = register_read (vs m fn) (register_of number) in
       arguments_fit args (λ rs. CallAt source (register_into (vs m fn) into) rs) few fine
-      (λ rs same below. address_fits m fn source (register_into (vs m fn) into) rs (read_below m fn (register_of number) (register_stands m (vs m fn) number (variable_below m (vs m fn) name))) (into_below into) below (omega (arith, few, same)) (omega (arith, limit, same)))
+      (λ rs same below. address_fits m fn source (register_into (vs m fn) into) rs (read_below m fn (register_of number) (register_stands m (vs m fn) number (variable_below m (vs m fn) name))) (into_below into) below
+      (omega (arith, few, same)) (omega (arith, limit, same)))
   call_fit env into ret (Int n) args typed few limit fine = not_true typed
   call_fit env into ret (Truth b) args typed few limit fine = not_true typed
   call_fit env into ret NullWord args typed few limit fine = not_true typed

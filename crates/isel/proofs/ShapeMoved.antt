@@ -60,11 +60,12 @@ module _ (m : Module) (fn : Function) where
   stride_fits from s first stands =
       let bytes = bytes_register (vs m fn) in
       let index = index_register (vs m fn) in
-      let moved = moved_register (vs m fn) in (
-        widen_fits m fn true (width_read (vs m fn) s.index) W64 index (register_read (vs m fn) s.index) (word_bits (width_read (vs m fn) s.index)) index_below (read_below m fn s.index stands.0), (
-        set_fits m fn bytes s.size bytes_below stands.1, (
-        alu_fits m fn Mul W64 index index bytes tt index_below index_below bytes_below, (
-        alu_fits m fn Add W64 moved from index tt moved_below first index_below, tt))))
+      let moved = moved_register (vs m fn) in
+      let widened = widen_fits m fn true (width_read (vs m fn) s.index) W64 index (register_read (vs m fn) s.index) (word_bits (width_read (vs m fn) s.index)) index_below (read_below m fn s.index stands.0) in
+      let size = set_fits m fn bytes s.size bytes_below stands.1 in
+      let times = alu_fits m fn Mul W64 index index bytes tt index_below index_below bytes_below in
+      let sum = alu_fits m fn Add W64 moved from index tt moved_below first index_below in
+      (widened, (size, (times, (sum, tt))))
 
   strides_fit : (from : ℕ) (ss : List Stride) → Below from → Each (StrideStands m (vs m fn)) ss → BroughtFits m fn (strides_moved (vs m fn) from ss)
   strides_fit from [] first stand = record { ops = tt; register = first }

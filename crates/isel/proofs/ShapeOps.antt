@@ -144,16 +144,20 @@ module _ (m : Module) (fn : Function) where
       let q = Each_parts (IsFine m) (of_typed ty a) (of_operand b) fine in
       let last : SelOp = bin_op op (width_of (kind_of ty)) (result_register (vs m fn) into) (At 0 (kind_of ty) a).register (At 1 (kind_of ty) b).register in
       one_fit 0 (kind_of ty) a ((At 1 (kind_of ty) b).ops ++ last ∷ []) (omega arith) q.0.1
-      (one_fit 1 (kind_of ty) b (last ∷ []) (omega arith) q.1
-      (bin_op_fits op (kind_of ty) (result_register (vs m fn) into) (At 0 (kind_of ty) a).register (At 1 (kind_of ty) b).register p.0 (result_below into)
-          (register_fits 0 (kind_of ty) a (omega arith) q.0.1) (register_fits 1 (kind_of ty) b (omega arith) q.1), tt))
+      (one_fit 1 (kind_of ty) b (last ∷ []) (omega arith) q.1 (
+        bin_op_fits op (kind_of ty) (result_register (vs m fn) into) (At 0 (kind_of ty) a).register (At 1 (kind_of ty) b).register p.0 (result_below into)
+            (register_fits 0 (kind_of ty) a (omega arith) q.0.1) (register_fits 1 (kind_of ty) b (omega arith) q.1),
+        tt,
+      ))
   op_fit env at into (Compare pred ty a b) typed fine few room =
       let q = Each_parts (IsFine m) (of_typed ty a) (of_operand b) fine in
       let last : SelOp = sel.Test pred (width_of (kind_of ty)) (result_register (vs m fn) into) (At 0 (kind_of ty) a).register (At 1 (kind_of ty) b).register in
       one_fit 0 (kind_of ty) a ((At 1 (kind_of ty) b).ops ++ last ∷ []) (omega arith) q.0.1
-      (one_fit 1 (kind_of ty) b (last ∷ []) (omega arith) q.1
-      (test_fits m fn pred (width_of (kind_of ty)) (result_register (vs m fn) into) (At 0 (kind_of ty) a).register (At 1 (kind_of ty) b).register (result_below into)
-          (register_fits 0 (kind_of ty) a (omega arith) q.0.1) (register_fits 1 (kind_of ty) b (omega arith) q.1), tt))
+      (one_fit 1 (kind_of ty) b (last ∷ []) (omega arith) q.1 (
+        test_fits m fn pred (width_of (kind_of ty)) (result_register (vs m fn) into) (At 0 (kind_of ty) a).register (At 1 (kind_of ty) b).register (result_below into)
+            (register_fits 0 (kind_of ty) a (omega arith) q.0.1) (register_fits 1 (kind_of ty) b (omega arith) q.1),
+        tt,
+      ))
   op_fit env at into (Cast op from a to) typed fine few room =
       let p = and_parts (cast_fits op (kind_of from) (kind_of to)) (operand_fits m env (kind_of from) a) typed in
       let q = Each_parts (IsFine m) (of_typed from a) (OfType to ∷ []) fine in
@@ -166,9 +170,11 @@ module _ (m : Module) (fn : Function) where
       let last : SelOp = sel.Pick (result_register (vs m fn) into) (At 0 (Number W1) condition).register (At 1 (kind_of ty) a).register (At 2 (kind_of ty2) b).register in
       one_fit 0 (Number W1) condition ((At 1 (kind_of ty) a).ops ++ ((At 2 (kind_of ty2) b).ops ++ last ∷ [])) (omega arith) q.0
       (one_fit 1 (kind_of ty) a ((At 2 (kind_of ty2) b).ops ++ last ∷ []) (omega arith) r.0.1
-      (one_fit 2 (kind_of ty2) b (last ∷ []) (omega arith) r.1.1
-      (pick_fits m fn (result_register (vs m fn) into) (At 0 (Number W1) condition).register (At 1 (kind_of ty) a).register (At 2 (kind_of ty2) b).register (result_below into)
-          (register_fits 0 (Number W1) condition (omega arith) q.0) (register_fits 1 (kind_of ty) a (omega arith) r.0.1) (register_fits 2 (kind_of ty2) b (omega arith) r.1.1), tt)))
+      (one_fit 2 (kind_of ty2) b (last ∷ []) (omega arith) r.1.1 (
+        pick_fits m fn (result_register (vs m fn) into) (At 0 (Number W1) condition).register (At 1 (kind_of ty) a).register (At 2 (kind_of ty2) b).register (result_below into)
+            (register_fits 0 (Number W1) condition (omega arith) q.0) (register_fits 1 (kind_of ty) a (omega arith) r.0.1) (register_fits 2 (kind_of ty2) b (omega arith) r.1.1),
+        tt,
+      )))
   op_fit env at into (Freeze ty a) typed fine few room =
       let source : ℕ = (At 0 (kind_of ty) a).register in
       one_fit 0 (kind_of ty) a (sel.Copy (result_register (vs m fn) into) source ∷ []) (omega arith) fine.1
@@ -183,16 +189,18 @@ module _ (m : Module) (fn : Function) where
       let width : Width = stored_width (width_of (kind_of ty)) in
       let last : SelOp = sel.Store width (At 1 Pointer p).register (At 0 (kind_of ty) a).register in
       one_fit 0 (kind_of ty) a ((At 1 Pointer p).ops ++ last ∷ []) (omega arith) q.0.1
-      (one_fit 1 Pointer p (last ∷ []) (omega arith) q.1
-      (store_fits m fn width (At 1 Pointer p).register (At 0 (kind_of ty) a).register (stored_wide (width_of (kind_of ty)))
-          (register_fits 1 Pointer p (omega arith) q.1) (register_fits 0 (kind_of ty) a (omega arith) q.0.1), tt))
+      (one_fit 1 Pointer p (last ∷ []) (omega arith) q.1 (
+        store_fits m fn width (At 1 Pointer p).register (At 0 (kind_of ty) a).register (stored_wide (width_of (kind_of ty)))
+            (register_fits 1 Pointer p (omega arith) q.1) (register_fits 0 (kind_of ty) a (omega arith) q.0.1),
+        tt,
+      ))
   op_fit env at into (Gep ty p indices) typed fine few room =
       let q = Each_parts (IsFine m) (of_typed ty p) (of_args indices) fine in
       let os : List Origin = map (arg_origin m (named_locals (vs m fn))) indices in
       let source : ℕ = (At 0 Pointer p).register in
       Each_both (Fits m fn) (At 0 Pointer p).ops (moved_ops (vs m fn) (result_register (vs m fn) into) (path_taken (path_of m.types ty os)) source) (operand_brings m fn 0 Pointer p (omega arith) q.0.1).ops
       (moved_fits m fn (result_register (vs m fn) into) (path_taken (path_of m.types ty os)) source (result_below into)
-          (taken_stands m (vs m fn) (path_of m.types ty os) (λ r e. path_stands m (vs m fn) ty os r (args_stand m (vs m fn) indices q.1) e)) (register_fits 0 Pointer p (omega arith) q.0.1))
+      (taken_stands m (vs m fn) (path_of m.types ty os) (λ r e. path_stands m (vs m fn) ty os r (args_stand m (vs m fn) indices q.1) e)) (register_fits 0 Pointer p (omega arith) q.0.1))
   op_fit env at into (Call ret callee args) typed fine few room =
       let p = and_parts (is_result ret) (callee_fits m env (kind_of ret) (kinds_of args) callee && list_all (arg_fits m env) args) typed in
       let r = and_parts (callee_fits m env (kind_of ret) (kinds_of args) callee) (list_all (arg_fits m env) args) p.1 in

@@ -23,6 +23,7 @@ use Rattle.ir_core.specs.declared.operand.Operand.{Operand}
 use Rattle.ir_core.specs.declared.operand.Operand.TheVariants.{Int, Bool as Truth, Null as NullWord, Undef, Poison, Local as LocalName, Global, Const}
 use Rattle.ir_core.specs.declared.outer.Outer.{Outer}
 use Rattle.ir_core.specs.declared.outer.Outer.TheVariants as outside
+use Rattle.ir_core.specs.declared.ty.Ty.{Ty}
 use Rattle.ir_core.specs.Calls.{outer_of}
 use Rattle.ir_core.specs.Counts.{alloca_bytes}
 use Rattle.ir_core.specs.Definitions.{label_names}
@@ -116,7 +117,7 @@ module _ (m : Module) (vs : List LocalKind) where
   taken_parts (Some p) n go = go p refl
   taken_parts None n go = omega arith
 
-  gep_weighs : (r from : ℕ) (ty : _) (indices : List Arg) → ops_weight (moved_ops vs r (path_taken (path_of m.types ty (map (arg_origin m (named_locals vs)) indices))) from) ≤ 24 + indices_weight indices
+  gep_weighs : (r from : ℕ) (ty : Ty) (indices : List Arg) → ops_weight (moved_ops vs r (path_taken (path_of m.types ty (map (arg_origin m (named_locals vs)) indices))) from) ≤ 24 + indices_weight indices
   gep_weighs r from ty indices =
       let os : List Origin = map (arg_origin m (named_locals vs)) indices in
       let few = taken_parts (path_of m.types ty os) (length os) (λ q e. path_has (λ o. Unit {0}) (λ n p. parts_in p ≤ n) (omega arith) farther_parts stride_parts m.types ty os q (nothing_asked os) e) in

@@ -1,6 +1,6 @@
 -- What operands, arguments and pointers that move come to weighs no more than they do.
 use Rattle.std.proofs.Common.{◌≡◌, ℕ, zero, suc, ◌+◌, ◌*◌, ◌%◌, ◌^◌, ◌<◌, ◌≤◌, Bool, true, false, List, [], ◌∷◌, ◌++◌, length, map, take, Option, Some, None, arith}
-use Rattle.std.specs.Prelude.{nat_eq, if◌then◌else◌}
+use Rattle.std.specs.Prelude.{ℤ, nat_eq, if◌then◌else◌}
 use Rattle.std.specs.List.{sum_by}
 use Rattle.std.proofs.lemmas.List.{length-append}
 use Rattle.std.proofs.lemmas.List.Sums.{sum_by-cons, sum_by-append}
@@ -12,6 +12,7 @@ use Rattle.ir_core.specs.declared.module.Module.{Module}
 use Rattle.ir_core.specs.declared.operand.Index0.{Index0}
 use Rattle.ir_core.specs.declared.operand.Operand.{Operand}
 use Rattle.ir_core.specs.declared.operand.Operand.TheVariants.{Int, Bool as Truth, Null as NullWord, Undef, Poison, Local as LocalName, Global, Const}
+use Rattle.ir_core.specs.declared.ty.Ty.{Ty}
 use Rattle.ir_core.specs.Kinds.{kind_of, truth, zero_of}
 use Rattle.ir_core.specs.Operands.{global_number, function_number, named_value, int_value}
 use Rattle.ir_core.specs.Valid.{LocalKind, named_locals}
@@ -47,7 +48,7 @@ module _ (vs : List LocalKind) where
       of_test true = omega arith
       of_test false = omega arith
 
-  int_weighs : (r : ℕ) (kind : Kind) (n : _) → ops_weight (brought vs r (known (int_value kind n))).ops ≤ 20
+  int_weighs : (r : ℕ) (kind : Kind) (n : ℤ) → ops_weight (brought vs r (known (int_value kind n))).ops ≤ 20
   int_weighs r NoValue n = omega arith
   int_weighs r (Number w) n = omega arith
   int_weighs r Pointer n = omega arith
@@ -84,7 +85,7 @@ module _ (vs : List LocalKind) where
   start_weighs r (Some g) = omega arith
   start_weighs r None = omega arith
 
-  constant_weighs : (m : Module) (r : ℕ) (g : Option ℕ) (source : _) (is : List Index0) → ops_weight (brought vs r (place_of g (path_of m.types source (map index_origin is)))).ops ≤ 20 + 64 * length is
+  constant_weighs : (m : Module) (r : ℕ) (g : Option ℕ) (source : Ty) (is : List Index0) → ops_weight (brought vs r (place_of g (path_of m.types source (map index_origin is)))).ops ≤ 20 + 64 * length is
   constant_weighs m r g source [] = let a = start_weighs r g in omega arith
   constant_weighs m r g source (i ∷ is) = let a = far_weighs r g (path_of m.types source (map index_origin (i ∷ is))) in omega arith
 
