@@ -49,6 +49,7 @@ use Rattle.isel_rows.specs.Rows.{bin_op, cast_op, load_ops, constant_moved, stri
 abbrev pub addresses : List SelOp → ℕ
 addresses ops = sum_by is_call_by_address ops
 
+-- of two rows
 pub both : (xs ys : List SelOp) → addresses (xs ++ ys) ≡ addresses xs + addresses ys
 both xs ys = sum_by-append is_call_by_address xs ys
 
@@ -64,12 +65,14 @@ module _ (m : Module) (vs : List LocalKind) where
       of_test false = refl
   value_none r (Fun f) = refl
 
+  -- nor in what brings an origin
   pub brought_none : (r : ℕ) (o : Origin) → addresses (brought vs r o).ops ≡ 0
   brought_none r (Known v) = value_none r v
   brought_none r (Register k) = refl
   brought_none r Unset = refl
   brought_none r Malformed = refl
 
+  -- nor in what brings arguments
   args_none : (k : ℕ) (args : List Arg) → addresses (args_brought m vs k args).ops ≡ 0
   args_none k [] = refl
   args_none k (a ∷ args) =
@@ -78,6 +81,7 @@ module _ (m : Module) (vs : List LocalKind) where
       let e = both (brought vs (argument_register vs k) (arg_origin m (named_locals vs) a)).ops (args_brought m vs (k + 1) args).ops in
       omega (arith, first, others, e)
 
+  -- nor in what stands in front of the others for an operand
   pub one_none : (k : ℕ) (kind : Kind) (a : Operand) (rest : List SelOp) → addresses ((operand_brought m vs k kind a).ops ++ rest) ≡ addresses rest
   one_none k kind a rest =
       let e = both (operand_brought m vs k kind a).ops rest in
@@ -97,6 +101,7 @@ module _ (m : Module) (vs : List LocalKind) where
       of_test true = refl
       of_test false = refl
 
+  -- by indices that are read
   strides_none : (from : ℕ) (ss : List Stride) → addresses (strides_moved vs from ss).ops ≡ 0
   strides_none from [] = refl
   strides_none from (s ∷ ss) =
@@ -104,6 +109,7 @@ module _ (m : Module) (vs : List LocalKind) where
       let e = both (stride_ops vs from s) (strides_moved vs (moved_register vs) ss).ops in
       omega (arith, others, e)
 
+  -- along a whole path
   pub moved_none : (r : ℕ) (p : Path) (from : ℕ) → addresses (moved_ops vs r p from) ≡ 0
   moved_none r p from =
       let first = constant_moved vs from p.constant in
@@ -131,11 +137,13 @@ module _ (m : Module) (vs : List LocalKind) where
   bin_none Or w r s t = refl
   bin_none Xor w r s t = refl
 
+  -- a cast
   pub cast_none : (op : CastOp) (from to : Width) (r s : ℕ) → is_call_by_address (cast_op op from to r s) ≡ 0
   cast_none Trunc from to r s = refl
   cast_none Zext from to r s = refl
   cast_none Sext from to r s = refl
 
+  -- a load
   pub load_none : (w : Width) (r s : ℕ) → addresses (load_ops w r s) ≡ 0
   load_none W1 r s = refl
   load_none W8 r s = refl
@@ -152,9 +160,11 @@ module _ (m : Module) (vs : List LocalKind) where
       let c = is b.registers in
       omega (arith, e, a, c)
 
+  -- a function outside is called by no address
   outside_none : (into : Option ℕ) (which : Which) (args : List Arg) → addresses (outside_ops m vs into which args) ≡ 0
   outside_none into which args = arguments_call (take (arity which) args) (λ rs. sel.Outside which into rs) 0 (λ rs. refl)
 
+  -- whichever it is
   outer_none : (into : Option ℕ) (o : Outer) (args : List Arg) → addresses (outer_ops m vs into o args) ≡ 0
   outer_none into outside.Putchar args = outside_none into Putchar args
   outer_none into outside.Getchar args = outside_none into Getchar args
@@ -165,10 +175,12 @@ module _ (m : Module) (vs : List LocalKind) where
   outer_none into outside.Lifetime args = refl
   outer_none into outside.NoOuter args = refl
 
+  -- nor is what has a name
   named_none : (into : Option ℕ) (args : List Arg) (name : List ℕ) (o : Option ℕ) → addresses (named_ops m vs into args name o) ≡ 0
   named_none into args name (Some f) = arguments_call args (λ rs. sel.Call f into rs) 0 (λ rs. refl)
   named_none into args name None = outer_none into (outer_of name) args
 
+  -- so a call by address is a call of what a local holds
   pub call_calls : (env : Env) (into : Option ℕ) (ret : Ty) (callee : Operand) (args : List Arg) → callee_fits m env (kind_of ret) (kinds_of args) callee ≡ true
       → addresses (call_ops m vs into callee args) ≤ local_calls_at (Call ret callee args)
   call_calls env into ret (Global name) args typed = let a = named_none into args name (function_number m name) in omega (arith, a)

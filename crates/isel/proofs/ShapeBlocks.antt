@@ -44,10 +44,12 @@ module _ (m : Module) (fn : Function) (some_block : 0 < length fn.blocks) where
   IsTarget : ℕ → Type 0
   IsTarget n = n < length (function_selected m fn).blocks
 
+  -- a number that is found, or that of the first block
   number_fits : (o : Option ℕ) → ((k : ℕ) → o ≡ Some k → k < length fn.blocks) → number_or_first o < length (function_selected m fn).blocks
   number_fits (Some k) go = let l = blocks_length m (variables_of fn) (label_names fn) 0 fn.blocks in let low = go k refl in omega (arith, l, low)
   number_fits None go = let l = blocks_length m (variables_of fn) (label_names fn) 0 fn.blocks in omega (arith, l, some_block)
 
+  -- the number of a label
   target_fits : (to : List ℕ) → block_number (label_names fn) to < length (function_selected m fn).blocks
   target_fits to = number_fits (number_of (label_names fn) to) (λ k e.
       let low = number_below (λ (n : List ℕ). same_name n to) (label_names fn) k e in
@@ -60,6 +62,7 @@ module _ (m : Module) (fn : Function) (some_block : 0 < length fn.blocks) where
     pub reads : Each (IsBelow m fn) (end_reads (closing_of m (vs m fn) (label_names fn) end).end)
     pub targets : Each (λ n. n < length (function_selected m fn).blocks) (leads_to (closing_of m (vs m fn) (label_names fn) end).end)
 
+  -- each end fits
   end_fits : (end : Term) → Each (IsFine m) (of_end end) → EndFits end
   end_fits Ret fine = record { ops = tt; reads = tt; targets = tt }
   end_fits (RetValue ty a) fine = let b = operand_fits m fn 0 (kind_of ty) a (omega arith) fine.1 in record { ops = b.ops; reads = (b.register, tt); targets = tt }
@@ -86,6 +89,7 @@ module _ (m : Module) (fn : Function) (some_block : 0 < length fn.blocks) where
     pub shaped : IsBlockShaped (module_selected m) (function_selected m fn) b
     pub ops : Each (Fits m fn) b.ops
 
+  -- each block fits
   block_fits : (at : ℕ) (b : Block) → BlockKnown m fn b → at + allocas_in m.types b.insts ≤ allocas_room m.types fn → BlockFits (block_selected m (vs m fn) (label_names fn) at b)
   block_fits at b known room =
       let end = end_fits b.end known.fine in
@@ -102,6 +106,7 @@ module _ (m : Module) (fn : Function) (some_block : 0 < length fn.blocks) where
         ops = ops;
       }
 
+  -- blocks behind so many bytes of allocas
   blocks_fit : (at : ℕ) (bs : List Block) → Each (BlockKnown m fn) bs → at + sum_by (λ (b : Block). allocas_in m.types b.insts) bs ≤ allocas_room m.types fn → Each BlockFits (blocks_selected m (vs m fn) (label_names fn) at bs)
   blocks_fit at [] known room = tt
   blocks_fit at (b ∷ bs) known room =

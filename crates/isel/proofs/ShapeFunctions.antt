@@ -35,10 +35,12 @@ numbers_below : (end first n : ℕ) → first + n ≤ end → Each (λ r. r < en
 numbers_below end first zero room = tt
 numbers_below end first (suc n) room = ((let z : first < end = omega (arith, room) in z), numbers_below end (first + 1) n (omega (arith, room)))
 
+-- those that begin past a number differ from it
 numbers_past : (k first n : ℕ) → k < first → Each (λ r. r ≡ k → ⊥) (numbers_from first n)
 numbers_past k first zero less = tt
 numbers_past k first (suc n) less = ((λ e. omega (arith, e, less)), numbers_past k (first + 1) n (omega (arith, less)))
 
+-- so no number stands twice
 numbers_apart : (first n : ℕ) → AreApart (numbers_from first n)
 numbers_apart first zero = tt
 numbers_apart first (suc n) = (all_of (λ r. r ≡ first → ⊥) (numbers_from (first + 1) n) (numbers_past first (first + 1) n (omega arith)), numbers_apart (first + 1) n)

@@ -42,6 +42,7 @@ use Rattle.isel.proofs.ShapeReturns.{sums_below}
 use Rattle.isel.proofs.ShapeAddresses.{addresses, both, brought_none, one_none, moved_none, bin_none, cast_none, load_none, call_calls}
 
 module _ (m : Module) (vs : List LocalKind) where
+  -- an operand, the k-th of its instruction
   abbrev At : ℕ → Kind → Operand → Brought
   At k kind a = operand_brought m vs k kind a
 
@@ -115,6 +116,7 @@ module _ (m : Module) (fn : Function) where
       let s = sum_by-cons (λ (x : Inst). local_calls_at x.op) i is in
       omega (arith, first, others, e, s)
 
+  -- blocks behind so many bytes of allocas
   blocks_call : (at : ℕ) (bs : List Block) → Each (BlockKnown m fn) bs
       → sum_by (λ (b : SelBlock). addresses b.ops) (blocks_selected m vs (label_names fn) at bs) ≤ sum_by (λ (b : Block). sum_by (λ (i : Inst). local_calls_at i.op) b.insts) bs
   blocks_call at [] known = omega arith

@@ -33,22 +33,27 @@ each_made P f (x ∷ xs) all = (all.0, each_made P f xs all.1)
 pub functions_many : (m : Module) → length (module_selected m).functions ≡ length m.functions
 functions_many m = length_map (function_selected m) m.functions
 
+-- a function as it is selected
 pub record SelectedAs (m : Module) (number : ℕ) (fn : Function) : Type 0 where
   pub selected : SelFun
   pub there : slice_get (module_selected m).functions number ≡ Some selected
   pub params : length selected.params ≡ length fn.params
 
+-- each function is
 pub function_as : (m : Module) (number : ℕ) (fn : Function) → slice_get m.functions number ≡ Some fn → SelectedAs m number fn
 function_as m number fn at = record { selected = function_selected m fn; there = selected_at m number fn at; params = numbers_length 0 (length fn.params) }
 
+-- the numbers of parameters in a row
 params_as : (m : Module) (fs : List Function) → map (λ (f : SelFun). length f.params) (map (function_selected m) fs) ≡ map (λ (f : Function). length f.params) fs
 params_as m [] = refl
 params_as m (f ∷ fs) = ap (λ n. n ∷ map (λ (g : SelFun). length g.params) (map (function_selected m) fs)) (numbers_length 0 (length f.params)) ∙ ap (λ ns. length f.params ∷ ns) (params_as m fs)
 
+-- those of a whole module
 pub parameters_as : (m : Module) → map (λ (f : SelFun). length f.params) (module_selected m).functions ≡ map (λ (f : Function). length f.params) m.functions
 parameters_as m = params_as m m.functions
 
 module _ (m : Module) (shaped : IsModuleShaped lean_own m) (blocks : HasBlocks m) where
+  -- a function at a place has a block
   some_block : (number : ℕ) (fn : Function) → slice_get m.functions number ≡ Some fn → 0 < length fn.blocks
   some_block number fn at = Each_at (λ (f : Function). 0 < length f.blocks) m.functions number fn blocks at
 

@@ -29,6 +29,7 @@ word_bits W32 = omega arith
 word_bits W64 = omega arith
 
 module _ (m : Module) (fn : Function) where
+  -- a register of the function
   abbrev Below : ℕ → Type 0
   Below r = IsBelow m fn r
 
@@ -67,6 +68,7 @@ module _ (m : Module) (fn : Function) where
       let sum = alu_fits m fn Add W64 moved from index tt moved_below first index_below in
       (widened, (size, (times, (sum, tt))))
 
+  -- by indices one after another
   strides_fit : (from : ℕ) (ss : List Stride) → Below from → Each (StrideStands m (vs m fn)) ss → BroughtFits m fn (strides_moved (vs m fn) from ss)
   strides_fit from [] first stand = record { ops = tt; register = first }
   strides_fit from (s ∷ ss) first stand =

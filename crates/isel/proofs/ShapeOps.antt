@@ -78,6 +78,7 @@ below_bits : (v w : Width) → nat_lt (bits v) (bits w) ≡ true → bits v ≤ 
 below_bits v w less = let a = ltb-true (bits v) (bits w) less in omega (arith, a)
 
 module _ (m : Module) (fn : Function) where
+  -- a register of the function
   abbrev Below : ℕ → Type 0
   Below r = IsBelow m fn r
 
@@ -97,17 +98,20 @@ module _ (m : Module) (fn : Function) where
   plain_fits Or w r s t typed to first second = alu_fits m fn alu.Or w r s t tt to first second
   plain_fits Xor w r s t typed to first second = alu_fits m fn alu.Xor w r s t tt to first second
 
+  -- an operation on two numbers
   bin_op_fits : (op : BinOp) (kind : Kind) (r s t : ℕ) → bin_fits op kind ≡ true → Below r → Below s → Below t → Fits m fn (bin_op op (width_of kind) r s t)
   bin_op_fits op kind r s t typed to first second =
       let n = bin_number op kind typed in
       subst (λ k. Fits m fn (bin_op op (width_of k) r s t)) (sym n.1) (plain_fits op n.0 r s t (subst (λ k. bin_fits op k ≡ true) n.1 typed) to first second)
 
+  -- a cast
   cast_op_fits : (op : CastOp) (from into : Kind) (r s : ℕ) → cast_fits op from into ≡ true → Below r → Below s → Fits m fn (cast_op op (width_of from) (width_of into) r s)
   cast_op_fits Trunc (Number v) (Number w) r s typed to first = widen_fits m fn false w w r s (omega arith) to first
   cast_op_fits Zext (Number v) (Number w) r s typed to first = widen_fits m fn false v w r s (below_bits v w typed) to first
   cast_op_fits Sext (Number v) (Number w) r s typed to first = widen_fits m fn true v w r s (below_bits v w typed) to first
   cast_op_fits op from into r s typed to first = not_true typed
 
+  -- a load
   load_ops_fit : (w : Width) (r s : ℕ) → Below r → Below s → Each (Fits m fn) (load_ops w r s)
   load_ops_fit W1 r s to first = (load_fits m fn W8 r s tt to first, (widen_fits m fn false W1 W8 r r (omega arith) to to, tt))
   load_ops_fit W8 r s to first = (load_fits m fn W8 r s tt to first, tt)
@@ -127,9 +131,11 @@ module _ (m : Module) (fn : Function) where
   abbrev At : ℕ → Kind → Operand → Brought
   At k kind a = operand_brought m (vs m fn) k kind a
 
+  -- an operand in front of what fits
   one_fit : (k : ℕ) (kind : Kind) (a : Operand) (rest : List SelOp) → k < 3 → Each (IsFine m) (of_operand a) → Each (Fits m fn) rest → Each (Fits m fn) ((At k kind a).ops ++ rest)
   one_fit k kind a rest few fine others = Each_both (Fits m fn) (At k kind a).ops rest (operand_brings m fn k kind a few fine).ops others
 
+  -- and its register
   register_fits : (k : ℕ) (kind : Kind) (a : Operand) → k < 3 → Each (IsFine m) (of_operand a) → Below (At k kind a).register
   register_fits k kind a few fine = (operand_brings m fn k kind a few fine).register
 

@@ -56,16 +56,19 @@ move_plain (Keep op) keeps = kept_plain op keeps
     kept_plain op kept = refl
 move_plain (Copy ty a) keeps = refl
 
+-- nor is any of a row
 moves_plain : (xs : List Move) → list_all (λ (x : Move). keeps_moves x.op) xs ≡ true → no_phi (map inst_of xs) ≡ true
 moves_plain [] keep = refl
 moves_plain (x ∷ xs) keep = let p = and_parts (keeps_moves x.op) (list_all (λ (y : Move). keeps_moves y.op) xs) keep in and_from _ _ (move_plain x.op p.0) (moves_plain xs p.1)
 
+-- nor any of a body
 chunks_plain : (cs : List Chunk) → list_all (λ (c : Chunk). list_all (λ (x : Move). keeps_moves x.op) c.moves) cs ≡ true → list_all (λ (b : Block). no_phi b.insts) (map block_of cs) ≡ true
 chunks_plain [] keep = refl
 chunks_plain (c ∷ cs) keep =
     let p = and_parts (list_all (λ (x : Move). keeps_moves x.op) c.moves) (list_all (λ (d : Chunk). list_all (λ (x : Move). keeps_moves x.op) d.moves) cs) keep in
     and_from _ _ (moves_plain c.moves p.0) (chunks_plain cs p.1)
 
+-- ends that are no switch
 ends_lean : (cs : List Chunk) → list_all (λ (c : Chunk). is_lean_end c.end) cs ≡ true → list_all (λ (b : Block). is_lean_end b.end) (map block_of cs) ≡ true
 ends_lean [] lean = refl
 ends_lean (c ∷ cs) lean = let p = and_parts (is_lean_end c.end) (list_all (λ (d : Chunk). is_lean_end d.end) cs) lean in and_from _ _ p.0 (ends_lean cs p.1)

@@ -50,6 +50,7 @@ sums_below made F G (x ∷ xs) all =
     let t = sum_by-cons G x xs in
     omega (arith, first, others, s, t)
 
+-- a whole program
 pub module_returns : (m : Module) → sel_returns_of (module_selected m) ≤ returns_of m
 module_returns m =
     let F : SelFun → ℕ = λ f. sum_by (λ (b : SelBlock). is_return b.end) f.blocks in
