@@ -1,5 +1,5 @@
 -- Blocks that are selected are shaped: their operations fit, and their ends lead to blocks.
-use Rattle.std.proofs.Common.{◌≡◌, ℕ, suc, ◌+◌, ◌<◌, ◌≤◌, List, [], ◌∷◌, ◌++◌, length, map, Option, Some, None, refl, ap, arith}
+use Rattle.std.proofs.Common.{◌≡◌, ℕ, suc, ◌+◌, ◌<◌, ◌≤◌, List, [], ◌∷◌, ◌++◌, length, Option, Some, None, refl, ap, arith}
 use Rattle.std.specs.List.{sum_by}
 use Rattle.std.proofs.lemmas.List.Sums.{sum_by-cons}
 use Rattle.ir_core.specs.declared.instruction.Inst.{Inst}
@@ -15,7 +15,7 @@ use Rattle.ir_core.specs.Definitions.{label_names}
 use Rattle.ir_core.specs.Kinds.{kind_of}
 use Rattle.ir_core.specs.Mentions.{OfLabel, of_operand, of_end}
 use Rattle.ir_core.specs.Names.{same_name}
-use Rattle.ir_core.specs.Valid.{env_of}
+use Rattle.ir_core.specs.Valid.{LocalKind, env_of}
 use Rattle.ir_sound.specs.WellTyped.{Each}
 use Rattle.ir_sound.proofs.RowLaws.{Each_both, Each_parts, Each_more, length_map, number_below}
 use Rattle.ir_context.specs.Registers.{number_of}
@@ -35,7 +35,7 @@ use Rattle.isel.proofs.ShapeOps.{op_fit}
 use Rattle.isel.proofs.ShapeKnown.{InstKnown, BlockKnown}
 
 -- as many blocks
-pub blocks_length : (m : Module) (variables : List _) (labels : List (List ℕ)) (at : ℕ) (bs : List Block) → length (blocks_selected m variables labels at bs) ≡ length bs
+pub blocks_length : (m : Module) (variables : List LocalKind) (labels : List (List ℕ)) (at : ℕ) (bs : List Block) → length (blocks_selected m variables labels at bs) ≡ length bs
 blocks_length m variables labels at [] = refl
 blocks_length m variables labels at (b ∷ bs) = ap (λ n. suc n) (blocks_length m variables labels (at + allocas_in m.types b.insts) bs)
 
@@ -44,10 +44,12 @@ module _ (m : Module) (fn : Function) (some_block : 0 < length fn.blocks) where
   IsTarget : ℕ → Type 0
   IsTarget n = n < length (function_selected m fn).blocks
 
+  -- a number that is found, or that of the first block
   number_fits : (o : Option ℕ) → ((k : ℕ) → o ≡ Some k → k < length fn.blocks) → number_or_first o < length (function_selected m fn).blocks
   number_fits (Some k) go = let l = blocks_length m (variables_of fn) (label_names fn) 0 fn.blocks in let low = go k refl in omega (arith, l, low)
   number_fits None go = let l = blocks_length m (variables_of fn) (label_names fn) 0 fn.blocks in omega (arith, l, some_block)
 
+  -- the number of a label
   target_fits : (to : List ℕ) → block_number (label_names fn) to < length (function_selected m fn).blocks
   target_fits to = number_fits (number_of (label_names fn) to) (λ k e.
       let low = number_below (λ (n : List ℕ). same_name n to) (label_names fn) k e in
@@ -60,6 +62,7 @@ module _ (m : Module) (fn : Function) (some_block : 0 < length fn.blocks) where
     pub reads : Each (IsBelow m fn) (end_reads (closing_of m (vs m fn) (label_names fn) end).end)
     pub targets : Each (λ n. n < length (function_selected m fn).blocks) (leads_to (closing_of m (vs m fn) (label_names fn) end).end)
 
+  -- each end fits
   end_fits : (end : Term) → Each (IsFine m) (of_end end) → EndFits end
   end_fits Ret fine = record { ops = tt; reads = tt; targets = tt }
   end_fits (RetValue ty a) fine = let b = operand_fits m fn 0 (kind_of ty) a (omega arith) fine.1 in record { ops = b.ops; reads = (b.register, tt); targets = tt }
@@ -86,6 +89,7 @@ module _ (m : Module) (fn : Function) (some_block : 0 < length fn.blocks) where
     pub shaped : IsBlockShaped (module_selected m) (function_selected m fn) b
     pub ops : Each (Fits m fn) b.ops
 
+  -- each block fits
   block_fits : (at : ℕ) (b : Block) → BlockKnown m fn b → at + allocas_in m.types b.insts ≤ allocas_room m.types fn → BlockFits (block_selected m (vs m fn) (label_names fn) at b)
   block_fits at b known room =
       let end = end_fits b.end known.fine in
@@ -102,6 +106,7 @@ module _ (m : Module) (fn : Function) (some_block : 0 < length fn.blocks) where
         ops = ops;
       }
 
+  -- blocks behind so many bytes of allocas
   blocks_fit : (at : ℕ) (bs : List Block) → Each (BlockKnown m fn) bs → at + sum_by (λ (b : Block). allocas_in m.types b.insts) bs ≤ allocas_room m.types fn → Each BlockFits (blocks_selected m (vs m fn) (label_names fn) at bs)
   blocks_fit at [] known room = tt
   blocks_fit at (b ∷ bs) known room =

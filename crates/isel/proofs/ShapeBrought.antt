@@ -1,5 +1,5 @@
 -- What brings operands and arguments into registers fits the function.
-use Rattle.std.proofs.Common.{◌≡◌, ℕ, ◌+◌, ◌<◌, ◌≤◌, Bool, true, false, List, [], ◌∷◌, ◌++◌, length, map, Option, Some, None, refl, arith}
+use Rattle.std.proofs.Common.{◌≡◌, ℕ, ◌+◌, ◌<◌, ◌≤◌, Bool, true, false, List, [], ◌∷◌, length, refl, arith}
 use Rattle.std.specs.Prelude.{nat_eq, if◌then◌else◌}
 use Rattle.rd_num.specs.declared.width.Width.TheVariants.{W64}
 use Rattle.ir_core.specs.declared.instruction.Arg.{Arg}
@@ -11,7 +11,7 @@ use Rattle.ir_core.specs.declared.module.Module.{Module}
 use Rattle.ir_core.specs.declared.operand.Operand.{Operand}
 use Rattle.ir_core.specs.Kinds.{kind_of}
 use Rattle.ir_core.specs.Mentions.{of_operand, of_typed, of_args}
-use Rattle.ir_core.specs.Valid.{named_locals}
+use Rattle.ir_core.specs.Valid.{LocalKind, named_locals}
 use Rattle.ir_sound.specs.WellTyped.{Each}
 use Rattle.ir_sound.proofs.RowLaws.{Each_both, Each_parts}
 use Rattle.ir_context.specs.declared.origin.Origin.{Origin}
@@ -20,19 +20,22 @@ use Rattle.ir_context.specs.Origins.{arg_origin, origin_of}
 use Rattle.low_core.specs.declared.sel.SelAlu.TheVariants.{Add}
 use Rattle.low_core.specs.declared.sel.SelOp.{SelOp}
 use Rattle.low_core.specs.declared.sel.SelOp.TheVariants.{Set, Alu, GlobalAt}
-use Rattle.isel_rows.specs.Variables.{operand_register, bytes_register, argument_register, unset_register, register_read}
+use Rattle.isel_rows.specs.Variables.{operand_register, bytes_register, argument_register, register_read}
 use Rattle.isel_rows.specs.Brought.{Brought, AllBrought, place_ops, value_ops, brought, operand_brought, args_brought}
 use Rattle.isel.proofs.Mentioned.{IsFine}
-use Rattle.isel.proofs.ShapeForms.{vs, count, most, registers_room, registers_least, Fits, IsBelow, set_fits, alu_fits, global_fits, function_fits}
+use Rattle.isel.proofs.ShapeForms.{vs, most, registers_room, registers_least, Fits, IsBelow, set_fits, alu_fits, global_fits, function_fits}
 use Rattle.isel.proofs.ShapeOrigins.{ValueStands, OriginStands, operand_stands}
 
 module _ (m : Module) (fn : Function) where
+  -- a register of the function
   abbrev Below : ℕ → Type 0
   Below r = IsBelow m fn r
 
+  -- operations that fit
   abbrev Each_fits : List SelOp → Type 0
   Each_fits ops = Each (Fits m fn) ops
 
+  -- an origin that stands for something of the module or the function
   abbrev pub Stands : Origin → Type 0
   Stands o = OriginStands m (vs m fn) o
 
@@ -61,6 +64,7 @@ module _ (m : Module) (fn : Function) where
       of_test true = (there, tt)
       of_test false = (there, (set_fits m fn bytes by (behind_variables 3 (omega arith)) stands.1, (alu_fits m fn Add W64 r r bytes tt to to (behind_variables 3 (omega arith)), tt)))
 
+  -- any value that is known
   value_fits : (r : ℕ) (v : Value) → Below r → ValueStands m (vs m fn) v → Each_fits (value_ops (vs m fn) r v)
   value_fits r (Num w n) to stands = (set_fits m fn r n to stands, tt)
   value_fits r Null to stands = (set_fits m fn r 0 to (omega arith), tt)
@@ -72,6 +76,7 @@ module _ (m : Module) (fn : Function) where
     pub ops : Each_fits b.ops
     pub register : Below b.register
 
+  -- an origin
   pub brought_fits : (r : ℕ) (o : Origin) → Below r → Stands o → BroughtFits (brought (vs m fn) r o)
   brought_fits r (Known v) to stands = record { ops = value_fits r v to stands; register = to }
   brought_fits r (Register k) to stands = record { ops = tt; register = read_below (Register k) stands }
@@ -87,6 +92,7 @@ module _ (m : Module) (fn : Function) where
     pub ops : Each_fits b.ops
     pub registers : Each Below b.registers
 
+  -- they fit, where the function has registers for as many
   pub args_fit : (k : ℕ) (args : List Arg) → k + length args ≤ most m fn → Each (IsFine m) (of_args args) → AllFit (args_brought m (vs m fn) k args)
   args_fit k [] few fine = record { ops = tt; registers = tt }
   args_fit k (a ∷ args) few fine =
@@ -100,6 +106,6 @@ module _ (m : Module) (fn : Function) where
       }
 
 -- as many registers as arguments
-pub args_count : (m : Module) (variables : List _) (k : ℕ) (args : List Arg) → length (args_brought m variables k args).registers ≡ length args
+pub args_count : (m : Module) (variables : List LocalKind) (k : ℕ) (args : List Arg) → length (args_brought m variables k args).registers ≡ length args
 args_count m variables k [] = refl
 args_count m variables k (a ∷ args) = let others = args_count m variables (k + 1) args in omega (arith, others)

@@ -1,6 +1,6 @@
 -- What is selected for a call fits the function: as many arguments as parameters, and a result where there is one.
-use Rattle.std.proofs.Common.{◌≡◌, ℕ, zero, suc, ◌+◌, ◌<◌, ◌≤◌, Bool, true, false, List, [], ◌∷◌, ◌++◌, length, map, take, Option, Some, None, slice_get, refl, ap, sym, ◌∙◌, subst, arith}
-use Rattle.std.specs.Prelude.{◌&&◌, option_map, option_and_then, if◌then◌else◌}
+use Rattle.std.proofs.Common.{◌≡◌, ℕ, zero, suc, ◌+◌, ◌<◌, ◌≤◌, Bool, true, false, List, [], ◌∷◌, length, map, take, Option, Some, None, slice_get, refl, ap, sym, ◌∙◌, subst, arith}
+use Rattle.std.specs.Prelude.{option_map, option_and_then, if◌then◌else◌}
 use Rattle.std.proofs.lemmas.Bool.{and_parts}
 use Rattle.std.proofs.lemmas.List.{length-take-le}
 use Rattle.std.proofs.lemmas.Option.{slice_get-map}
@@ -32,7 +32,7 @@ use Rattle.low_core.specs.declared.sel.SelOp.{SelOp}
 use Rattle.low_core.specs.declared.sel.SelOp.TheVariants.{Call, CallAt, Outside}
 use Rattle.low_core.specs.declared.sel.Which.{Which}
 use Rattle.low_core.specs.declared.sel.Which.TheVariants.{Putchar, Getchar, Exit, Memcpy, Memset, Trap}
-use Rattle.low_core.specs.SelShaped.{IsAnyBelow, IsCallOf, HasResult, arity}
+use Rattle.low_core.specs.SelShaped.{IsAnyBelow, HasResult, arity}
 use Rattle.isel_rows.specs.Variables.{idle_register, register_read}
 use Rattle.isel_rows.specs.Brought.{AllBrought, args_brought}
 use Rattle.isel_rows.specs.Calls.{register_into, behind_args, idle_ops, outside_ops, outer_ops, named_ops, call_ops}
@@ -41,7 +41,7 @@ use Rattle.isel_rows.specs.Selected.{module_selected}
 use Rattle.isel.proofs.Mentioned.{IsFine}
 use Rattle.isel.proofs.ShapeForms.{vs, count, most, registers_least, Fits, IsBelow, set_fits, call_fits, address_fits, outside_fits}
 use Rattle.isel.proofs.ShapeOrigins.{variable_below, register_stands}
-use Rattle.isel.proofs.ShapeBrought.{behind_variables, read_below, AllFit, args_fit, args_count}
+use Rattle.isel.proofs.ShapeBrought.{behind_variables, read_below, args_fit, args_count}
 
 -- the first item that passes is that of the number
 pub first_by_number : {X : Type 0} (test : X → Bool) (xs : List X) → first_where test xs ≡ option_and_then (slice_get xs) (number_where test xs)
@@ -158,13 +158,13 @@ module _ (m : Module) (fn : Function) where
       of_function (Some g) is typed =
           arguments_fit args (λ rs. Call f into rs) few fine
           (λ rs same below. call_fits m fn f into rs
-              (record { fn = function_selected m g; stands = selected_at m f g is; params = numbers_length 0 (length g.params) ∙ called_length g ret args typed ∙ sym same })
-              to below (omega (arith, few, same)) (omega (arith, limit, same)))
+          (record { fn = function_selected m g; stands = selected_at m f g is; params = numbers_length 0 (length g.params) ∙ called_length g ret args typed ∙ sym same })
+          to below (omega (arith, few, same)) (omega (arith, limit, same)))
       of_function None is typed = let x = item_at m.functions f (there f refl) in none_is x.0 (sym is ∙ x.1)
 
   -- by what is called
-  pub call_fit : (env : Env) (into : Option (List ℕ)) (ret : Kind) (callee : Operand) (args : List Arg) → callee_fits m env ret (kinds_of args) callee ≡ true → length args ≤ most m fn → length args ≤ MAX_PARAMETERS → Each (IsFine m) (of_args args)
-      → Each (Fits m fn) (call_ops m (vs m fn) (register_into (vs m fn) into) callee args)
+  pub call_fit : (env : Env) (into : Option (List ℕ)) (ret : Kind) (callee : Operand) (args : List Arg) → callee_fits m env ret (kinds_of args) callee ≡ true → length args ≤ most m fn → length args ≤ MAX_PARAMETERS
+      → Each (IsFine m) (of_args args) → Each (Fits m fn) (call_ops m (vs m fn) (register_into (vs m fn) into) callee args)
   call_fit env into ret (Global name) args typed few limit fine =
       let test : Function → Bool = λ f. same_name f.name name in
       named_fit (register_into (vs m fn) into) ret args name (function_number m name)
@@ -174,7 +174,8 @@ module _ (m : Module) (fn : Function) where
       let number : Option ℕ = number_of (named_locals (vs m fn)) name in
       let source : ℕ = register_read (vs m fn) (register_of number) in
       arguments_fit args (λ rs. CallAt source (register_into (vs m fn) into) rs) few fine
-      (λ rs same below. address_fits m fn source (register_into (vs m fn) into) rs (read_below m fn (register_of number) (register_stands m (vs m fn) number (variable_below m (vs m fn) name))) (into_below into) below (omega (arith, few, same)) (omega (arith, limit, same)))
+      (λ rs same below. address_fits m fn source (register_into (vs m fn) into) rs (read_below m fn (register_of number) (register_stands m (vs m fn) number (variable_below m (vs m fn) name))) (into_below into) below
+      (omega (arith, few, same)) (omega (arith, limit, same)))
   call_fit env into ret (Int n) args typed few limit fine = not_true typed
   call_fit env into ret (Truth b) args typed few limit fine = not_true typed
   call_fit env into ret NullWord args typed few limit fine = not_true typed

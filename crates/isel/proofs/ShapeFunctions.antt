@@ -1,5 +1,5 @@
 -- A function that is selected is shaped: parameters, blocks, and room in its frame.
-use Rattle.std.proofs.Common.{◌≡◌, ℕ, zero, suc, ◌+◌, ◌-◌, ◌*◌, ◌<◌, ◌≤◌, List, [], ◌∷◌, ◌++◌, length, map, Some, slice_get, refl, arith}
+use Rattle.std.proofs.Common.{◌≡◌, ℕ, zero, suc, ◌+◌, ◌-◌, ◌<◌, ◌≤◌, List, [], ◌∷◌, length, map, Some, slice_get, arith}
 use Rattle.std.specs.List.{flat_map}
 use Rattle.ir_core.specs.declared.limit.TheConstants.{MAX_FRAME}
 use Rattle.ir_core.specs.declared.module.Function.{Function}
@@ -11,7 +11,7 @@ use Rattle.ir_sound.proofs.RowLaws.{Each_both, Each_more}
 use Rattle.low_core.specs.declared.sel.SelBlock.{SelBlock}
 use Rattle.low_core.specs.declared.sel.SelOp.{SelOp}
 use Rattle.low_core.specs.SelParts.{ops_of}
-use Rattle.low_core.specs.SelShaped.{IsNoneOf, AreApart, IsBlockShaped, IsFunShaped}
+use Rattle.low_core.specs.SelShaped.{AreApart, IsBlockShaped, IsFunShaped}
 use Rattle.low_core.specs.SelWeights.{arguments_of, words_passed, sel_room}
 use Rattle.low_core.specs.Shaped.{IsModuleShaped}
 use Rattle.low_core.specs.Weights.{lean_own}
@@ -35,10 +35,12 @@ numbers_below : (end first n : ℕ) → first + n ≤ end → Each (λ r. r < en
 numbers_below end first zero room = tt
 numbers_below end first (suc n) room = ((let z : first < end = omega (arith, room) in z), numbers_below end (first + 1) n (omega (arith, room)))
 
+-- those that begin past a number differ from it
 numbers_past : (k first n : ℕ) → k < first → Each (λ r. r ≡ k → ⊥) (numbers_from first n)
 numbers_past k first zero less = tt
 numbers_past k first (suc n) less = ((λ e. omega (arith, e, less)), numbers_past k (first + 1) n (omega (arith, less)))
 
+-- so no number stands twice
 numbers_apart : (first n : ℕ) → AreApart (numbers_from first n)
 numbers_apart first zero = tt
 numbers_apart first (suc n) = (all_of (λ r. r ≡ first → ⊥) (numbers_from (first + 1) n) (numbers_past first (first + 1) n (omega arith)), numbers_apart (first + 1) n)

@@ -1,5 +1,5 @@
 -- What is known of each instruction and each end of a module that is shaped: types, mentions, and few arguments.
-use Rattle.std.proofs.Common.{◌≡◌, ℕ, suc, ◌≤◌, true, List, [], ◌∷◌, ◌++◌, length, map, Some, slice_get, refl, arith}
+use Rattle.std.proofs.Common.{◌≡◌, ℕ, suc, ◌≤◌, true, List, [], ◌∷◌, length, map, Some, slice_get, refl, arith}
 use Rattle.std.specs.List.{flat_map}
 use Rattle.ir_core.specs.declared.instruction.Inst.{Inst}
 use Rattle.ir_core.specs.declared.limit.TheConstants.{MAX_PARAMETERS}
@@ -38,9 +38,11 @@ module _ (own : ℕ) (m : Module) (shaped : IsModuleShaped own m) where
       let all = each_of P (parameter_counts m) shaped.passed in
       Each_at (λ (f : Function). Each P (row f)) m.functions number fn (Each_rows P row m.functions (Each_parts P (map (λ (e : Extern). length e.params) m.externs) (flat_map row m.functions) all).1) at
 
+  -- the parameters are few
   pub parameters_few : (number : ℕ) (fn : Function) → slice_get m.functions number ≡ Some fn → length fn.params ≤ MAX_PARAMETERS
   parameters_few number fn at = (counts_few number fn at).0
 
+  -- so are the arguments of each call
   arguments_few : (number : ℕ) (fn : Function) → slice_get m.functions number ≡ Some fn → (k : ℕ) (b : Block) → slice_get fn.blocks k ≡ Some b → (j : ℕ) (i : Inst) → slice_get b.insts j ≡ Some i → AreFew m fn i.op
   arguments_few number fn in_module k b in_function j i at =
       let P : ℕ → Type 0 = λ n. (n ≤ greatest (call_counts fn)) × (n ≤ MAX_PARAMETERS) in
@@ -51,16 +53,19 @@ module _ (own : ℕ) (m : Module) (shaped : IsModuleShaped own m) where
 
 -- an instruction, and a block
 module _ (m : Module) (fn : Function) where
+  -- what is known of an instruction
   pub record InstKnown (i : Inst) : Type 0 where
     pub fits : op_fits m (env_of fn) i.op ≡ true
     pub fine : Each (IsFine m) (of_op i.op)
     pub few : AreFew m fn i.op
 
+  -- what is known of a block
   pub record BlockKnown (b : Block) : Type 0 where
     pub insts : Each InstKnown b.insts
     pub fits : term_fits m (env_of fn) (kind_of fn.ret) b.end ≡ true
     pub fine : Each (IsFine m) (of_end b.end)
 
+-- all of it is known of a shaped module
 pub blocks_known : (own : ℕ) (m : Module) → IsModuleShaped own m → (number : ℕ) (fn : Function) → slice_get m.functions number ≡ Some fn → Each (BlockKnown m fn) fn.blocks
 blocks_known own m shaped number fn in_module = each_there (BlockKnown m fn) fn.blocks block
   where

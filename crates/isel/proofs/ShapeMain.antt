@@ -1,6 +1,6 @@
 -- The function with which a run begins is selected so that it gives a result.
-use Rattle.std.proofs.Common.{◌≡◌, ℕ, ◌+◌, Bool, true, false, List, [], ◌∷◌, length, map, Option, Some, None, slice_get, refl, ap, sym, ◌∙◌, subst, inl, inr, ◌⊎◌, arith}
-use Rattle.std.specs.Prelude.{◌&&◌, ◌||◌, codes, option_and_then}
+use Rattle.std.proofs.Common.{◌≡◌, ℕ, ◌+◌, Bool, true, false, List, [], ◌∷◌, length, map, Option, Some, None, slice_get, refl, ap, sym, ◌∙◌, subst, inl, inr, ◌⊎◌}
+use Rattle.std.specs.Prelude.{◌||◌, codes, option_and_then}
 use Rattle.std.proofs.lemmas.Bool.{and_parts}
 use Rattle.rd_num.specs.declared.width.Width.TheVariants.{W32}
 use Rattle.ir_core.specs.declared.instruction.Term.{Term}
@@ -40,6 +40,7 @@ pub record MainAt (m : Module) : Type 0 where
   pub there : slice_get m.functions number ≡ Some fn
   pub main : is_main fn ≡ true
 
+-- there is one
 pub main_at : (m : Module) → has_main (main_of m) ≡ true → MainAt m
 main_at m has = of_number (function_number m (codes "main")) refl (sym (ap has_main (first_by_number (λ (f : Function). same_name f.name (codes "main")) m.functions)) ∙ has)
   where
@@ -77,10 +78,12 @@ end_gives m variables labels env kind (BrIf condition taken other) is typed = tt
 end_gives m variables labels env kind (Switch ty a default cases) is typed = tt
 end_gives m variables labels env kind Unreachable is typed = tt
 
+-- so do the ends of all blocks
 blocks_give : (m : Module) (fn : Function) → kind_of fn.ret ≡ Number W32 → (at : ℕ) (bs : List Block) → Each (BlockKnown m fn) bs → Each (λ (b : SelBlock). GivesResult b.end) (blocks_selected m (variables_of fn) (label_names fn) at bs)
 blocks_give m fn is at [] known = tt
 blocks_give m fn is at (b ∷ bs) known = (end_gives m (variables_of fn) (label_names fn) (env_of fn) (kind_of fn.ret) b.end is known.0.fits, blocks_give m fn is (at + allocas_in m.types b.insts) bs known.1)
 
+-- what is selected for it
 pub main_selected : (m : Module) (fn : Function) → is_main fn ≡ true → Each (BlockKnown m fn) fn.blocks → IsMain (function_selected m fn)
 main_selected m fn main known =
     let kinds : List Kind = map (λ (p : Param). kind_of p.ty) fn.params in

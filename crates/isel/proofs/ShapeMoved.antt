@@ -1,5 +1,5 @@
 -- What moves a pointer along a path fits the function.
-use Rattle.std.proofs.Common.{◌≡◌, ℕ, ◌+◌, ◌^◌, ◌<◌, ◌≤◌, Bool, true, false, List, [], ◌∷◌, ◌++◌, length, map, Option, Some, None, refl, arith, slice_get}
+use Rattle.std.proofs.Common.{ℕ, ◌^◌, ◌<◌, ◌≤◌, Bool, true, false, List, [], ◌∷◌, ◌++◌, arith}
 use Rattle.std.specs.Prelude.{nat_eq, if◌then◌else◌}
 use Rattle.rd_num.specs.declared.width.Width.{Width}
 use Rattle.rd_num.specs.declared.width.Width.TheVariants.{W1, W8, W16, W32, W64}
@@ -12,7 +12,7 @@ use Rattle.ir_context.specs.declared.path.Path.{Path}
 use Rattle.ir_context.specs.declared.path.Stride.{Stride}
 use Rattle.low_core.specs.declared.sel.SelAlu.TheVariants.{Add, Mul}
 use Rattle.low_core.specs.declared.sel.SelOp.{SelOp}
-use Rattle.low_core.specs.declared.sel.SelOp.TheVariants.{Set, Copy, Alu, Widen}
+use Rattle.low_core.specs.declared.sel.SelOp.TheVariants.{Set, Copy, Alu}
 use Rattle.isel_rows.specs.Variables.{bytes_register, index_register, moved_register, register_read, width_read}
 use Rattle.isel_rows.specs.Brought.{Brought}
 use Rattle.isel_rows.specs.Rows.{constant_moved, stride_ops, strides_moved, moved_ops}
@@ -29,6 +29,7 @@ word_bits W32 = omega arith
 word_bits W64 = omega arith
 
 module _ (m : Module) (fn : Function) where
+  -- a register of the function
   abbrev Below : ℕ → Type 0
   Below r = IsBelow m fn r
 
@@ -60,12 +61,14 @@ module _ (m : Module) (fn : Function) where
   stride_fits from s first stands =
       let bytes = bytes_register (vs m fn) in
       let index = index_register (vs m fn) in
-      let moved = moved_register (vs m fn) in (
-        widen_fits m fn true (width_read (vs m fn) s.index) W64 index (register_read (vs m fn) s.index) (word_bits (width_read (vs m fn) s.index)) index_below (read_below m fn s.index stands.0), (
-        set_fits m fn bytes s.size bytes_below stands.1, (
-        alu_fits m fn Mul W64 index index bytes tt index_below index_below bytes_below, (
-        alu_fits m fn Add W64 moved from index tt moved_below first index_below, tt))))
+      let moved = moved_register (vs m fn) in
+      let widened = widen_fits m fn true (width_read (vs m fn) s.index) W64 index (register_read (vs m fn) s.index) (word_bits (width_read (vs m fn) s.index)) index_below (read_below m fn s.index stands.0) in
+      let size = set_fits m fn bytes s.size bytes_below stands.1 in
+      let times = alu_fits m fn Mul W64 index index bytes tt index_below index_below bytes_below in
+      let sum = alu_fits m fn Add W64 moved from index tt moved_below first index_below in
+      (widened, (size, (times, (sum, tt))))
 
+  -- by indices one after another
   strides_fit : (from : ℕ) (ss : List Stride) → Below from → Each (StrideStands m (vs m fn)) ss → BroughtFits m fn (strides_moved (vs m fn) from ss)
   strides_fit from [] first stand = record { ops = tt; register = first }
   strides_fit from (s ∷ ss) first stand =

@@ -1,12 +1,11 @@
 -- What is selected for an instruction or an end fits the function.
-use Rattle.std.proofs.Common.{◌≡◌, ℕ, ◌+◌, ◌^◌, ◌<◌, ◌≤◌, Bool, true, false, List, [], ◌∷◌, ◌++◌, length, map, Option, Some, None, refl, sym, ◌∙◌, subst, arith}
+use Rattle.std.proofs.Common.{◌≡◌, ℕ, ◌<◌, ◌≤◌, true, false, List, [], ◌∷◌, ◌++◌, map, Option, Some, None, refl, sym, ◌∙◌, subst, arith}
 use Rattle.std.specs.Prelude.{◌&&◌, nat_lt}
 use Rattle.std.specs.List.{list_all}
 use Rattle.std.proofs.lemmas.Bool.{and_parts, ltb-true}
 use Rattle.rd_num.specs.declared.width.Width.{Width}
 use Rattle.rd_num.specs.declared.width.Width.TheVariants.{W1, W8, W16, W32, W64}
 use Rattle.rd_num.specs.Number.{bits}
-use Rattle.ir_core.specs.declared.instruction.Arg.{Arg}
 use Rattle.ir_core.specs.declared.instruction.BinOp.{BinOp}
 use Rattle.ir_core.specs.declared.instruction.BinOp.TheVariants.{Add, Sub, Mul, Udiv, Sdiv, Urem, Srem, Shl, Lshr, Ashr, And, Or, Xor}
 use Rattle.ir_core.specs.declared.instruction.CastOp.{CastOp}
@@ -19,11 +18,10 @@ use Rattle.ir_core.specs.declared.limit.TheConstants.{MAX_PARAMETERS}
 use Rattle.ir_core.specs.declared.module.Function.{Function}
 use Rattle.ir_core.specs.declared.module.Module.{Module}
 use Rattle.ir_core.specs.declared.operand.Operand.{Operand}
-use Rattle.ir_core.specs.declared.ty.Ty.{Ty}
 use Rattle.ir_core.specs.Counts.{argument_counts}
 use Rattle.ir_core.specs.Kinds.{kind_of}
 use Rattle.ir_core.specs.Mentions.{OfType, of_operand, of_typed, of_args, of_callee, of_op}
-use Rattle.ir_core.specs.Typing.{Env, is_number, bin_fits, cast_fits, is_result, kinds_of, callee_fits, arg_fits, operand_fits, op_fits}
+use Rattle.ir_core.specs.Typing.{Env, bin_fits, cast_fits, is_result, kinds_of, callee_fits, arg_fits, operand_fits, op_fits}
 use Rattle.ir_core.specs.Valid.{named_locals}
 use Rattle.ir_sound.specs.WellTyped.{Each}
 use Rattle.ir_sound.proofs.RowLaws.{Each_both, Each_parts}
@@ -36,14 +34,14 @@ use Rattle.low_core.specs.declared.sel.SelOp.{SelOp}
 use Rattle.low_core.specs.declared.sel.SelOp.TheVariants as sel
 use Rattle.low_core.specs.SelShaped.{IsWide, IsAnyBelow}
 use Rattle.low_core.specs.Weights.{allocas_room}
-use Rattle.isel_rows.specs.Variables.{idle_register, width_of}
+use Rattle.isel_rows.specs.Variables.{width_of}
 use Rattle.isel_rows.specs.Brought.{Brought, operand_brought}
 use Rattle.isel_rows.specs.Calls.{register_into}
 use Rattle.isel_rows.specs.Rows.{register_or_idle, result_register, bin_op, cast_op, stored_width, load_ops, moved_ops, path_taken, ops_of}
 use Rattle.isel.proofs.Mentioned.{IsFine}
 use Rattle.isel.proofs.ShapeForms.{vs, count, most, Fits, IsBelow, copy_fits, alu_fits, div_fits, widen_fits, test_fits, pick_fits, load_fits, store_fits, frame_fits}
-use Rattle.isel.proofs.ShapeOrigins.{OriginStands, path_stands, taken_stands, args_stand}
-use Rattle.isel.proofs.ShapeBrought.{behind_variables, BroughtFits, operand_fits as operand_brings}
+use Rattle.isel.proofs.ShapeOrigins.{path_stands, taken_stands, args_stand}
+use Rattle.isel.proofs.ShapeBrought.{behind_variables, operand_fits as operand_brings}
 use Rattle.isel.proofs.ShapeMoved.{moved_fits}
 use Rattle.isel.proofs.ShapeCalls.{into_below, call_fit}
 
@@ -80,6 +78,7 @@ below_bits : (v w : Width) → nat_lt (bits v) (bits w) ≡ true → bits v ≤ 
 below_bits v w less = let a = ltb-true (bits v) (bits w) less in omega (arith, a)
 
 module _ (m : Module) (fn : Function) where
+  -- a register of the function
   abbrev Below : ℕ → Type 0
   Below r = IsBelow m fn r
 
@@ -99,17 +98,20 @@ module _ (m : Module) (fn : Function) where
   plain_fits Or w r s t typed to first second = alu_fits m fn alu.Or w r s t tt to first second
   plain_fits Xor w r s t typed to first second = alu_fits m fn alu.Xor w r s t tt to first second
 
+  -- an operation on two numbers
   bin_op_fits : (op : BinOp) (kind : Kind) (r s t : ℕ) → bin_fits op kind ≡ true → Below r → Below s → Below t → Fits m fn (bin_op op (width_of kind) r s t)
   bin_op_fits op kind r s t typed to first second =
       let n = bin_number op kind typed in
       subst (λ k. Fits m fn (bin_op op (width_of k) r s t)) (sym n.1) (plain_fits op n.0 r s t (subst (λ k. bin_fits op k ≡ true) n.1 typed) to first second)
 
+  -- a cast
   cast_op_fits : (op : CastOp) (from into : Kind) (r s : ℕ) → cast_fits op from into ≡ true → Below r → Below s → Fits m fn (cast_op op (width_of from) (width_of into) r s)
   cast_op_fits Trunc (Number v) (Number w) r s typed to first = widen_fits m fn false w w r s (omega arith) to first
   cast_op_fits Zext (Number v) (Number w) r s typed to first = widen_fits m fn false v w r s (below_bits v w typed) to first
   cast_op_fits Sext (Number v) (Number w) r s typed to first = widen_fits m fn true v w r s (below_bits v w typed) to first
   cast_op_fits op from into r s typed to first = not_true typed
 
+  -- a load
   load_ops_fit : (w : Width) (r s : ℕ) → Below r → Below s → Each (Fits m fn) (load_ops w r s)
   load_ops_fit W1 r s to first = (load_fits m fn W8 r s tt to first, (widen_fits m fn false W1 W8 r r (omega arith) to to, tt))
   load_ops_fit W8 r s to first = (load_fits m fn W8 r s tt to first, tt)
@@ -129,9 +131,11 @@ module _ (m : Module) (fn : Function) where
   abbrev At : ℕ → Kind → Operand → Brought
   At k kind a = operand_brought m (vs m fn) k kind a
 
+  -- an operand in front of what fits
   one_fit : (k : ℕ) (kind : Kind) (a : Operand) (rest : List SelOp) → k < 3 → Each (IsFine m) (of_operand a) → Each (Fits m fn) rest → Each (Fits m fn) ((At k kind a).ops ++ rest)
   one_fit k kind a rest few fine others = Each_both (Fits m fn) (At k kind a).ops rest (operand_brings m fn k kind a few fine).ops others
 
+  -- and its register
   register_fits : (k : ℕ) (kind : Kind) (a : Operand) → k < 3 → Each (IsFine m) (of_operand a) → Below (At k kind a).register
   register_fits k kind a few fine = (operand_brings m fn k kind a few fine).register
 
@@ -146,16 +150,20 @@ module _ (m : Module) (fn : Function) where
       let q = Each_parts (IsFine m) (of_typed ty a) (of_operand b) fine in
       let last : SelOp = bin_op op (width_of (kind_of ty)) (result_register (vs m fn) into) (At 0 (kind_of ty) a).register (At 1 (kind_of ty) b).register in
       one_fit 0 (kind_of ty) a ((At 1 (kind_of ty) b).ops ++ last ∷ []) (omega arith) q.0.1
-      (one_fit 1 (kind_of ty) b (last ∷ []) (omega arith) q.1
-      (bin_op_fits op (kind_of ty) (result_register (vs m fn) into) (At 0 (kind_of ty) a).register (At 1 (kind_of ty) b).register p.0 (result_below into)
-          (register_fits 0 (kind_of ty) a (omega arith) q.0.1) (register_fits 1 (kind_of ty) b (omega arith) q.1), tt))
+      (one_fit 1 (kind_of ty) b (last ∷ []) (omega arith) q.1 (
+        bin_op_fits op (kind_of ty) (result_register (vs m fn) into) (At 0 (kind_of ty) a).register (At 1 (kind_of ty) b).register p.0 (result_below into)
+            (register_fits 0 (kind_of ty) a (omega arith) q.0.1) (register_fits 1 (kind_of ty) b (omega arith) q.1),
+        tt,
+      ))
   op_fit env at into (Compare pred ty a b) typed fine few room =
       let q = Each_parts (IsFine m) (of_typed ty a) (of_operand b) fine in
       let last : SelOp = sel.Test pred (width_of (kind_of ty)) (result_register (vs m fn) into) (At 0 (kind_of ty) a).register (At 1 (kind_of ty) b).register in
       one_fit 0 (kind_of ty) a ((At 1 (kind_of ty) b).ops ++ last ∷ []) (omega arith) q.0.1
-      (one_fit 1 (kind_of ty) b (last ∷ []) (omega arith) q.1
-      (test_fits m fn pred (width_of (kind_of ty)) (result_register (vs m fn) into) (At 0 (kind_of ty) a).register (At 1 (kind_of ty) b).register (result_below into)
-          (register_fits 0 (kind_of ty) a (omega arith) q.0.1) (register_fits 1 (kind_of ty) b (omega arith) q.1), tt))
+      (one_fit 1 (kind_of ty) b (last ∷ []) (omega arith) q.1 (
+        test_fits m fn pred (width_of (kind_of ty)) (result_register (vs m fn) into) (At 0 (kind_of ty) a).register (At 1 (kind_of ty) b).register (result_below into)
+            (register_fits 0 (kind_of ty) a (omega arith) q.0.1) (register_fits 1 (kind_of ty) b (omega arith) q.1),
+        tt,
+      ))
   op_fit env at into (Cast op from a to) typed fine few room =
       let p = and_parts (cast_fits op (kind_of from) (kind_of to)) (operand_fits m env (kind_of from) a) typed in
       let q = Each_parts (IsFine m) (of_typed from a) (OfType to ∷ []) fine in
@@ -168,9 +176,11 @@ module _ (m : Module) (fn : Function) where
       let last : SelOp = sel.Pick (result_register (vs m fn) into) (At 0 (Number W1) condition).register (At 1 (kind_of ty) a).register (At 2 (kind_of ty2) b).register in
       one_fit 0 (Number W1) condition ((At 1 (kind_of ty) a).ops ++ ((At 2 (kind_of ty2) b).ops ++ last ∷ [])) (omega arith) q.0
       (one_fit 1 (kind_of ty) a ((At 2 (kind_of ty2) b).ops ++ last ∷ []) (omega arith) r.0.1
-      (one_fit 2 (kind_of ty2) b (last ∷ []) (omega arith) r.1.1
-      (pick_fits m fn (result_register (vs m fn) into) (At 0 (Number W1) condition).register (At 1 (kind_of ty) a).register (At 2 (kind_of ty2) b).register (result_below into)
-          (register_fits 0 (Number W1) condition (omega arith) q.0) (register_fits 1 (kind_of ty) a (omega arith) r.0.1) (register_fits 2 (kind_of ty2) b (omega arith) r.1.1), tt)))
+      (one_fit 2 (kind_of ty2) b (last ∷ []) (omega arith) r.1.1 (
+        pick_fits m fn (result_register (vs m fn) into) (At 0 (Number W1) condition).register (At 1 (kind_of ty) a).register (At 2 (kind_of ty2) b).register (result_below into)
+            (register_fits 0 (Number W1) condition (omega arith) q.0) (register_fits 1 (kind_of ty) a (omega arith) r.0.1) (register_fits 2 (kind_of ty2) b (omega arith) r.1.1),
+        tt,
+      )))
   op_fit env at into (Freeze ty a) typed fine few room =
       let source : ℕ = (At 0 (kind_of ty) a).register in
       one_fit 0 (kind_of ty) a (sel.Copy (result_register (vs m fn) into) source ∷ []) (omega arith) fine.1
@@ -185,16 +195,18 @@ module _ (m : Module) (fn : Function) where
       let width : Width = stored_width (width_of (kind_of ty)) in
       let last : SelOp = sel.Store width (At 1 Pointer p).register (At 0 (kind_of ty) a).register in
       one_fit 0 (kind_of ty) a ((At 1 Pointer p).ops ++ last ∷ []) (omega arith) q.0.1
-      (one_fit 1 Pointer p (last ∷ []) (omega arith) q.1
-      (store_fits m fn width (At 1 Pointer p).register (At 0 (kind_of ty) a).register (stored_wide (width_of (kind_of ty)))
-          (register_fits 1 Pointer p (omega arith) q.1) (register_fits 0 (kind_of ty) a (omega arith) q.0.1), tt))
+      (one_fit 1 Pointer p (last ∷ []) (omega arith) q.1 (
+        store_fits m fn width (At 1 Pointer p).register (At 0 (kind_of ty) a).register (stored_wide (width_of (kind_of ty)))
+            (register_fits 1 Pointer p (omega arith) q.1) (register_fits 0 (kind_of ty) a (omega arith) q.0.1),
+        tt,
+      ))
   op_fit env at into (Gep ty p indices) typed fine few room =
       let q = Each_parts (IsFine m) (of_typed ty p) (of_args indices) fine in
       let os : List Origin = map (arg_origin m (named_locals (vs m fn))) indices in
       let source : ℕ = (At 0 Pointer p).register in
       Each_both (Fits m fn) (At 0 Pointer p).ops (moved_ops (vs m fn) (result_register (vs m fn) into) (path_taken (path_of m.types ty os)) source) (operand_brings m fn 0 Pointer p (omega arith) q.0.1).ops
       (moved_fits m fn (result_register (vs m fn) into) (path_taken (path_of m.types ty os)) source (result_below into)
-          (taken_stands m (vs m fn) (path_of m.types ty os) (λ r e. path_stands m (vs m fn) ty os r (args_stand m (vs m fn) indices q.1) e)) (register_fits 0 Pointer p (omega arith) q.0.1))
+      (taken_stands m (vs m fn) (path_of m.types ty os) (λ r e. path_stands m (vs m fn) ty os r (args_stand m (vs m fn) indices q.1) e)) (register_fits 0 Pointer p (omega arith) q.0.1))
   op_fit env at into (Call ret callee args) typed fine few room =
       let p = and_parts (is_result ret) (callee_fits m env (kind_of ret) (kinds_of args) callee && list_all (arg_fits m env) args) typed in
       let r = and_parts (callee_fits m env (kind_of ret) (kinds_of args) callee) (list_all (arg_fits m env) args) p.1 in

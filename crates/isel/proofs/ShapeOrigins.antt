@@ -1,5 +1,5 @@
 -- Where operands come from, in a module that is shaped: words, globals that there are, functions to which pointers may arise, and variables.
-use Rattle.std.proofs.Common.{◌≡◌, ℕ, ◌+◌, ◌%◌, ◌^◌, ◌<◌, Bool, true, false, List, [], ◌∷◌, ◌++◌, length, map, Option, Some, None, slice_get, refl, subst, arith}
+use Rattle.std.proofs.Common.{◌≡◌, ℕ, ◌+◌, ◌%◌, ◌^◌, ◌<◌, Bool, true, false, List, [], ◌∷◌, length, map, Option, Some, None, slice_get, refl, arith}
 use Rattle.std.specs.Prelude.{ℤ}
 use Rattle.rd_num.specs.declared.width.Width.{Width}
 use Rattle.rd_num.specs.declared.width.Width.TheVariants.{W1, W8, W16, W32, W64}
@@ -9,7 +9,6 @@ use Rattle.ir_core.specs.declared.kind.Kind.{Kind}
 use Rattle.ir_core.specs.declared.kind.Kind.TheVariants.{NoValue, Number, Pointer}
 use Rattle.ir_core.specs.declared.memory.Value.{Value}
 use Rattle.ir_core.specs.declared.memory.Value.TheVariants.{Num, Null, At, Fun}
-use Rattle.ir_core.specs.declared.module.Function.{Function}
 use Rattle.ir_core.specs.declared.module.GlobalVar.{GlobalVar}
 use Rattle.ir_core.specs.declared.module.Module.{Module}
 use Rattle.ir_core.specs.declared.operand.Index0.{Index0}
@@ -23,7 +22,7 @@ use Rattle.ir_core.specs.Operands.{global_number, function_number, named_value, 
 use Rattle.ir_core.specs.Valid.{LocalKind, named_locals}
 use Rattle.ir_core.proofs.Fits.{literal_fits}
 use Rattle.ir_sound.specs.WellTyped.{Each}
-use Rattle.ir_sound.proofs.RowLaws.{number_below, length_map, Each_both, Each_parts, Each_more}
+use Rattle.ir_sound.proofs.RowLaws.{number_below, length_map, Each_both, Each_parts}
 use Rattle.ir_context.specs.declared.origin.Origin.{Origin}
 use Rattle.ir_context.specs.declared.origin.Origin.TheVariants.{Known, Register, Unset, Malformed}
 use Rattle.ir_context.specs.declared.path.Path.{Path}
@@ -63,18 +62,22 @@ module _ (m : Module) (vs : List LocalKind) where
   abbrev pub StrideStands : Stride → Type 0
   StrideStands s = OriginStands s.index × (s.size < 2 ^ 64)
 
+  -- a path of such indices
   abbrev pub PathStands : Path → Type 0
   PathStands p = (p.constant < 2 ^ 64) × Each StrideStands p.strides
 
+  -- so many bytes more
   farther_stands : (n by : ℕ) (p : Path) → PathStands p → PathStands (farther by p)
   farther_stands n by p stands = ((let z : (p.constant + by) % 2 ^ 64 < 2 ^ 64 = omega arith in z), stands.1)
 
+  -- one more index that is read
   stride_stands : (n : ℕ) (o : Origin) (size : ℕ) (p : Path) → OriginStands o → size < 2 ^ 64 → PathStands p → PathStands (with_stride o size p)
   stride_stands n o size p index small stands = (stands.0, Each_both StrideStands p.strides (record { index = o; size = size } ∷ []) stands.1 ((index, small), tt))
 
   empty_stands : PathStands empty_path
   empty_stands = ((let z : 0 < 2 ^ 64 = omega arith in z), tt)
 
+  -- each path that is found stands
   pub path_stands : (ty : Ty) (os : List Origin) (p : Path) → Each OriginStands os → path_of m.types ty os ≡ Some p → PathStands p
   path_stands ty os p stand e = path_has OriginStands (λ n q. PathStands q) empty_stands farther_stands stride_stands m.types ty os p stand e
 
@@ -89,28 +92,34 @@ module _ (m : Module) (vs : List LocalKind) where
   int_stands (Number w) n = number_word w (literal w n) (literal_fits w n)
   int_stands Pointer n = tt
 
+  -- zeros
   zero_stands : (kind : Kind) → OriginStands (known (zero_of kind))
   zero_stands NoValue = tt
   zero_stands (Number w) = let z : 0 < 2 ^ 64 = omega arith in z
   zero_stands Pointer = tt
 
+  -- truth values
   truth_stands : (b : Bool) → OriginStands (Known (truth b))
   truth_stands true = let z : 1 < 2 ^ 64 = omega arith in z
   truth_stands false = let z : 0 < 2 ^ 64 = omega arith in z
 
+  -- a local, where there is one
   pub register_stands : (o : Option ℕ) → ((k : ℕ) → o ≡ Some k → k < length vs) → OriginStands (register_of o)
   register_stands (Some k) go = go k refl
   register_stands None go = tt
 
+  -- a global or a function
   named_stands : (g f : Option ℕ) → ((k : ℕ) → g ≡ Some k → k < length m.globals) → ((k : ℕ) → f ≡ Some k → slice_get (map (is_taken m) m.functions) k ≡ Some true) → OriginStands (known (named_value g f))
   named_stands (Some g) f first second = (first g refl, (let z : 0 < 2 ^ 64 = omega arith in z))
   named_stands None (Some f) first second = second f refl
   named_stands None None first second = tt
 
+  -- literal indices
   indices_stand : (is : List Index0) → Each OriginStands (map index_origin is)
   indices_stand [] = tt
   indices_stand (i ∷ is) = (int_stands (kind_of i.ty) i.value, indices_stand is)
 
+  -- a constant place
   place_stands : (g : Option ℕ) (o : Option Path) → ((k : ℕ) → g ≡ Some k → k < length m.globals) → ((p : Path) → o ≡ Some p → PathStands p) → OriginStands (place_of g o)
   place_stands (Some g) (Some p) first second = of_strides p.strides
     where
@@ -127,9 +136,11 @@ module _ (m : Module) (vs : List LocalKind) where
       let l = length_map (λ (v : LocalKind). v.name) vs in
       omega (arith, a, l)
 
+  -- the number of a global is one of the module's
   global_below : (name : List ℕ) (k : ℕ) → global_number m name ≡ Some k → k < length m.globals
   global_below name k e = number_below (λ (g : GlobalVar). same_name g.name name) m.globals k e
 
+  -- any operand
   pub operand_stands : (kind : Kind) (a : Operand) → Each (IsFine m) (of_operand a) → OriginStands (origin_of m (named_locals vs) kind a)
   operand_stands kind (Int n) fine = int_stands kind n
   operand_stands kind (Truth b) fine = truth_stands b

@@ -1,7 +1,7 @@
 -- The variables of a function: its parameters are among them, and there are no more than its parameters and the names that are assigned.
-use Rattle.std.proofs.Common.{◌≡◌, ℕ, suc, ◌+◌, ◌-◌, ◌≤◌, Bool, true, false, List, [], ◌∷◌, ◌++◌, length, map, Option, Some, None, refl, ap, sym, ◌∙◌, subst, arith}
+use Rattle.std.proofs.Common.{◌≡◌, ℕ, suc, ◌+◌, ◌≤◌, Bool, true, false, List, [], ◌∷◌, ◌++◌, length, map, Option, Some, None, refl, ap, sym, ◌∙◌, arith}
 use Rattle.std.specs.Prelude.{◌||◌, if◌then◌else◌}
-use Rattle.std.specs.List.{flat_map, list_any}
+use Rattle.std.specs.List.{flat_map}
 use Rattle.std.proofs.lemmas.List.{map-append}
 use Rattle.std.proofs.lemmas.List.Folds.{list_any-append}
 use Rattle.ir_core.specs.declared.instruction.Inst.{Inst}
@@ -48,14 +48,17 @@ variables_length before (l ∷ ls) = by_test (is_among before l.name) (variables
 abbrev Fewer : List (List ℕ) → List (List ℕ) → Type 0
 Fewer few many = (n : List ℕ) → is_among many n ≡ false → is_among few n ≡ false
 
+-- what isn't in a whole isn't in its first part
 or_left : (a b : Bool) → (a || b) ≡ false → a ≡ false
 or_left false b e = refl
 or_left true b e = not_true (sym e)
 
+-- nor in its second
 or_right : (a b : Bool) → (a || b) ≡ false → b ≡ false
 or_right false b e = e
 or_right true b e = not_true (sym e)
 
+-- what is in no part isn't in the whole
 neither : (a b : Bool) → a ≡ false → b ≡ false → (a || b) ≡ false
 neither false b e f = f
 neither true b e f = not_true (sym e)
@@ -84,6 +87,7 @@ fewer_one before n k none = or_left (is_among before k) (is_among (n ∷ []) k) 
 abbrev AddsLess : List (List ℕ) → Type 0
 AddsLess ns = (few many : List (List ℕ)) → Fewer few many → length (firsts many ns) ≤ length (firsts few ns)
 
+-- so it is for all names
 adds_less : (ns : List (List ℕ)) → AddsLess ns
 adds_less [] few many fewer = omega arith
 adds_less (n ∷ ns) few many fewer = by_test (is_among many n) (is_among few n) refl refl (adds_less ns)
@@ -119,27 +123,32 @@ inst_named : (into : Option (List ℕ)) (kind : Kind) → named_locals (result_l
 inst_named (Some name) kind = refl
 inst_named None kind = refl
 
+-- of instructions
 insts_named : (insts : List Inst) → named_locals (kinds_in insts) ≡ flat_map (λ (i : Inst). result_names i.result) insts
 insts_named [] = refl
 insts_named (i ∷ is) =
     map-append (λ (l : LocalKind). l.name) (inst_local i) (kinds_in is)
     ∙ ap (λ ns. ns ++ named_locals (kinds_in is)) (inst_named i.result (kind_given i.op)) ∙ ap (λ ns. result_names i.result ++ ns) (insts_named is)
 
+-- of blocks
 blocks_named : (bs : List Block) → named_locals (results_of bs) ≡ flat_map (λ (b : Block). flat_map (λ (i : Inst). result_names i.result) b.insts) bs
 blocks_named [] = refl
 blocks_named (b ∷ bs) =
     map-append (λ (l : LocalKind). l.name) (kinds_in b.insts) (results_of bs)
     ∙ ap (λ ns. ns ++ named_locals (results_of bs)) (insts_named b.insts) ∙ ap (λ ns. flat_map (λ (i : Inst). result_names i.result) b.insts ++ ns) (blocks_named bs)
 
+-- the names of parameters
 params_named : (ps : List Param) → named_locals (map param_kind ps) ≡ map (λ (p : Param). p.name) ps
 params_named [] = refl
 params_named (p ∷ ps) = ap (λ ns. p.name ∷ ns) (params_named ps)
 
+-- the names of all locals
 locals_named : (f : Function) → named_locals (locals_of f) ≡ param_names f ++ assigned f
 locals_named f =
     map-append (λ (l : LocalKind). l.name) (map param_kind f.params) (results_of f.blocks)
     ∙ ap (λ ns. ns ++ named_locals (results_of f.blocks)) (params_named f.params) ∙ ap (λ ns. param_names f ++ ns) (blocks_named f.blocks)
 
+-- there are as many variables as names that differ
 variables_are : (f : Function) → length (variables_of f) ≡ length (firsts [] (param_names f ++ assigned f))
 variables_are f = variables_length [] (locals_of f) ∙ ap (λ ns. length (firsts [] ns)) (locals_named f)
 
