@@ -1,4 +1,4 @@
-use Rattle.std.proofs.Common.{◌≡◌, ◌≤◌, All, ℕ, length, sym, subst}
+use Rattle.std.proofs.Common.{◌≡◌, ◌≤◌, All, length, sym, subst}
 use Rattle.behavior.specs.Preserves.{Preserves, ReachesWithin}
 use Rattle.low_core.specs.declared.sel.Sel.{Sel}
 use Rattle.low_core.specs.declared.sel.SelFun.{SelFun}
