@@ -51,3 +51,5 @@ pub mod Counts
 pub mod OwnMemory
 pub mod Returning
 pub mod RetStep
+pub mod LastStep
+pub mod EndStep
