@@ -87,10 +87,10 @@ module _ (o : Object) (sel : Sel) (plan : Plan) (contents : List Content) (by : 
     fn = function_in sel g
 
     -- the instructions behind the count
-    abbrev rest : List Instr
+    abbrev pub rest : List Instr
     rest = push_row x.order ++ (makes_room x.room ∷ receive_row x.homes x.room fn.params)
 
-    abbrev blocks : List Marked
+    abbrev pub blocks : List Marked
     blocks = blocks_row x (starts_in sel by g) (row_size (front_row x fn)) (first_slot sel g) fn.blocks
 
     abbrev code : List Marked

@@ -54,3 +54,4 @@ pub mod RetStep
 pub mod LastStep
 pub mod EndStep
 pub mod Front
+pub mod Calling
