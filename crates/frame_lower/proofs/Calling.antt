@@ -161,3 +161,197 @@ module _ (o : Object) (sel : Sel) (plan : Plan) (contents : List Content) (by : 
         (inr (met_by A_ B_ Stage_ (λ _. 0) most_steps s (sel_turned s (Err Depth)) t0 u
         (comes_wider step (1 + 3) (200 + 3) 1 most_steps t0 u (omega arith) (omega arith) (comes_join step 1 200 3 3 t0 t1 u comes stop))
         (inr (refl, record { printed = ap (λ q. q.printed) (sym m); taken = ap (λ q. q.taken) (sym m); ending = ap (λ q. ending.common q.ending) (sym m) }))))
+
+    -- one call more
+    module _ (d : ℕ) (deep : depth ≡ suc d) where
+      abbrev lower : ℕ
+      lower = new.base
+
+      abbrev z : SelFrame
+      z = moved_to o sel by globals_ live last_ f f.block (f.next + 1) f.registers
+
+      abbrev bytes2 : Bytes
+      bytes2 = forgotten bytes new.own.start new.own.size
+
+      room2 : HasRoom lower d
+      room2 = let r = whole.room in let m = frame_few o sel plan contents by live suits g callee is_callee in omega (arith, r, m, deep)
+
+      base_is : f.base ≡ lower + y.room + 48
+      base_is = let r = whole.room in let m = frame_few o sel plan contents by live suits g callee is_callee in omega (arith, r, m, deep)
+
+      wide : 8 * x.words ≤ x.room
+      wide = let e = suits.rooms f.function _ is_function in omega (arith, e)
+
+      rooms : y.room ≡ 8 * y.words + callee.frame
+      rooms = suits.rooms g callee is_callee
+
+      stack2 : IsStack stack_start stack_end ss2
+      stack2 = stack_same stack_start stack_end ss ss2 (shape_trans ss ss1 ss2 shape1 pushed.shape) whole.stack
+
+      -- what lies below the frame, or above the words that were passed, is as it was
+      same2 : (q : ℕ) → (q < lower) ⊎ (f.base + 8 * x.words ≤ q) → byte_at ss2 q ≡ byte_at ss q
+      same2 q c =
+          let e = base_is in
+          elim c [
+            | inl lt ↦ pushed.outside q (inl (omega (arith, lt, e))) ∙ outside1 q (inl (omega (arith, lt, e)))
+            | inr le ↦ pushed.outside q (inr (omega (arith, le, e))) ∙ outside1 q (inr (omega (arith, le, fit)))
+          ]
+
+      -- the flat memory that there was lies elsewhere
+      away : (q : ℕ) → is_inside q 1 (spans_of o sel by globals_ live last_ (f ∷ callers)) ≡ true → (q < stack_start) ⊎ (f.base + 8 * x.words ≤ q)
+      away q i = elim (cases_lt q stack_start) [
+        | inl lt ↦ inl lt
+        | inr ge ↦ elim (cases_lt q (f.base + 8 * x.words)) [ inl lt ↦ absurd ((whole.off q i).0 ge lt) | inr le ↦ inr le ]
+      ]
+
+      beginning : Begins o sel plan contents by live suits g lower d out ns (live g 0 0) (flat_in o sel plan contents by live suits input (new ∷ z ∷ callers) bytes2) w2 fl1 ss2
+      beginning =
+          let e = base_is in
+          let r = room2 in
+          let h = high in
+          let wd = wide in
+          let rs = rooms in
+          let counter = whole.counter in
+          let c15 = same.r15 in
+          let active = whole.active in
+          begins o sel plan contents by live suits g lower d out ns (live g 0 0) (flat_in o sel plan contents by live suits input (new ∷ z ∷ callers) bytes2) w2 fl1 ss2 first_block.0 is_callee first_block.1
+          (c15 ∙ counter ∙ deep) (omega (arith, active, deep)) (omega (arith, e)) stack2 (omega (arith, r)) (omega (arith, e, h, wd, fit)) long small
+          (six_held w1 w2 ns (record { rdi = refl; rsi = refl; rdx = refl; rcx = refl; r8 = refl; r9 = refl }) held)
+          (subst (λ p. StandAt ss2 p (drop 6 ns)) e (stand_same ss1 ss2 (drop 6 ns) f.base (λ p from to. pushed.outside p (inr (omega (arith, from, e)))) stand))
+          (λ ts shape outer.
+              contains_made f.base x.words lower y.words (lower + 8 * y.words) callee.frame f.base (spans_of o sel by globals_ live last_ (f ∷ callers)) bytes ss ts (stack_same stack_start stack_end ss2 ts shape stack2) (shape_trans ss ss2 ts (shape_trans ss ss1 ss2 shape1 pushed.shape) shape)
+              (omega (arith, r)) (omega arith) (omega (arith, e, rs)) (omega (arith, h)) (λ p i lo hi. (whole.off p i).0 lo (omega (arith, hi)))
+              (λ p i. elim (away p i) [
+                | inl lt ↦ outer p (inl (omega (arith, lt, r))) ∙ same2 p (inl (omega (arith, lt, r)))
+                | inr le ↦ outer p (inr (omega (arith, le, e))) ∙ same2 p (inr le)
+              ]) whole.tied.memory)
+
+      abbrev ts : List Segment
+      ts = beginning.segments
+
+      -- from there on too
+      same3 : (q : ℕ) → f.base + 8 * x.words ≤ q → byte_at ts q ≡ byte_at ss q
+      same3 q le = let e = base_is in beginning.outside q (inr (omega (arith, le, e))) ∙ same2 q (inr le)
+
+      landing : IsWay o ts (pushes_of o sel by globals_ live last_ new + 40) (Place.Slot k 5)
+      landing =
+          let e = base_is in
+          let p : f.base - 8 ≡ pushes_of o sel by globals_ live last_ new + 40 = omega (arith, e) in
+          record {
+            word = slot_start o k + 5;
+            small = slot_below o k is_slot suits.few;
+            there = range_same ts ss2 8 (pushes_of o sel by globals_ live last_ new + 40) (λ q from to. beginning.outside q (inr (omega (arith, from)))) ∙ ap (λ a. range_at ss2 a 8) (sym p) ∙ pushed.range;
+            lands = back_lands o k is_slot;
+          }
+
+      allocated : IsAllocated x.homes (live f.function f.block f.next) (live f.function f.block (f.next + 1)) op
+      allocated = (suits.allotted f.function _ is_function).ops f.block f.next b op is_block there
+
+      -- the words of the function that waits
+      stored : (h : Spot) (n : ℕ) → IsHome x.words h → Keeps w1 ss1 h n → Stored ts y.order (pushes_of o sel by globals_ live last_ new) (pushes_of o sel by globals_ live last_ new + 48) h n
+      stored (Own r) n is keeps = subst (λ m. Saved ts (upward y.order) (lower + y.room) r m) (home_rsp w1 (f.base - 8) r is ∙ keeps) (beginning.saved r is)
+      stored (Frame j) n is keeps =
+          let e = base_is in
+          let at : w1.rsp + 8 * j ≡ lower + y.room + 48 + 8 * j = let a = tied1.at_base in omega (arith, a, e) in
+          range_same ts ss1 8 (lower + y.room + 48 + 8 * j) (λ q from to. beginning.outside q (inr (omega (arith, from))) ∙ pushed.outside q (inr (omega (arith, from, e)))) ∙ ap (λ a. range_at ss1 a 8) (sym at) ∙ keeps
+
+      waits : Chain o sel by globals_ live last_ ts new d (z ∷ callers)
+      waits =
+          let e = base_is in
+          let wd = wide in
+          let r = whole.room in
+          (
+            record {
+              back = Place.Slot k 5;
+              way = landing;
+              offset = offset;
+              returns = returns;
+              here = b;
+              is_function = is_function;
+              is_block = is_block;
+              after = offset + row_size (all_unlinked (take_row x.homes into));
+              after_is = refl;
+              stands = stands2;
+              base = omega (arith, e);
+              own = whole.own;
+              room = omega (arith, r, deep);
+              small = whole.tied.small;
+              apart = λ u v i l ne. allocated.apart u v (is_into ∙ i) l ne;
+              stored = λ u n l ne i. stored (x.homes u) n (suits.homes f.function u) (tied1.kept u n (allocated.stays u l (λ i2. ne (sym is_into ∙ i2))) i);
+            },
+            whole.off,
+            chain_moved o sel by globals_ live last_ callers ts f (suc d) f.block (f.next + 1) f.registers
+            (chain_same o sel by globals_ live last_ suits.five suits.homes callers ss ts f (suc d)
+              (λ q i. same3 q (let lo = reserved_low o sel by globals_ live last_ callers ss f depth q whole.chain i in omega (arith, lo, wd)))
+              (subst (λ m. Chain o sel by globals_ live last_ ss f m callers) deep whole.chain)),
+          )
+
+      off2 : IsOff o sel by globals_ live last_ new (z ∷ callers)
+      off2 p i =
+          let e = base_is in
+          let r = room2 in
+          let rs = rooms in
+          elim (one_more (lower + 8 * y.words) callee.frame (spans_of o sel by globals_ live last_ (f ∷ callers)) p 1 i) [
+            | inl c ↦
+                let lo = c.low in
+                let hi = c.high in
+                (λ l m. absurd (omega (arith, lo, m)), λ u. let low = reserved_low o sel by globals_ live last_ (z ∷ callers) ts new d p waits u in absurd (omega (arith, hi, low, rs)))
+            | inr j ↦ (
+              λ l m. (whole.off p j).0 l (omega (arith, m, e, rs)),
+              λ u. elim u [
+                | inl v ↦ let v0 = v.0 in let v1 = v.1 in (whole.off p j).0 (omega (arith, v0, r)) (omega (arith, v1, e))
+                | inr v ↦ (whole.off p j).1 v
+              ],
+            )
+          ]
+
+      whole2 : Tells new d (z ∷ callers) (live g 0 0) bytes2 beginning.words ts
+      whole2 =
+          let active = whole.active in
+          record {
+            tied = beginning.tied;
+            counter = beginning.counter;
+            stack = stack_same stack_start stack_end ss2 ts beginning.shape stack2;
+            room = room2;
+            active = omega (arith, active, deep);
+            own = refl;
+            off = off2;
+            chain = waits;
+          }
+
+      pub begun : Turned_ turn
+      begun =
+          let active = whole.active in
+          let few : nat_le MAX_CALLS (suc (length callers)) ≡ false = lt-leb MAX_CALLS (suc (length callers)) (omega (arith, active, deep)) in
+          let going : Answer SelTurn = Ok (record { frames = new ∷ z ∷ callers; bytes = bytes2; exchange = Nothing }) in
+          let t2 = standing out (Place.Code g (starts_in sel by g 0)) (core_of beginning.words beginning.flags ts) in
+          subst (λ q. Turned_ (if q then Err Depth else Ok (record { frames = new ∷ z ∷ callers; bytes = bytes2; exchange = Nothing }))) (sym few)
+          (inr (met_by A_ B_ Stage_ (λ _. 0) most_steps s (sel_turned s going) t0 t2
+          (comes_wider step (1 + 1) (200 + 100) 1 most_steps t0 t2 (omega arith) (omega arith) (comes_join step 1 200 1 100 t0 t1 t2 comes beginning.comes))
+          (inl (record {
+            frame = new;
+            callers = z ∷ callers;
+            bytes = bytes2;
+            printed = printed;
+            taken = taken;
+            depth = d;
+            words = beginning.words;
+            flags = beginning.flags;
+            segments = ts;
+            offset = starts_in sel by g 0;
+            here = first_block.0;
+            is_function = is_callee;
+            is_block = first_block.1;
+            stands = block_stands sel by g 0 first_block.0 first_block.1;
+            whole = whole2;
+            source = refl;
+            target = refl;
+          }))))
+
+    -- either of them
+    pub called : Turned_ turn
+    called = by_depth depth refl
+      where
+        by_depth : (m : ℕ) → depth ≡ m → Turned_ turn
+        by_depth zero e = too_deep e
+        by_depth (suc d) e = begun d e
