@@ -55,3 +55,4 @@ pub mod LastStep
 pub mod EndStep
 pub mod Front
 pub mod Calling
+pub mod Jumping
