@@ -56,3 +56,5 @@ pub mod EndStep
 pub mod Front
 pub mod Calling
 pub mod Jumping
+pub mod Entered
+pub mod CallStep
