@@ -50,3 +50,6 @@ pub mod Taking
 pub mod Counts
 pub mod OwnMemory
 pub mod Returning
+pub mod RetStep
+pub mod LastStep
+pub mod EndStep
