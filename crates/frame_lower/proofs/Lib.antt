@@ -53,3 +53,4 @@ pub mod Returning
 pub mod RetStep
 pub mod LastStep
 pub mod EndStep
+pub mod Running
