@@ -58,3 +58,4 @@ pub mod Calling
 pub mod Jumping
 pub mod Entered
 pub mod CallStep
+pub mod Running
