@@ -50,3 +50,4 @@ pub mod Taking
 pub mod Counts
 pub mod OwnMemory
 pub mod Returning
+pub mod Departing
