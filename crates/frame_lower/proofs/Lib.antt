@@ -51,3 +51,4 @@ pub mod Counts
 pub mod OwnMemory
 pub mod Returning
 pub mod Departing
+pub mod ByteMemory
