@@ -52,3 +52,4 @@ pub mod OwnMemory
 pub mod Returning
 pub mod Departing
 pub mod ByteMemory
+pub mod OutsideBack
