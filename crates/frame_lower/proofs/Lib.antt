@@ -53,3 +53,4 @@ pub mod Returning
 pub mod Departing
 pub mod ByteMemory
 pub mod OutsideBack
+pub mod Copying
