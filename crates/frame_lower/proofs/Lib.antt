@@ -54,3 +54,4 @@ pub mod Departing
 pub mod ByteMemory
 pub mod OutsideBack
 pub mod Copying
+pub mod OutsideMet
