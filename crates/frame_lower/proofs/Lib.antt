@@ -55,3 +55,9 @@ pub mod ByteMemory
 pub mod OutsideBack
 pub mod Copying
 pub mod OutsideMet
+pub mod RetStep
+pub mod LastStep
+pub mod EndStep
+pub mod Front
+pub mod Calling
+pub mod Jumping
