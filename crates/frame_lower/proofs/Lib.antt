@@ -50,6 +50,11 @@ pub mod Taking
 pub mod Counts
 pub mod OwnMemory
 pub mod Returning
+pub mod Departing
+pub mod ByteMemory
+pub mod OutsideBack
+pub mod Copying
+pub mod OutsideMet
 pub mod RetStep
 pub mod LastStep
 pub mod EndStep
