@@ -64,3 +64,4 @@ pub mod Jumping
 pub mod Entered
 pub mod CallStep
 pub mod Running
+pub mod Start
