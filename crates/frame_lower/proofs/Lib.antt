@@ -50,7 +50,6 @@ pub mod Taking
 pub mod Counts
 pub mod OwnMemory
 pub mod Returning
-pub mod Departing
 pub mod ByteMemory
 pub mod OutsideBack
 pub mod Copying
@@ -61,3 +60,4 @@ pub mod EndStep
 pub mod Front
 pub mod Calling
 pub mod Jumping
+pub mod OutsideCall
