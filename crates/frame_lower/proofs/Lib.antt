@@ -61,3 +61,4 @@ pub mod Front
 pub mod Calling
 pub mod Jumping
 pub mod OutsideCall
+pub mod Spanned
