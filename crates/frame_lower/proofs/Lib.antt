@@ -62,3 +62,4 @@ pub mod Calling
 pub mod Jumping
 pub mod OutsideCall
 pub mod Spanned
+pub mod OutsideLent
