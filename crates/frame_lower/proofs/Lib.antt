@@ -63,3 +63,4 @@ pub mod Jumping
 pub mod OutsideCall
 pub mod Spanned
 pub mod OutsideLent
+pub mod OutsideStep
