@@ -45,6 +45,7 @@ use Rattle.frame_lower.specs.Suits.{Suits}
 use Rattle.frame_lower.proofs.Arguments.{Told, HaveWords, words_cases, have_long, have_small}
 use Rattle.frame_lower.proofs.ByteMemory.{HoldBytes}
 use Rattle.frame_lower.proofs.Copying.{Copies, LeavesMeaning, copy_cases, fill_cases, fill_changes}
+use Rattle.frame_lower.proofs.Facts.{op_shaped}
 use Rattle.frame_lower.proofs.OutsideBack.{Changed, unchanged}
 use Rattle.frame_lower.proofs.OutsideCall.{IsRoutine, shaped, routine_called}
 use Rattle.frame_lower.proofs.OutsideLent.{none_changed, lent_writes, may_copy, copied_changes}
@@ -221,3 +222,36 @@ module _ (o : Object) (sel : Sel) (plan : Plan) (contents : List Content) (by : 
             (lent_writes o sel plan contents by live suits input f callers bytes printed taken depth w fl ss off b is_function is_block whole fine (length sel.functions + 5) None (to ∷ m ∷ n ∷ []) c to n p.0)
             (fill_changes spans bytes to n p.0 (m % 256) (omega arith)))
         by_cases (inr (inr x)) = leaves_meaning (puts_bytes f callers (filled flat to (m % 256) n)) x.reason (ap (puts_bytes f callers) x.is)
+
+    -- as many arguments as it takes, and a result or none
+    shape_of : (which : Which) (into : Option ℕ) (args : List ℕ) → slice_get b.ops f.next ≡ Some (Outside which into args) → (length args ≡ arity which) × HasResult which into
+    shape_of which into args there = (op_shaped o sel plan contents by live suits f.function f.block f.next _ b (Outside which into args) is_function is_block there).fits
+
+    -- with another number of words there is no such step
+    none_such : (which : Which) (into : Option ℕ) (args ns : List ℕ) → slice_get b.ops f.next ≡ Some (Outside which into args) → HaveWords f.registers args ns → length ns ≡ arity which
+    none_such which into args ns there have = have_long f.registers args ns have ∙ (shape_of which into args there).0
+
+    by_which : (which : Which) (into : Option ℕ) (args ns : List ℕ) → slice_get b.ops f.next ≡ Some (Outside which into args) → HaveWords f.registers args ns → Turned_ (outside_turn flat input s f callers into which ns)
+    by_which Putchar into args (n ∷ []) there have = prints into args n there have
+    by_which Putchar into args ns there have = let l = none_such Putchar into args ns there have in absurd (omega (arith, l))
+    by_which Getchar into args [] there have = takes into args there have (slice_get input taken) refl
+    by_which Getchar into args ns there have = let l = none_such Getchar into args ns there have in absurd (omega (arith, l))
+    by_which Exit into args (n ∷ []) there have = exits into args n there have
+    by_which Exit into args ns there have = let l = none_such Exit into args ns there have in absurd (omega (arith, l))
+    by_which Memcpy (Some r) args ns there have = absurd (shape_of Memcpy (Some r) args there).1
+    by_which Memcpy None args (to ∷ from ∷ n ∷ []) there have = copies args to from n there have
+    by_which Memcpy None args ns there have = let l = none_such Memcpy None args ns there have in absurd (omega (arith, l))
+    by_which Memset (Some r) args ns there have = absurd (shape_of Memset (Some r) args there).1
+    by_which Memset None args (to ∷ m ∷ n ∷ []) there have = fills args to m n there have
+    by_which Memset None args ns there have = let l = none_such Memset None args ns there have in absurd (omega (arith, l))
+    by_which outer.Trap into args [] there have = traps into args there
+    by_which outer.Trap into args ns there have = let l = none_such outer.Trap into args ns there have in absurd (omega (arith, l))
+
+    -- each of them
+    pub outside_step : (which : Which) (into : Option ℕ) (args : List ℕ) → slice_get b.ops f.next ≡ Some (Outside which into args) → Turned_ (op_turn sel plan flat input s f callers (Outside which into args))
+    outside_step which into args there =
+        let turn = λ (q : Answer (List ℕ)). and_then q (λ ns. outside_turn flat input s f callers into which ns) in
+        elim (words_cases f.registers args) [
+          | inl t ↦ subst Turned_ (sym (ap turn t.gives)) (by_which which into args t.words there t.have)
+          | inr e ↦ leaves_meaning (turn (words_in f.registers args)) Unset (ap turn e)
+        ]
