@@ -64,3 +64,5 @@ pub mod Jumping
 pub mod Entered
 pub mod CallStep
 pub mod Running
+pub mod Globals
+pub mod StartStep
