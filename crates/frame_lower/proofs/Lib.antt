@@ -66,3 +66,4 @@ pub mod CallStep
 pub mod Running
 pub mod Globals
 pub mod StartStep
+pub mod OpStep
