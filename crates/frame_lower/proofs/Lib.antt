@@ -50,7 +50,6 @@ pub mod Taking
 pub mod Counts
 pub mod OwnMemory
 pub mod Returning
-pub mod Departing
 pub mod ByteMemory
 pub mod OutsideBack
 pub mod Copying
@@ -67,3 +66,5 @@ pub mod Running
 pub mod Globals
 pub mod StartStep
 pub mod OpStep
+pub mod OutsideCall
+pub mod Spanned
