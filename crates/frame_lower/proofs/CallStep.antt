@@ -1,19 +1,18 @@
 -- A call of a function by its number, and one by its address.
-use Rattle.std.proofs.Common.{◌≡◌, ◌≢◌, ℕ, zero, suc, ◌+◌, ◌-◌, ◌*◌, ◌^◌, ◌<◌, ◌≤◌, true, List, [], ◌∷◌, ◌++◌, length, drop, take, Option, Some, None, Ok, Err, refl, sym, ◌∙◌, ap, subst, inl, inr, ◌⊎◌, arith}
-use Rattle.std.specs.Prelude.{pos, negsuc, slice_get}
+use Rattle.std.proofs.Common.{◌≡◌, ℕ, ◌+◌, ◌-◌, ◌≤◌, List, [], ◌∷◌, ◌++◌, length, drop, Option, Some, None, Ok, refl, sym, ◌∙◌, ap, subst, inl, inr, arith}
+use Rattle.std.specs.Prelude.{negsuc, slice_get}
 use Rattle.std.proofs.lemmas.Bool.{cases_eq}
 use Rattle.std.proofs.lemmas.List.{append-nil, length-drop}
 use Rattle.behavior.specs.Simulation.{Comes}
 use Rattle.behavior.proofs.Stretch.{comes_one, comes_join, comes_wider}
-use Rattle.ir_core.specs.declared.memory.Reason.TheVariants.{Bounds, Unset}
+use Rattle.ir_core.specs.declared.memory.Reason.TheVariants.{Bounds}
 use Rattle.ir_core.specs.Stops.{Answer, Left, Malformed, and_then, found_or}
 use Rattle.rd_num.specs.Number.{le_bytes}
 use Rattle.x86_core.specs.declared.flags.Flags.{Flags}
 use Rattle.x86_core.specs.declared.image.Segment.{Segment}
 use Rattle.x86_core.specs.declared.instr.Instr.{Instr}
-use Rattle.x86_core.specs.declared.reg.Reg.TheVariants.{R11, Rsp}
+use Rattle.x86_core.specs.declared.reg.Reg.TheVariants.{R11}
 use Rattle.x86_core.specs.Data.{stack_start, stack_end}
-use Rattle.x86_core.specs.Memory.{writes}
 use Rattle.x86_core.specs.Arithmetic.{moved}
 use Rattle.x86_core.specs.Step.{State}
 use Rattle.x86_rows.specs.Addresses.{SameShape, Written}
@@ -28,7 +27,7 @@ use Rattle.low_core.specs.Flat.{Flat, Bytes}
 use Rattle.low_core.specs.Plan.{Plan, Content}
 use Rattle.low_core.specs.SelParts as parts
 use Rattle.low_core.specs.SelShaped.{IsCallOf}
-use Rattle.low_core.specs.SelState.{SelFrame, SelState, SelTurn, sel_turned, word_in, words_in}
+use Rattle.low_core.specs.SelState.{SelFrame, SelState, SelTurn, word_in, words_in}
 use Rattle.low_core.specs.SelStep.{enters, function_at, op_turn}
 use Rattle.low_core.specs.SelWeights.{arguments_of}
 use Rattle.obj_core.specs.declared.object.Object.{Object}
@@ -36,7 +35,7 @@ use Rattle.obj_core.specs.declared.object.Place.{Place}
 use Rattle.obj_core.specs.declared.object.Slot.{Slot}
 use Rattle.obj_core.specs.Slots.{slot_start}
 use Rattle.obj_core.specs.SymbolicMachine.{symbolic_step}
-use Rattle.obj_rows.specs.Marked.{Marked, Stands}
+use Rattle.obj_rows.specs.Marked.{Stands}
 use Rattle.obj_rows.specs.Standing.{Outside as World, standing}
 use Rattle.obj_rows.proofs.Slots.{call_goes, call_returns, indirect_returns, pointer_goes}
 use Rattle.obj_rows.proofs.Words.{found_within}
@@ -53,7 +52,7 @@ use Rattle.frame_lower.proofs.Chains.{chain_high}
 use Rattle.frame_lower.proofs.Entered.{address_taken, taken_is, enters_is, enters_not}
 use Rattle.frame_lower.proofs.Facts.{op_shaped}
 use Rattle.frame_lower.proofs.Jumping.{slot, jump_at, back_stands, has_slot, to_slot, passed_fit}
-use Rattle.frame_lower.proofs.Passing.{Passes, passes, PassesAt, passes_at}
+use Rattle.frame_lower.proofs.Passing.{Passes, passes, passes_at}
 use Rattle.frame_lower.proofs.PlainStep.{stack_same, Turned}
 use Rattle.frame_lower.proofs.Stage.{flat_in, globals, last, state_of, function_is, Whole}
 

@@ -1,6 +1,6 @@
 -- A call, from the start of the function that is called: it begins, or one call too many is active.
-use Rattle.std.proofs.Common.{◌≡◌, ◌≢◌, ℕ, zero, suc, ◌+◌, ◌-◌, ◌*◌, ◌^◌, ◌<◌, ◌≤◌, Bool, true, false, nat_le, if◌then◌else◌, List, [], ◌∷◌, ◌++◌, length, drop, Option, Some, None, Ok, Err, refl, sym, ◌∙◌, ap, subst, inl, inr, ◌⊎◌, arith}
-use Rattle.std.specs.Prelude.{pos, replicate, slice_get, get_or}
+use Rattle.std.proofs.Common.{◌≡◌, ℕ, zero, suc, ◌+◌, ◌-◌, ◌*◌, ◌<◌, ◌≤◌, true, false, nat_le, if◌then◌else◌, List, ◌∷◌, ◌++◌, length, drop, Option, Some, Ok, Err, refl, sym, ◌∙◌, ap, subst, inl, inr, ◌⊎◌, arith}
+use Rattle.std.specs.Prelude.{slice_get, get_or}
 use Rattle.std.proofs.lemmas.Bool.{le-leb, lt-leb, cases_lt}
 use Rattle.std.proofs.lemmas.Option.{slice_get-get_or}
 use Rattle.behavior.specs.Ending as ending
@@ -13,12 +13,11 @@ use Rattle.ir_core.specs.Stops.{Answer, Depth}
 use Rattle.rd_num.specs.Number.{le_bytes}
 use Rattle.x86_core.specs.declared.flags.Flags.{Flags}
 use Rattle.x86_core.specs.declared.image.Segment.{Segment}
-use Rattle.x86_core.specs.declared.instr.Instr.TheVariants.{Int3}
 use Rattle.x86_core.specs.Data.{stack_start, stack_end}
 use Rattle.x86_core.specs.Step.{State, moment_of}
 use Rattle.x86_rows.specs.Addresses.{byte_at, range_at, SameShape, Written}
 use Rattle.x86_rows.specs.Saving.{IsStack}
-use Rattle.x86_rows.specs.Straight.{Core, Stopped, exec}
+use Rattle.x86_rows.specs.Straight.{Core}
 use Rattle.x86_rows.proofs.Covers.{range_same}
 use Rattle.x86_rows.proofs.Shapes.{shape_trans}
 use Rattle.low_core.specs.declared.sel.SelBlock.{SelBlock}
@@ -28,13 +27,13 @@ use Rattle.low_core.specs.declared.sel.Sel.{Sel}
 use Rattle.low_core.specs.Flat.{Span, Bytes, is_inside, forgotten}
 use Rattle.low_core.specs.Plan.{FramePlan, Plan, Content}
 use Rattle.low_core.specs.SelParts.{assigns_of}
-use Rattle.low_core.specs.SelState.{SelFrame, SelState, SelTurn, sel_turned, word_in, first_sel_frame}
+use Rattle.low_core.specs.SelState.{SelFrame, SelState, SelTurn, sel_turned, first_sel_frame}
 use Rattle.low_core.specs.SelStep as sel_step
 use Rattle.obj_core.specs.declared.object.Object.{Object}
 use Rattle.obj_core.specs.declared.object.Place.{Place}
 use Rattle.obj_core.specs.Slots.{slot_start}
 use Rattle.obj_core.specs.SymbolicMachine.{symbolic_step}
-use Rattle.obj_rows.specs.Marked.{Marked, unlinked, all_unlinked, row_size, Stands}
+use Rattle.obj_rows.specs.Marked.{all_unlinked, row_size, Stands}
 use Rattle.obj_rows.specs.Standing.{Outside, standing, shown}
 use Rattle.obj_rows.proofs.Rows.{stands_first}
 use Rattle.obj_rows.proofs.Runs.{row_stops}
@@ -43,10 +42,10 @@ use Rattle.frame_rows.specs.declared.spot.Spot.{Spot}
 use Rattle.frame_rows.specs.declared.spot.Spot.TheVariants.{Own, Frame}
 use Rattle.frame_rows.specs.Steps.{IsAllocated}
 use Rattle.frame_rows.specs.Ties.{IsHome, Keeps, Tied}
-use Rattle.frame_rows.specs.Words.{Words, held_in, core_of}
+use Rattle.frame_rows.specs.Words.{Words, core_of}
 use Rattle.frame_rows.proofs.Registers.{Same}
 use Rattle.frame_lower.specs.Calls.{argument_registers, take_row}
-use Rattle.frame_lower.specs.Chain.{upward, Saved, Stored, IsWay, HasRoom, function_in, code_in, rest_in, starts_in, pushes_of, spans_of, Reserved, IsOff, Entry, Chain}
+use Rattle.frame_lower.specs.Chain.{upward, Saved, Stored, IsWay, HasRoom, function_in, code_in, rest_in, starts_in, pushes_of, spans_of, IsOff, Chain}
 use Rattle.frame_lower.specs.Frames.{kept_bytes}
 use Rattle.frame_lower.specs.Rows.{Making, count_row}
 use Rattle.frame_lower.specs.Suits.{Suits}

@@ -1,10 +1,9 @@
 -- The end that leads to one of two blocks.
-use Rattle.std.proofs.Common.{◌≡◌, ℕ, ◌+◌, ◌%◌, ◌^◌, ◌<◌, Bool, true, false, not, nat_eq, if◌then◌else◌, List, [], ◌∷◌, drop, Some, None, Ok, Err, refl, sym, ◌∙◌, ap, subst, inl, inr, ◌⊎◌, arith}
+use Rattle.std.proofs.Common.{◌≡◌, ℕ, ◌+◌, ◌%◌, ◌^◌, ◌<◌, Bool, true, false, not, nat_eq, if◌then◌else◌, List, [], ◌∷◌, drop, Some, None, Ok, refl, sym, ◌∙◌, ap, subst, inl, inr, arith}
 use Rattle.std.specs.Prelude.{slice_get}
 use Rattle.behavior.specs.System.{System}
 use Rattle.behavior.proofs.Stretch.{comes_one, comes_step, comes_wider, met_by}
-use Rattle.ir_core.specs.declared.memory.Reason.TheVariants.{Unset}
-use Rattle.ir_core.specs.Stops.{Left, Answer, and_then}
+use Rattle.ir_core.specs.Stops.{Answer, and_then}
 use Rattle.x86_core.specs.declared.flags.Flags.{Flags}
 use Rattle.x86_core.specs.declared.image.Segment.{Segment}
 use Rattle.x86_core.specs.declared.reg.Reg.TheVariants.{Rax}
@@ -15,7 +14,7 @@ use Rattle.x86_core.specs.Step.{State}
 use Rattle.low_core.specs.declared.sel.SelBlock.{SelBlock}
 use Rattle.low_core.specs.declared.sel.SelEnd.TheVariants as end
 use Rattle.low_core.specs.declared.sel.Sel.{Sel}
-use Rattle.low_core.specs.Flat.{Span, Bytes}
+use Rattle.low_core.specs.Flat.{Bytes}
 use Rattle.low_core.specs.Plan.{Plan, Content}
 use Rattle.low_core.specs.SelParts.{IsOneOf, leads_to, end_reads}
 use Rattle.low_core.specs.SelState.{SelFrame, SelState, SelTurn, sel_turned, word_in}

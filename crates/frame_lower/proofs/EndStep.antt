@@ -1,11 +1,10 @@
 -- A step at the end of a block.
-use Rattle.std.proofs.Common.{◌≡◌, ◌≢◌, ℕ, ◌+◌, ◌%◌, ◌^◌, ◌<◌, ◌≤◌, List, [], ◌∷◌, ◌++◌, length, drop, Option, Some, None, Ok, Err, refl, sym, ◌∙◌, ap, subst, inl, inr, ◌⊎◌, arith}
+use Rattle.std.proofs.Common.{◌≡◌, ℕ, ◌^◌, ◌<◌, List, [], ◌∷◌, Option, Some, None, Ok, refl, sym, ◌∙◌, subst, inl, inr, arith}
 use Rattle.std.specs.Prelude.{slice_get}
 use Rattle.ir_core.specs.Stops.{Answer, and_then}
 use Rattle.x86_core.specs.declared.flags.Flags.{Flags}
 use Rattle.x86_core.specs.declared.image.Segment.{Segment}
 use Rattle.x86_core.specs.declared.reg.Reg.TheVariants.{Rax}
-use Rattle.x86_core.specs.declared.instr.Instr.{Instr}
 use Rattle.x86_rows.specs.Straight.{Through, exec}
 use Rattle.x86_rows.proofs.Rows.{exec-first}
 use Rattle.low_core.specs.declared.sel.SelBlock.{SelBlock}
@@ -19,15 +18,15 @@ use Rattle.low_core.specs.SelParts.{IsOneOf, end_reads}
 use Rattle.low_core.specs.SelState.{SelFrame, SelState, SelTurn, word_in}
 use Rattle.low_core.specs.SelStep.{goes, delivered, with_result, returns_with, end_turn}
 use Rattle.obj_core.specs.declared.object.Object.{Object}
-use Rattle.obj_rows.specs.Marked.{Marked, all_unlinked, Stands}
+use Rattle.obj_rows.specs.Marked.{all_unlinked, Stands}
 use Rattle.obj_rows.proofs.Rows.{stands_first}
 use Rattle.frame_rows.specs.Code.{home_read}
 use Rattle.frame_rows.specs.Words.{Words, core_of}
 use Rattle.frame_rows.proofs.Meeting.{word_cases}
 use Rattle.frame_rows.proofs.Registers.{Same}
 use Rattle.frame_rows.proofs.Results.{reads_one}
-use Rattle.frame_lower.specs.Chain.{function_in, code_in, starts_in, rest_in}
-use Rattle.frame_lower.specs.Rows.{Making, leave_row, end_row}
+use Rattle.frame_lower.specs.Chain.{function_in, code_in, rest_in}
+use Rattle.frame_lower.specs.Rows.{Making, leave_row}
 use Rattle.frame_lower.specs.Suits.{Suits}
 use Rattle.frame_lower.proofs.Branching.{end_here, go_step, trap_step}
 use Rattle.frame_lower.proofs.ChoiceStep.{if_step}

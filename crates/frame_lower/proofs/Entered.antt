@@ -1,13 +1,13 @@
 -- What a call does in a program of registers: the function that is called, by its number or by its address.
-use Rattle.std.proofs.Common.{◌≡◌, ◌≢◌, ℕ, zero, suc, ◌+◌, ◌-◌, ◌*◌, ◌<◌, ◌≤◌, Bool, true, false, ◌&&◌, nat_eq, if◌then◌else◌, List, [], ◌∷◌, length, Option, Some, None, Ok, Err, refl, sym, ◌∙◌, ap, subst, inl, inr, ◌⊎◌, arith}
-use Rattle.std.specs.Prelude.{slice_get, get_or, option_map}
-use Rattle.std.proofs.lemmas.Bool.{and_parts, cases_Bool, cases_eq, eq-eqb, eqb-true, ne_eqb}
+use Rattle.std.proofs.Common.{◌≡◌, ℕ, suc, ◌+◌, ◌*◌, Bool, true, false, ◌&&◌, nat_eq, if◌then◌else◌, List, [], ◌∷◌, length, Option, Some, None, Err, refl, ◌∙◌, ap, subst, arith}
+use Rattle.std.specs.Prelude.{slice_get, option_map}
+use Rattle.std.proofs.lemmas.Bool.{and_parts, eq-eqb, eqb-true, ne_eqb}
 use Rattle.std.proofs.lemmas.Option.{slice_get_within, slice_get-get_or}
 use Rattle.ir_core.specs.Stops.{Answer, Malformed, and_then, found_or}
 use Rattle.ir_core.specs.Stops as stop
 use Rattle.low_core.specs.declared.sel.SelFun.{SelFun}
 use Rattle.low_core.specs.declared.sel.Sel.{Sel}
-use Rattle.low_core.specs.Plan.{FramePlan, Plan, Content, IsTaken}
+use Rattle.low_core.specs.Plan.{FramePlan, Plan, Content}
 use Rattle.low_core.specs.SelState.{SelFrame, SelState, SelTurn, first_sel_frame}
 use Rattle.low_core.specs.SelStep.{begins, enters, function_at}
 use Rattle.obj_core.specs.declared.object.Object.{Object}

@@ -1,9 +1,9 @@
 -- From the start of a function to its first block.
-use Rattle.std.proofs.Common.{◌≡◌, ℕ, zero, suc, ◌+◌, ◌*◌, ◌%◌, ◌^◌, ◌<◌, ◌≤◌, true, List, [], ◌∷◌, ◌++◌, length, drop, Option, Some, None, refl, sym, ◌∙◌, ap, subst, inl, inr, ◌⊎◌, arith, length-append}
+use Rattle.std.proofs.Common.{◌≡◌, ℕ, suc, ◌+◌, ◌*◌, ◌^◌, ◌<◌, ◌≤◌, true, List, [], ◌∷◌, ◌++◌, length, drop, Some, None, refl, sym, ◌∙◌, ap, subst, inl, inr, ◌⊎◌, arith, length-append}
 use Rattle.std.specs.Prelude.{pos, replicate, slice_get}
 use Rattle.std.proofs.lemmas.List.{append-nil}
 use Rattle.behavior.specs.Simulation.{Comes}
-use Rattle.behavior.proofs.Stretch.{comes_one, comes_step, comes_join, comes_wider}
+use Rattle.behavior.proofs.Stretch.{comes_one, comes_join, comes_wider}
 use Rattle.x86_core.specs.declared.flags.Flags.{Flags}
 use Rattle.x86_core.specs.declared.image.Segment.{Segment}
 use Rattle.x86_core.specs.declared.reg.Reg.{Reg}
@@ -12,7 +12,6 @@ use Rattle.x86_core.specs.declared.instr.Cond.{Cond}
 use Rattle.x86_core.specs.declared.instr.Instr.{Instr}
 use Rattle.x86_core.specs.declared.instr.Instr.TheVariants.{Jcc, Int3}
 use Rattle.x86_core.specs.Data.{stack_start, stack_end}
-use Rattle.x86_core.specs.Step.{State}
 use Rattle.x86_rows.specs.Addresses.{byte_at, SameShape}
 use Rattle.x86_rows.specs.Saving.{IsStack}
 use Rattle.x86_rows.specs.Straight.{Through, exec}
@@ -45,13 +44,13 @@ use Rattle.frame_lower.proofs.Arguments.{AreSmall, AreHeld, StandAt, six_held, s
 use Rattle.frame_lower.proofs.Bodies.{front_stands, first_starts}
 use Rattle.frame_lower.proofs.Bound.{homes_apart}
 use Rattle.frame_lower.proofs.Chains.{saved_same}
-use Rattle.frame_lower.proofs.Counting.{one_fewer, CountsDown, counts_down}
+use Rattle.frame_lower.proofs.Counting.{one_fewer, counts_down}
 use Rattle.frame_lower.proofs.Counts.{push_count, receive_count}
-use Rattle.frame_lower.proofs.Entering.{makes_room, Enters, enters}
-use Rattle.frame_lower.proofs.Facts.{function_shaped, frame_few}
+use Rattle.frame_lower.proofs.Entering.{makes_room, enters}
+use Rattle.frame_lower.proofs.Facts.{function_shaped}
 use Rattle.frame_lower.proofs.Order.{upward_long}
 use Rattle.frame_lower.proofs.PlainStep.{stack_same}
-use Rattle.frame_lower.proofs.Receiving.{Receives, receives}
+use Rattle.frame_lower.proofs.Receiving.{receives}
 use Rattle.frame_lower.proofs.RetStep.{room_in}
 use Rattle.frame_lower.proofs.Saved.{saved_of}
 

@@ -1,11 +1,10 @@
 -- Globals lie outside of the stack.
-use Rattle.std.proofs.Common.{◌≡◌, ◌≢◌, ℕ, zero, suc, ◌+◌, ◌-◌, ◌<◌, ◌≤◌, true, not, ◌&&◌, nat_le, List, [], ◌∷◌, length, Option, Some, None, refl, sym, ◌∙◌, ap, subst, inl, inr, ◌⊎◌, arith}
+use Rattle.std.proofs.Common.{◌≡◌, ℕ, suc, ◌+◌, ◌-◌, ◌<◌, ◌≤◌, true, not, nat_le, List, [], ◌∷◌, length, Some, refl, subst, inl, inr, arith}
 use Rattle.std.specs.Prelude.{slice_get}
 use Rattle.std.proofs.lemmas.Bool.{or_cases, and_parts, leb-true}
-use Rattle.x86_core.specs.Data.{stack_start, stack_end}
 use Rattle.low_core.specs.declared.sel.Sel.{Sel}
 use Rattle.low_core.specs.Flat.{covers, is_inside}
-use Rattle.low_core.specs.Plan.{Plan, Content, Lies, IsOffStack, PlanFits, global_spans}
+use Rattle.low_core.specs.Plan.{Plan, Content, IsOffStack, PlanFits, global_spans}
 
 -- a byte of a global
 record IsIn (ats : List ℕ) (cs : List Content) (p : ℕ) : Type 0 where

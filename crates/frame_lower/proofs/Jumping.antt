@@ -1,5 +1,5 @@
 -- From a call to its slot: arguments where they are wanted, and a jump.
-use Rattle.std.proofs.Common.{◌≡◌, ℕ, zero, suc, ◌+◌, ◌-◌, ◌*◌, ◌^◌, ◌<◌, ◌≤◌, max, List, [], ◌∷◌, ◌++◌, length, drop, take, Option, Some, None, refl, sym, ◌∙◌, ap, subst, arith, append_assoc, length-append}
+use Rattle.std.proofs.Common.{◌≡◌, ℕ, zero, suc, ◌+◌, ◌-◌, ◌≤◌, List, [], ◌∷◌, ◌++◌, length, drop, take, Option, Some, refl, sym, ◌∙◌, ap, subst, arith, append_assoc, length-append}
 use Rattle.std.specs.Prelude.{pos, slice_get}
 use Rattle.std.specs.List.{flat_map}
 use Rattle.std.proofs.lemmas.List.{length-drop}
@@ -10,10 +10,8 @@ use Rattle.x86_core.specs.declared.flags.Flags.{Flags}
 use Rattle.x86_core.specs.declared.image.Segment.{Segment}
 use Rattle.x86_core.specs.declared.instr.Instr.{Instr}
 use Rattle.x86_core.specs.declared.instr.Instr.TheVariants.{Jmp}
-use Rattle.x86_core.specs.Step.{State}
 use Rattle.x86_rows.specs.Straight.{Through, exec}
 use Rattle.low_core.specs.declared.sel.SelBlock.{SelBlock}
-use Rattle.low_core.specs.declared.sel.SelFun.{SelFun}
 use Rattle.low_core.specs.declared.sel.SelOp.{SelOp}
 use Rattle.low_core.specs.declared.sel.Sel.{Sel}
 use Rattle.low_core.specs.Plan.{Plan, Content}

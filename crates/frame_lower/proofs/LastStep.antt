@@ -1,10 +1,9 @@
 -- The return of the first function, which ends the run.
-use Rattle.std.proofs.Common.{◌≡◌, ℕ, zero, suc, ◌+◌, ◌*◌, ◌%◌, ◌^◌, ◌<◌, ◌≤◌, List, [], ◌∷◌, ◌++◌, length, drop, Option, Some, None, Err, refl, sym, ◌∙◌, ap, subst, inl, inr, ◌⊎◌, arith}
+use Rattle.std.proofs.Common.{◌≡◌, ℕ, ◌+◌, ◌%◌, ◌^◌, ◌<◌, ◌≤◌, List, [], ◌++◌, length, drop, Some, Err, refl, sym, ◌∙◌, ap, inr, arith}
 use Rattle.std.specs.Prelude.{slice_get}
 use Rattle.behavior.specs.Ending as ending
-use Rattle.behavior.specs.System.{System}
 use Rattle.behavior.proofs.Stretch.{comes_join, comes_wider, met_by}
-use Rattle.ir_core.specs.Stops.{Answer, Ended}
+use Rattle.ir_core.specs.Stops.{Ended}
 use Rattle.x86_core.specs.declared.flags.Flags.{Flags}
 use Rattle.x86_core.specs.declared.image.Segment.{Segment}
 use Rattle.x86_core.specs.declared.instr.Instr.{Instr}
@@ -13,13 +12,13 @@ use Rattle.x86_core.specs.Step.{State, moment_of}
 use Rattle.x86_rows.specs.Straight.{Through, exec}
 use Rattle.low_core.specs.declared.sel.SelBlock.{SelBlock}
 use Rattle.low_core.specs.declared.sel.Sel.{Sel}
-use Rattle.low_core.specs.Flat.{Span, Bytes}
+use Rattle.low_core.specs.Flat.{Bytes}
 use Rattle.low_core.specs.Plan.{Plan, Content}
-use Rattle.low_core.specs.SelState.{SelFrame, SelState, SelTurn, sel_turned}
+use Rattle.low_core.specs.SelState.{SelFrame, sel_turned}
 use Rattle.obj_core.specs.declared.object.Object.{Object}
 use Rattle.obj_core.specs.declared.object.Place.{Place}
 use Rattle.obj_core.specs.SymbolicMachine.{symbolic_step}
-use Rattle.obj_rows.specs.Marked.{Marked, all_unlinked, Stands}
+use Rattle.obj_rows.specs.Marked.{all_unlinked, Stands}
 use Rattle.obj_rows.specs.Routines.{ComesToShow, few_steps}
 use Rattle.obj_rows.specs.Standing.{Outside, standing, shown}
 use Rattle.frame_rows.specs.Words.{Words, core_of}

@@ -1,5 +1,5 @@
 -- A step at any operation, where calls of routines are met.
-use Rattle.std.proofs.Common.{◌≡◌, ℕ, suc, ◌+◌, ◌≤◌, List, [], ◌∷◌, length, drop, Option, Some, None, Ok, Err, refl, sym, ◌∙◌, ap, subst, inl, inr, ◌⊎◌, arith}
+use Rattle.std.proofs.Common.{◌≡◌, ℕ, List, [], ◌∷◌, length, Option, Some, Err, refl, ap, arith}
 use Rattle.std.specs.Prelude.{slice_get}
 use Rattle.behavior.specs.Ending as ending
 use Rattle.ir_core.specs.Stops.{Answer, and_then}
@@ -23,7 +23,7 @@ use Rattle.low_core.specs.SelStep.{outside_turn, op_turn}
 use Rattle.obj_core.specs.declared.object.Object.{Object}
 use Rattle.obj_rows.specs.Marked.{Stands}
 use Rattle.frame_rows.specs.Words.{Words, core_of}
-use Rattle.frame_lower.specs.Chain.{function_in, slot_behind, code_in, rest_in}
+use Rattle.frame_lower.specs.Chain.{function_in, code_in, rest_in}
 use Rattle.frame_lower.specs.Rows.{Making}
 use Rattle.frame_lower.specs.Suits.{Suits}
 use Rattle.frame_lower.proofs.CallStep.{call_step, call_at_step}

@@ -1,13 +1,13 @@
 -- The flat memory of a call that begins, and of one that is over.
-use Rattle.std.proofs.Common.{◌≡◌, ℕ, ◌+◌, ◌*◌, ◌<◌, ◌≤◌, Bool, true, false, ◌&&◌, ◌||◌, nat_le, nat_lt, if◌then◌else◌, List, ◌∷◌, Option, Some, None, refl, sym, ◌∙◌, ap, inl, inr, ◌⊎◌, arith}
-use Rattle.std.proofs.lemmas.Bool.{cases_lt, or_cases, and_parts, and_from, leb-true, le-leb, lt-ltb}
+use Rattle.std.proofs.Common.{◌≡◌, ℕ, ◌+◌, ◌*◌, ◌<◌, ◌≤◌, Bool, true, false, ◌&&◌, ◌||◌, nat_le, nat_lt, if◌then◌else◌, List, ◌∷◌, Some, None, refl, sym, ◌∙◌, ap, inl, inr, ◌⊎◌, arith}
+use Rattle.std.proofs.lemmas.Bool.{or_cases, and_parts, and_from, leb-true, le-leb, lt-ltb}
 use Rattle.x86_core.specs.declared.image.Segment.{Segment}
 use Rattle.x86_core.specs.Memory.{reads, writes}
 use Rattle.x86_core.specs.Data.{stack_start, stack_end}
 use Rattle.x86_rows.specs.Addresses.{byte_at, SameShape}
 use Rattle.x86_rows.specs.Saving.{IsStack}
 use Rattle.x86_rows.proofs.Shapes.{one_same}
-use Rattle.low_core.specs.Flat.{Span, Bytes, Flat, covers, is_inside, is_writable, forgotten}
+use Rattle.low_core.specs.Flat.{Span, Bytes, covers, is_inside, is_writable, forgotten}
 use Rattle.frame_rows.specs.Ties.{Contains}
 
 -- a range in a span, in numbers

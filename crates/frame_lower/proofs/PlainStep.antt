@@ -1,11 +1,10 @@
 -- A step that is no call: the row of the operation is passed, or stops as it does.
-use Rattle.std.proofs.Common.{◌≡◌, ℕ, zero, suc, ◌+◌, ◌*◌, ◌^◌, ◌<◌, ◌≤◌, List, [], ◌∷◌, ◌++◌, length, drop, take, Option, Some, None, Ok, Err, refl, sym, ◌∙◌, ap, subst, inl, inr, ◌⊎◌, true, false, arith}
+use Rattle.std.proofs.Common.{◌≡◌, ℕ, ◌+◌, ◌*◌, ◌≤◌, List, ◌∷◌, ◌++◌, length, drop, take, Option, Some, Err, refl, sym, ◌∙◌, ap, subst, inl, inr, ◌⊎◌, false, arith}
 use Rattle.std.specs.Prelude.{slice_get}
 use Rattle.behavior.specs.Ending.{Ending, is_left}
 use Rattle.behavior.specs.Ending as ending
 use Rattle.behavior.specs.Moment.{IsLeft}
 use Rattle.behavior.specs.System.{System, iter}
-use Rattle.behavior.proofs.Laws.{agrees_equal}
 use Rattle.behavior.proofs.Stretch.{comes_wider, met_by}
 use Rattle.ir_core.specs.Stops.{Stop, Divide, Answer, ending_of}
 use Rattle.x86_core.specs.declared.flags.Flags.{Flags}
@@ -16,22 +15,21 @@ use Rattle.x86_core.specs.Memory.{reads, writes}
 use Rattle.x86_core.specs.Step.{State, moment_of}
 use Rattle.x86_rows.specs.Addresses.{SameShape}
 use Rattle.x86_rows.specs.Saving.{IsStack}
-use Rattle.x86_rows.specs.Straight.{Through, Stopped, exec}
+use Rattle.x86_rows.specs.Straight.{Stopped, exec}
 use Rattle.x86_rows.proofs.Shapes.{one_same, disjoint_same}
 use Rattle.low_core.specs.declared.sel.SelBlock.{SelBlock}
 use Rattle.low_core.specs.declared.sel.SelFun.{SelFun}
 use Rattle.low_core.specs.declared.sel.SelOp.{SelOp}
 use Rattle.low_core.specs.declared.sel.SelOp.TheVariants.{Set, Copy, Alu, Div, Widen, Test, Pick, Load, Store, FrameAt, GlobalAt, FunctionAt, Call, CallAt, Outside}
 use Rattle.low_core.specs.declared.sel.Sel.{Sel}
-use Rattle.low_core.specs.Flat.{Span, Bytes, is_inside}
+use Rattle.low_core.specs.Flat.{Span, Bytes}
 use Rattle.low_core.specs.Plan.{Plan, Content}
 use Rattle.low_core.specs.SelState.{SelFrame, SelState, SelTurn, sel_moment, sel_turned}
-use Rattle.low_core.specs.SelStep.{op_turn, sel_step}
-use Rattle.low_core.specs.SelWeights.{calls_at}
+use Rattle.low_core.specs.SelStep.{op_turn}
 use Rattle.obj_core.specs.declared.object.Object.{Object}
 use Rattle.obj_core.specs.declared.object.Place.{Place}
 use Rattle.obj_core.specs.SymbolicMachine.{symbolic_step}
-use Rattle.obj_rows.specs.Marked.{Marked, all_unlinked, instrs_of, row_size, Stands}
+use Rattle.obj_rows.specs.Marked.{Marked, all_unlinked, row_size, Stands}
 use Rattle.obj_rows.specs.Standing.{Outside as World, standing, shown}
 use Rattle.obj_rows.proofs.Rows.{stands_first, stands_behind, instrs_of-unlinked, length-unlinked}
 use Rattle.obj_rows.proofs.Runs.{row_comes, row_stops}
@@ -43,13 +41,13 @@ use Rattle.frame_rows.specs.Steps.{Leads, Meets, turn_to}
 use Rattle.frame_rows.specs.Words.{Words, core_of}
 use Rattle.frame_rows.proofs.Lengths.{op_sized}
 use Rattle.frame_rows.proofs.Operations.{op_law}
-use Rattle.frame_lower.specs.Chain.{function_in, slot_behind, code_in, rest_in, pushes_of, spans_of, IsOff, Chain}
+use Rattle.frame_lower.specs.Chain.{function_in, slot_behind, code_in, rest_in, spans_of}
 use Rattle.frame_lower.specs.Rows.{Making, marked_op}
 use Rattle.frame_lower.specs.Suits.{Suits}
 use Rattle.frame_lower.proofs.Chains.{chain_same, chain_moved, chain_high, reserved_low, moved_to}
-use Rattle.frame_lower.proofs.Facts.{op_ready, frame_few}
+use Rattle.frame_lower.proofs.Facts.{op_ready}
 use Rattle.frame_lower.proofs.Rests.{op_stands}
-use Rattle.frame_lower.proofs.Stage.{most_steps, state_of, last, globals, flat_in, Whole, Stage, A, B, Meets_, step_is}
+use Rattle.frame_lower.proofs.Stage.{most_steps, state_of, last, globals, flat_in, Whole, Stage, A, B, Meets_}
 
 -- the stack may be used after any write
 pub stack_same : (low high : ℕ) (ss ts : List Segment) → SameShape ss ts → IsStack low high ss → IsStack low high ts

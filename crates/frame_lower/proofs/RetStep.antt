@@ -1,11 +1,9 @@
 -- A return to a function that waits.
-use Rattle.std.proofs.Common.{◌≡◌, ◌≢◌, ℕ, zero, suc, ◌+◌, ◌*◌, ◌^◌, ◌<◌, ◌≤◌, true, List, [], ◌∷◌, ◌++◌, length, drop, take, Option, Some, None, refl, sym, ◌∙◌, ap, subst, inl, inr, ◌⊎◌, arith}
+use Rattle.std.proofs.Common.{◌≡◌, ℕ, suc, ◌+◌, ◌*◌, ◌^◌, ◌<◌, ◌≤◌, List, ◌∷◌, ◌++◌, length, drop, Some, refl, sym, ◌∙◌, ap, subst, inl, inr, arith}
 use Rattle.std.specs.Prelude.{slice_get}
 use Rattle.behavior.specs.System.{System}
 use Rattle.behavior.specs.Simulation.{Comes}
 use Rattle.behavior.proofs.Stretch.{comes_one, comes_join, comes_wider, met_by}
-use Rattle.ir_core.specs.Stops.{Answer}
-use Rattle.rd_num.specs.Number.{le_bytes}
 use Rattle.x86_core.specs.declared.flags.Flags.{Flags}
 use Rattle.x86_core.specs.declared.image.Segment.{Segment}
 use Rattle.x86_core.specs.declared.instr.Instr.{Instr}
@@ -17,23 +15,23 @@ use Rattle.low_core.specs.declared.sel.SelBlock.{SelBlock}
 use Rattle.low_core.specs.declared.sel.Sel.{Sel}
 use Rattle.low_core.specs.Flat.{Span, Bytes}
 use Rattle.low_core.specs.Plan.{Plan, Content}
-use Rattle.low_core.specs.SelState.{SelFrame, SelState, SelTurn, sel_turned, word_in}
+use Rattle.low_core.specs.SelState.{SelFrame, SelState, sel_turned}
 use Rattle.low_core.specs.SelStep.{goes, with_result}
 use Rattle.obj_core.specs.declared.object.Object.{Object}
 use Rattle.obj_core.specs.declared.object.Place.{Place}
 use Rattle.obj_core.specs.SymbolicMachine.{symbolic_step}
-use Rattle.obj_rows.specs.Marked.{Marked, all_unlinked, row_size, Stands}
+use Rattle.obj_rows.specs.Marked.{all_unlinked, Stands}
 use Rattle.obj_rows.specs.Standing.{Outside, standing}
 use Rattle.obj_rows.proofs.Rows.{instrs_of-unlinked, length-unlinked, stands_first, stands_behind}
 use Rattle.obj_rows.proofs.Runs.{row_comes}
 use Rattle.frame_rows.specs.declared.spot.Spot.{Spot}
 use Rattle.frame_rows.specs.declared.spot.Spot.TheVariants.{Own, Frame}
 use Rattle.frame_rows.specs.Steps.{Leads}
-use Rattle.frame_rows.specs.Ties.{is_home, IsHome, Keeps, Room, Tied}
+use Rattle.frame_rows.specs.Ties.{IsHome, Keeps, Room, Tied}
 use Rattle.frame_rows.specs.Words.{Words, core_of}
 use Rattle.frame_rows.proofs.Registers.{Same}
 use Rattle.frame_lower.specs.Calls.{take_row}
-use Rattle.frame_lower.specs.Chain.{upward, Saved, Stored, function_in, code_in, rest_in, pushes_of, spans_of, Entry, Chain}
+use Rattle.frame_lower.specs.Chain.{Stored, function_in, code_in, rest_in, spans_of, Entry, Chain}
 use Rattle.frame_lower.specs.Rows.{Making, leave_row}
 use Rattle.frame_lower.specs.Suits.{Suits}
 use Rattle.frame_lower.proofs.Chains.{chain_same, chain_moved, chain_high, reserved_low, moved_to}

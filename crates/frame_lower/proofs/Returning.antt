@@ -1,6 +1,6 @@
 -- The way out of a function, to where the word above the pushed registers leads.
-use Rattle.std.proofs.Common.{◌≡◌, ℕ, zero, suc, ◌+◌, ◌*◌, ◌%◌, ◌^◌, ◌<◌, ◌≤◌, true, List, [], ◌∷◌, ◌++◌, length, drop, take, Option, Some, None, refl, sym, ◌∙◌, ap, subst, inl, inr, ◌⊎◌, arith, append_assoc, length-append}
-use Rattle.std.specs.Prelude.{pos, slice_get}
+use Rattle.std.proofs.Common.{◌≡◌, ℕ, ◌+◌, ◌^◌, ◌<◌, ◌≤◌, true, List, [], ◌∷◌, ◌++◌, length, None, refl, sym, ◌∙◌, ap, subst, arith, append_assoc, length-append}
+use Rattle.std.specs.Prelude.{pos}
 use Rattle.behavior.specs.Simulation.{Comes}
 use Rattle.behavior.proofs.Stretch.{comes_one, comes_join, comes_wider}
 use Rattle.x86_core.specs.declared.flags.Flags.{Flags}
@@ -12,14 +12,14 @@ use Rattle.x86_core.specs.declared.instr.Instr.TheVariants.{Pop, Ret}
 use Rattle.x86_core.specs.Arithmetic.{moved}
 use Rattle.x86_core.specs.Data.{stack_start, stack_end}
 use Rattle.x86_core.specs.Step.{State}
-use Rattle.x86_rows.specs.Straight.{Core, Through, exec}
+use Rattle.x86_rows.specs.Straight.{Through, exec}
 use Rattle.x86_rows.specs.Saving.{IsStack}
 use Rattle.x86_rows.proofs.Rows.{exec-through}
 use Rattle.obj_core.specs.declared.object.Object.{Object}
 use Rattle.obj_core.specs.declared.object.Place.{Place}
 use Rattle.obj_core.specs.Saved.{saved_register}
 use Rattle.obj_core.specs.SymbolicMachine.{symbolic_step}
-use Rattle.obj_rows.specs.Marked.{Marked, unlinked, all_unlinked, instrs_of, row_size, Stands, IsFunction}
+use Rattle.obj_rows.specs.Marked.{Marked, unlinked, all_unlinked, row_size, Stands, IsFunction}
 use Rattle.obj_rows.specs.Standing.{Outside, standing}
 use Rattle.obj_rows.proofs.Branches.{returns}
 use Rattle.obj_rows.proofs.Rows.{all_unlinked-append, instrs_of-unlinked, length-unlinked, stands_first, stands_behind}
@@ -28,7 +28,7 @@ use Rattle.frame_rows.specs.Words.{Words, held_in, core_of}
 use Rattle.frame_rows.specs.Ties.{is_home}
 use Rattle.frame_lower.specs.Chain.{IsWay}
 use Rattle.frame_lower.specs.Rows.{Making, pop_row, leave_row}
-use Rattle.frame_lower.proofs.Leaving.{gives_room, one_more, Leaves, leaves}
+use Rattle.frame_lower.proofs.Leaving.{gives_room, one_more, Leaves}
 
 pop_long : (order : List ℕ) → length (pop_row order) ≡ length order
 pop_long [] = refl

@@ -1,28 +1,25 @@
 -- The run of an object comes from its entry to the first block of the program's first function.
-use Rattle.std.proofs.Common.{◌≡◌, ◌≢◌, ℕ, zero, suc, ◌+◌, ◌-◌, ◌*◌, ◌^◌, ◌<◌, ◌≤◌, true, List, [], ◌∷◌, ◌++◌, length, drop, Option, Some, None, refl, sym, ◌∙◌, ap, subst, inl, inr, ◌⊎◌, arith}
+use Rattle.std.proofs.Common.{◌≡◌, ℕ, ◌+◌, ◌*◌, ◌≤◌, List, [], ◌∷◌, length, drop, Option, Some, None, refl, sym, ◌∙◌, ap, subst, inl, inr, ◌⊎◌, arith}
 use Rattle.std.specs.Prelude.{replicate, slice_get, get_or}
 use Rattle.std.proofs.lemmas.Option.{slice_get-get_or}
-use Rattle.behavior.specs.Ending.{Going}
-use Rattle.behavior.specs.Moment.{Agrees}
 use Rattle.behavior.specs.Simulation.{Comes, Starts}
 use Rattle.behavior.proofs.Stretch.{comes_join, comes_wider, starts_by}
 use Rattle.x86_core.specs.declared.flags.Flags.{Flags}
 use Rattle.x86_core.specs.declared.image.Segment.{Segment}
 use Rattle.x86_core.specs.Data.{stack_start, stack_end}
-use Rattle.x86_core.specs.Step.{State, moment_of}
-use Rattle.x86_rows.specs.Addresses.{byte_at, range_at, SameShape}
+use Rattle.x86_core.specs.Step.{State}
+use Rattle.x86_rows.specs.Addresses.{range_at}
 use Rattle.x86_rows.specs.Saving.{IsStack}
-use Rattle.x86_rows.specs.Straight.{Core}
 use Rattle.x86_rows.proofs.Covers.{range_same}
 use Rattle.x86_rows.proofs.Shapes.{shape_trans}
 use Rattle.low_core.specs.declared.sel.SelBlock.{SelBlock}
 use Rattle.low_core.specs.declared.sel.SelEnd.TheVariants as end
 use Rattle.low_core.specs.declared.sel.SelFun.{SelFun}
 use Rattle.low_core.specs.declared.sel.Sel.{Sel}
-use Rattle.low_core.specs.Flat.{Span, Bytes, is_inside, forgotten}
-use Rattle.low_core.specs.Plan.{FramePlan, Plan, Content, global_spans, first_bytes}
+use Rattle.low_core.specs.Flat.{Span, Bytes, forgotten}
+use Rattle.low_core.specs.Plan.{Plan, Content, first_bytes}
 use Rattle.low_core.specs.SelRun.{sel_start_in, sel_start}
-use Rattle.low_core.specs.SelState.{SelFrame, SelState, sel_moment, bound, first_sel_frame}
+use Rattle.low_core.specs.SelState.{SelFrame, bound, first_sel_frame}
 use Rattle.obj_core.specs.declared.object.Object.{Object}
 use Rattle.obj_core.specs.declared.object.Place.{Place}
 use Rattle.obj_core.specs.SymbolicMachine.{symbolic_start, symbolic_step}
@@ -31,7 +28,7 @@ use Rattle.obj_rows.specs.Standing.{Outside, standing, first_core, first_outside
 use Rattle.frame_rows.specs.Ties.{Tied}
 use Rattle.frame_rows.specs.Words.{Words, core_of}
 use Rattle.frame_lower.specs.Calls.{argument_registers}
-use Rattle.frame_lower.specs.Chain.{HasRoom, IsWay, function_in, starts_in, pushes_of, IsOff, Chain}
+use Rattle.frame_lower.specs.Chain.{function_in, starts_in, pushes_of, IsOff, Chain}
 use Rattle.frame_lower.specs.Rows.{Making}
 use Rattle.frame_lower.specs.Suits.{Suits}
 use Rattle.frame_lower.proofs.Arguments.{AreSmall, AreHeld, StandAt}
