@@ -85,7 +85,8 @@ module _ (o : Object) (sel : Sel) (plan : Plan) (contents : List Content) (by : 
     alive = live f.function f.block f.next
 
     -- the words of the arguments come where the function finds them
-    passing : (op : SelOp) (args : List ℕ) → slice_get b.ops f.next ≡ Some op → arguments_of op ≡ length args → ((z : ℕ) → parts.IsOneOf z args → alive z) → (t : Told f.registers args) → Passes x.homes f.base x.words alive f.registers flat args t.words w fl ss
+    passing : (op : SelOp) (args : List ℕ) → slice_get b.ops f.next ≡ Some op → arguments_of op ≡ length args → ((z : ℕ) → parts.IsOneOf z args → alive z) → (t : Told f.registers args) →
+        Passes x.homes f.base x.words alive f.registers flat args t.words w fl ss
     passing op args there count used t =
         let fit = passed_fit o sel plan contents by live suits f off b is_function is_block stands op there args count in
         let f1 = fit.1 in
@@ -139,16 +140,20 @@ module _ (o : Object) (sel : Sel) (plan : Plan) (contents : List Content) (by : 
                 (comes_join step 1 70 1 1 t0 t1 t2 (to_slot o sel plan contents by live suits f off b is_function is_block stands op there [] into args refl few (omega arith) out w w1 fl fl ss p.segments (p.runs []))
                 (comes_one step t1 t2 (call_goes o out k c1 g back.back (f.base - 8) back.is_slot (down w1 at) pushed))) in
             subst Turned_ (sym (enters_is o sel plan contents by live suits s f callers into t.words g is_callee Malformed params))
-            (called o sel plan contents by live suits input f callers bytes printed taken depth w fl ss off b is_function is_block stands whole op there into refl g is_callee t.words (sym params) (have_small f.registers args t.words whole.tied.small t.have) longer
+            (called o sel plan contents by live suits input f callers bytes printed taken depth w fl ss off b is_function is_block stands whole op there into refl g is_callee t.words (sym params)
+                (have_small f.registers args t.words whole.tied.small t.have) longer
             w1 fl p.segments p.same p.tied p.held p.stand p.shape p.outside k (found_within o.slots k _ back.is_slot) pushed comes
-            (jump_at o sel plan contents by live suits f off b is_function is_block stands op there [] into args refl few (omega arith) + 5) (λ out2 core. call_returns o out2 k core g back.back back.is_slot ∙ ap (λ q. standing out2 q core) back.is_place)
+            (jump_at o sel plan contents by live suits f off b is_function is_block stands op there [] into args refl few (omega arith) + 5)
+                (λ out2 core. call_returns o out2 k core g back.back back.is_slot ∙ ap (λ q. standing out2 q core) back.is_place)
             (back_stands o sel plan contents by live suits f off b is_function is_block stands op there [] into args refl few (omega arith)))
 
     -- a call by address
     pub call_at_step : (a : ℕ) (into : Option ℕ) (args : List ℕ) → slice_get b.ops f.next ≡ Some (CallAt a into args) → Turned_ (op_turn sel plan flat input s f callers (CallAt a into args))
     call_at_step a into args there = elim (word_cases f.registers a) [
-      | inr e ↦ subst (λ q. Turned_ (and_then q (λ at. and_then (words_in f.registers args) (λ ns. and_then (found_or (Left Bounds) (function_at at sel.taken plan.functions)) (λ g. enters (Left Bounds) sel plan s f callers into ns g))))) (sym e) (inl refl)
-      | inl v ↦ subst (λ q. Turned_ (and_then q (λ at. and_then (words_in f.registers args) (λ ns. and_then (found_or (Left Bounds) (function_at at sel.taken plan.functions)) (λ g. enters (Left Bounds) sel plan s f callers into ns g))))) (sym v.1)
+      | inr e ↦ subst (λ q. Turned_ (and_then q (λ at. and_then (words_in f.registers args)
+          (λ ns. and_then (found_or (Left Bounds) (function_at at sel.taken plan.functions)) (λ g. enters (Left Bounds) sel plan s f callers into ns g))))) (sym e) (inl refl)
+      | inl v ↦ subst (λ q. Turned_ (and_then q (λ at. and_then (words_in f.registers args)
+          (λ ns. and_then (found_or (Left Bounds) (function_at at sel.taken plan.functions)) (λ g. enters (Left Bounds) sel plan s f callers into ns g))))) (sym v.1)
           (elim (words_cases f.registers args) [
             | inr e ↦ subst (λ q. Turned_ (and_then q (λ ns. and_then (found_or (Left Bounds) (function_at v.0 sel.taken plan.functions)) (λ g. enters (Left Bounds) sel plan s f callers into ns g)))) (sym e) (inl refl)
             | inl t ↦ subst (λ q. Turned_ (and_then q (λ ns. and_then (found_or (Left Bounds) (function_at v.0 sel.taken plan.functions)) (λ g. enters (Left Bounds) sel plan s f callers into ns g)))) (sym t.gives)
@@ -156,7 +161,8 @@ module _ (o : Object) (sel : Sel) (plan : Plan) (contents : List Content) (by : 
           ])
     ]
       where
-        by_words : (at : ℕ) → word_in f.registers a ≡ Ok at → (t : Told f.registers args) (g : ℕ) → function_at at sel.taken plan.functions ≡ Some g → length (function_in sel g).params ≡ length t.words → slice_get sel.functions g ≡ Some (function_in sel g) → IsPointer o g at →
+        by_words : (at : ℕ) → word_in f.registers a ≡ Ok at → (t : Told f.registers args) (g : ℕ) → function_at at sel.taken plan.functions ≡ Some g → length (function_in sel g).params ≡ length t.words →
+            slice_get sel.functions g ≡ Some (function_in sel g) → IsPointer o g at →
             Turned_ (enters (Left Bounds) sel plan s f callers into t.words g)
         by_words at told t g is params is_callee pointer =
             let op = CallAt a into args in
@@ -176,15 +182,18 @@ module _ (o : Object) (sel : Sel) (plan : Plan) (contents : List Content) (by : 
             let t2 = standing out (Place.Code g 0) (core_of (record w1 { rsp = f.base - 8 }) fl pushed.segments) in
             let fit = passed_fit o sel plan contents by live suits f off b is_function is_block stands op there args refl in
             let longer : length (drop 6 t.words) ≤ x.words = (let f0 = fit.0 in let d = length-drop 6 t.words in let e = length-drop 6 args in omega (arith, f0, d, e, long)) in
-            let four : Comes step 4 4 t1 t2 = record { count = 4; low = omega arith; high = omega arith; arrives = pointer_goes o out k c1 back.back (f.base - 8) pointer.slot g back.is_slot pointer.is_slot (p.pointer ∙ pointer.address) (down w1 at_base) pushed } in
+            let four : Comes step 4 4 t1 t2 = record { count = 4; low = omega arith; high = omega arith; arrives =
+                pointer_goes o out k c1 back.back (f.base - 8) pointer.slot g back.is_slot pointer.is_slot (p.pointer ∙ pointer.address) (down w1 at_base) pushed } in
             let ready : exec (pass_row x.homes args ++ wanted) (core_of w fl ss) ≡ Through c1 = ap (λ r. exec r (core_of w fl ss)) (sym (append-nil (pass_row x.homes args ++ wanted))) ∙ p.runs [] in
             let comes : Comes step 1 200 t0 t2 =
                 comes_wider step (1 + 4) (70 + 4) 1 200 t0 t2 (omega arith) (omega arith)
                 (comes_join step 1 70 4 4 t0 t1 t2 (to_slot o sel plan contents by live suits f off b is_function is_block stands op there wanted into args refl few (omega arith) out w w1 fl fl ss p.segments ready) four) in
             subst Turned_ (sym (enters_is o sel plan contents by live suits s f callers into t.words g is_callee (Left Bounds) params))
-            (called o sel plan contents by live suits input f callers bytes printed taken depth w fl ss off b is_function is_block stands whole op there into refl g is_callee t.words (sym params) (have_small f.registers args t.words whole.tied.small t.have) longer
+            (called o sel plan contents by live suits input f callers bytes printed taken depth w fl ss off b is_function is_block stands whole op there into refl g is_callee t.words (sym params)
+                (have_small f.registers args t.words whole.tied.small t.have) longer
             w1 fl p.segments p.same p.tied p.held p.stand p.shape p.outside k (found_within o.slots k _ back.is_slot) pushed comes
-            (jump_at o sel plan contents by live suits f off b is_function is_block stands op there wanted into args refl few (omega arith) + 5) (λ out2 core. indirect_returns o out2 k core back.back back.is_slot ∙ ap (λ q. standing out2 q core) back.is_place)
+            (jump_at o sel plan contents by live suits f off b is_function is_block stands op there wanted into args refl few (omega arith) + 5)
+                (λ out2 core. indirect_returns o out2 k core back.back back.is_slot ∙ ap (λ q. standing out2 q core) back.is_place)
             (back_stands o sel plan contents by live suits f off b is_function is_block stands op there wanted into args refl few (omega arith)))
 
         by_address : (at : ℕ) → word_in f.registers a ≡ Ok at → (t : Told f.registers args) (q : Option ℕ) → function_at at sel.taken plan.functions ≡ q →

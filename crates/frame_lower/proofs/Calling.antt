@@ -87,12 +87,15 @@ module _ (o : Object) (sel : Sel) (plan : Plan) (contents : List Content) (by : 
       (stands : Stands (code_in sel by f.function) off (rest_in sel by f.function off f.block f.next b)) (whole : Tells f depth callers (live f.function f.block f.next) bytes w ss)
       (op : SelOp) (there : slice_get b.ops f.next ≡ Some op) (into : Option ℕ) (is_into : assigns_of op ≡ into)
       (g : ℕ) (is_callee : slice_get sel.functions g ≡ Some (function_in sel g)) (ns : List ℕ) (long : length ns ≡ length (function_in sel g).params) (small : AreSmall ns) (fit : length (drop 6 ns) ≤ (by f.function).words)
-      (w1 : Words) (fl1 : Flags) (ss1 : List Segment) (same : Same w w1) (tied1 : Tied (by f.function).homes f.base (by f.function).words (live f.function f.block f.next) f.registers (flat_in o sel plan contents by live suits input (f ∷ callers) bytes) w1 ss1)
+      (w1 : Words) (fl1 : Flags) (ss1 : List Segment) (same : Same w w1)
+          (tied1 : Tied (by f.function).homes f.base (by f.function).words (live f.function f.block f.next) f.registers (flat_in o sel plan contents by live suits input (f ∷ callers) bytes) w1 ss1)
       (held : AreHeld w1 argument_registers ns) (stand : StandAt ss1 f.base (drop 6 ns)) (shape1 : SameShape ss ss1) (outside1 : (p : ℕ) → (p < f.base) ⊎ (f.base + 8 * length (drop 6 ns) ≤ p) → byte_at ss1 p ≡ byte_at ss p)
       (k : ℕ) (is_slot : k < length o.slots) (pushed : Written ss1 (f.base - 8) (le_bytes 8 (slot_start o k + 5)))
-      (comes : Comes step 1 200 (standing (record { left = drop taken input; printed = printed; taken = taken }) (Place.Code f.function off) (core_of w fl ss)) (standing (record { left = drop taken input; printed = printed; taken = taken }) (Place.Code g 0) (core_of (record w1 { rsp = f.base - 8 }) fl1 pushed.segments)))
+      (comes : Comes step 1 200 (standing (record { left = drop taken input; printed = printed; taken = taken }) (Place.Code f.function off) (core_of w fl ss))
+          (standing (record { left = drop taken input; printed = printed; taken = taken }) (Place.Code g 0) (core_of (record w1 { rsp = f.base - 8 }) fl1 pushed.segments)))
       (offset : ℕ) (returns : (out : Outside) (core : Core) → step (standing out (Place.Slot k 5) core) ≡ standing out (Place.Code f.function offset) core)
-      (stands2 : Stands (code_in sel by f.function) offset (all_unlinked (take_row (by f.function).homes into) ++ rest_in sel by f.function (offset + row_size (all_unlinked (take_row (by f.function).homes into))) f.block (f.next + 1) b)) where
+      (stands2 : Stands (code_in sel by f.function) offset (all_unlinked (take_row (by f.function).homes into) ++ rest_in sel by f.function (offset + row_size (all_unlinked (take_row (by f.function).homes into))) f.block
+          (f.next + 1) b)) where
     abbrev s : SelState
     s = state_of f callers bytes printed taken
 
@@ -150,11 +153,13 @@ module _ (o : Object) (sel : Sel) (plan : Plan) (contents : List Content) (by : 
         let c = counts_out w2 fl1 ss2 fewer in
         let code = code_in sel by g in
         let part = all_unlinked count_row in
-        let others = all_unlinked (rest o sel plan contents by live suits g 0 0 out ns (live g 0 0) (flat_in o sel plan contents by live suits input (f ∷ callers) bytes) w fl ss first_block.0 is_callee first_block.1) ++ blocks o sel plan contents by live suits g 0 0 out ns (live g 0 0) (flat_in o sel plan contents by live suits input (f ∷ callers) bytes) w fl ss first_block.0 is_callee first_block.1 in
+        let others = all_unlinked (rest o sel plan contents by live suits g 0 0 out ns (live g 0 0) (flat_in o sel plan contents by live suits input (f ∷ callers) bytes) w fl ss first_block.0 is_callee first_block.1) ++ blocks o sel
+            plan contents by live suits g 0 0 out ns (live g 0 0) (flat_in o sel plan contents by live suits input (f ∷ callers) bytes) w fl ss first_block.0 is_callee first_block.1 in
         let u = iter step 3 t1 in
         let m : moment_of u ≡ shown out ending.Breakpoint =
             row_stops o g code (suits.codes g callee is_callee) out part 0 (core_of w2 fl1 ss2) ending.Breakpoint
-            (stands_first code 0 part others (stands0 o sel plan contents by live suits g 0 0 out ns (live g 0 0) (flat_in o sel plan contents by live suits input (f ∷ callers) bytes) w fl ss first_block.0 is_callee first_block.1)) c.stops in
+            (stands_first code 0 part others (stands0 o sel plan contents by live suits g 0 0 out ns (live g 0 0) (flat_in o sel plan contents by live suits input (f ∷ callers) bytes) w fl ss first_block.0 is_callee first_block.1))
+                c.stops in
         let stop : Comes step 3 3 t1 u = record { count = 3; low = omega arith; high = omega arith; arrives = refl } in
         subst (λ q. Turned_ (if q then Err Depth else Ok (record { frames = new ∷ sel_step.past_op f ∷ callers; bytes = forgotten bytes new.own.start new.own.size; exchange = Nothing }))) (sym full)
         (inr (met_by A_ B_ Stage_ (λ _. 0) most_steps s (sel_turned s (Err Depth)) t0 u
@@ -218,7 +223,8 @@ module _ (o : Object) (sel : Sel) (plan : Plan) (contents : List Content) (by : 
           (six_held w1 w2 ns (record { rdi = refl; rsi = refl; rdx = refl; rcx = refl; r8 = refl; r9 = refl }) held)
           (subst (λ p. StandAt ss2 p (drop 6 ns)) e (stand_same ss1 ss2 (drop 6 ns) f.base (λ p from to. pushed.outside p (inr (omega (arith, from, e)))) stand))
           (λ ts shape outer.
-              contains_made f.base x.words lower y.words (lower + 8 * y.words) callee.frame f.base (spans_of o sel by globals_ live last_ (f ∷ callers)) bytes ss ts (stack_same stack_start stack_end ss2 ts shape stack2) (shape_trans ss ss2 ts (shape_trans ss ss1 ss2 shape1 pushed.shape) shape)
+              contains_made f.base x.words lower y.words (lower + 8 * y.words) callee.frame f.base (spans_of o sel by globals_ live last_ (f ∷ callers)) bytes ss ts (stack_same stack_start stack_end ss2 ts shape stack2)
+                  (shape_trans ss ss2 ts (shape_trans ss ss1 ss2 shape1 pushed.shape) shape)
               (omega (arith, r)) (omega arith) (omega (arith, e, rs)) (omega (arith, h)) (λ p i lo hi. (whole.off p i).0 lo (omega (arith, hi)))
               (λ p i. elim (away p i) [
                 | inl lt ↦ outer p (inl (omega (arith, lt, r))) ∙ same2 p (inl (omega (arith, lt, r)))

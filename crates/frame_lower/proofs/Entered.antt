@@ -22,14 +22,16 @@ address_taken at [] places g e = absurd (cc)
 address_taken at (t ∷ ts) [] g e = absurd (cc)
 address_taken at (t ∷ ts) (p ∷ ps) g e = by_test (t && nat_eq p at) refl (λ j h. address_taken at ts ps j h) e
   where
-    others : (o : Option ℕ) (k : ℕ) → ((j : ℕ) → function_at at ts ps ≡ Some j → (slice_get ts j ≡ Some true) × (slice_get ps j ≡ Some at)) → function_at at ts ps ≡ o → option_map suc o ≡ Some k → (slice_get (t ∷ ts) k ≡ Some true) × (slice_get (p ∷ ps) k ≡ Some at)
+    others : (o : Option ℕ) (k : ℕ) → ((j : ℕ) → function_at at ts ps ≡ Some j → (slice_get ts j ≡ Some true) × (slice_get ps j ≡ Some at)) → function_at at ts ps ≡ o → option_map suc o ≡ Some k →
+        (slice_get (t ∷ ts) k ≡ Some true) × (slice_get (p ∷ ps) k ≡ Some at)
     others None k below f e = absurd (cc)
     others (Some j) k below f e =
         let same : suc j ≡ k = cc in
         let h = below j f in
         (subst (λ i. slice_get (t ∷ ts) i ≡ Some true) same h.0, subst (λ i. slice_get (p ∷ ps) i ≡ Some at) same h.1)
 
-    by_test : (b : Bool) → (t && nat_eq p at) ≡ b → ((j : ℕ) → function_at at ts ps ≡ Some j → (slice_get ts j ≡ Some true) × (slice_get ps j ≡ Some at)) → (if b then Some 0 else option_map suc (function_at at ts ps)) ≡ Some g → (slice_get (t ∷ ts) g ≡ Some true) × (slice_get (p ∷ ps) g ≡ Some at)
+    by_test : (b : Bool) → (t && nat_eq p at) ≡ b → ((j : ℕ) → function_at at ts ps ≡ Some j → (slice_get ts j ≡ Some true) × (slice_get ps j ≡ Some at)) → (if b then Some 0 else option_map suc (function_at at ts ps)) ≡ Some g →
+        (slice_get (t ∷ ts) g ≡ Some true) × (slice_get (p ∷ ps) g ≡ Some at)
     by_test true both below e =
         let zero_is : 0 ≡ g = cc in
         let x = and_parts t (nat_eq p at) both in

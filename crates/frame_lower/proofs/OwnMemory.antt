@@ -42,7 +42,8 @@ forgotten_told bytes start size p b e = by_test (nat_le start p && nat_lt p (sta
     by_test false e = e
 
 -- a call in a free part of the stack, below an address
-pub contains_made : (base words base2 words2 start size top : ℕ) (spans : List Span) (bytes : Bytes) (ss ts : List Segment) → IsStack stack_start stack_end ts → SameShape ss ts → stack_start ≤ base2 → base2 + 8 * words2 ≤ start → start + size ≤ top → top ≤ stack_end →
+pub contains_made : (base words base2 words2 start size top : ℕ) (spans : List Span) (bytes : Bytes) (ss ts : List Segment) → IsStack stack_start stack_end ts → SameShape ss ts → stack_start ≤ base2 → base2 + 8 * words2 ≤ start →
+    start + size ≤ top → top ≤ stack_end →
     ((p : ℕ) → is_inside p 1 spans ≡ true → stack_start ≤ p → p < top → ⊥) → ((p : ℕ) → is_inside p 1 spans ≡ true → byte_at ts p ≡ byte_at ss p) → Contains base words (record { spans = spans; bytes = bytes }) ss →
     Contains base2 words2 (record { spans = span start size ∷ spans; bytes = forgotten bytes start size }) ts
 contains_made base words base2 words2 start size top spans bytes ss ts stack shape low over under high quiet same c = record {
@@ -69,7 +70,8 @@ or_right true b e = refl
 or_right false b e = e
 
 -- a call that is over leaves the spans of those that waited
-pub contains_gone : (base words base2 words2 : ℕ) (own : Span) (spans : List Span) (bytes : Bytes) (ss : List Segment) → ((p : ℕ) → is_inside p 1 spans ≡ true → base2 ≤ p → p < base2 + 8 * words2 → ⊥) → Contains base words (record { spans = own ∷ spans; bytes = bytes }) ss →
+pub contains_gone : (base words base2 words2 : ℕ) (own : Span) (spans : List Span) (bytes : Bytes) (ss : List Segment) → ((p : ℕ) → is_inside p 1 spans ≡ true → base2 ≤ p → p < base2 + 8 * words2 → ⊥) →
+    Contains base words (record { spans = own ∷ spans; bytes = bytes }) ss →
     Contains base2 words2 (record { spans = spans; bytes = bytes }) ss
 contains_gone base words base2 words2 own spans bytes ss off c = record {
   told = λ p b i e. c.told p b (or_right (covers p 1 own) (is_inside p 1 spans) i) e;

@@ -65,7 +65,8 @@ module _ (o : Object) (g : ℕ) (row : List Marked) (is : IsFunction o g row) (o
   at off w f ss = standing out (Place.Code g off) (core_of w f ss)
 
   -- where the registers were pushed above the frame at a base, the row leads to the word's place
-  pub return_comes : (first : List Instr) (off base : ℕ) (w w1 : Words) (f : Flags) (ss : List Segment) (place : Place) → Stands row off (all_unlinked (first ++ leave_row by)) → length first ≤ 1 → exec first (core_of w f ss) ≡ Through (core_of w1 f ss) →
+  pub return_comes : (first : List Instr) (off base : ℕ) (w w1 : Words) (f : Flags) (ss : List Segment) (place : Place) → Stands row off (all_unlinked (first ++ leave_row by)) → length first ≤ 1 →
+      exec first (core_of w f ss) ≡ Through (core_of w1 f ss) →
       IsStack stack_start stack_end ss → w1.rsp ≡ base → stack_start ≤ base → base + by.room + 48 ≤ stack_end → w1.r15 < 2 ^ 32 → IsWay o ss (base + by.room + 40) place → (x : Leaves by.order by.room w1 f ss base) →
       Comes (symbolic_step o) 1 20 (at off w f ss) (standing out place (core_of (record x.after { rsp = base + by.room + 48 }) x.flags ss))
   return_comes first off base w w1 f ss place stands few runs stack rsp low high count way x =
@@ -88,5 +89,6 @@ module _ (o : Object) (g : ℕ) (row : List Marked) (is : IsFunction o g row) (o
       (comes_join (symbolic_step o) n n 1 1 t0 t1 t2
       (row_comes o g row is out marked off (core_of w f ss) c1 (stands_first row off marked (unlinked Ret ∷ []) split) (ap (λ r. exec r (core_of w f ss)) (instrs_of-unlinked part) ∙ passed))
       (comes_one (symbolic_step o) t1 t2
-      (returns o g row is out off1 c1 None (base + by.room + 40) way.word place (stands_behind row off marked (unlinked Ret ∷ []) split) there stack.disjoint (stack.readable (base + by.room + 40) 8 (omega (arith, low)) (omega (arith, high)) (omega arith)) way.there way.small way.lands ∙
+      (returns o g row is out off1 c1 None (base + by.room + 40) way.word place (stands_behind row off marked (unlinked Ret ∷ []) split) there stack.disjoint
+          (stack.readable (base + by.room + 40) 8 (omega (arith, low)) (omega (arith, high)) (omega arith)) way.there way.small way.lands ∙
       ap (λ p. standing out place (core_of (record x.after { rsp = p }) x.flags ss)) up)))

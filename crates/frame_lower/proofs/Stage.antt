@@ -113,14 +113,16 @@ module _ (o : Object) (sel : Sel) (plan : Plan) (contents : List Content) (by : 
   Meets_ a a2 t = Met A B Stage (λ _. 0) most_steps a a2 t
 
   -- a step is that of the operation, or of the end past the last one
-  pub step_is : (f : SelFrame) (callers : List SelFrame) (bytes : Bytes) (printed : List ℕ) (taken : ℕ) (fn : SelFun) (b : SelBlock) (q : Option SelOp) → slice_get sel.functions f.function ≡ Some fn → slice_get fn.blocks f.block ≡ Some b → slice_get b.ops f.next ≡ q →
+  pub step_is : (f : SelFrame) (callers : List SelFrame) (bytes : Bytes) (printed : List ℕ) (taken : ℕ) (fn : SelFun) (b : SelBlock) (q : Option SelOp) → slice_get sel.functions f.function ≡ Some fn →
+      slice_get fn.blocks f.block ≡ Some b → slice_get b.ops f.next ≡ q →
       let s = state_of f callers bytes printed taken in
       sel_step sel plan contents input s ≡ sel_turned s (sel_turn_at sel plan (flat_in (f ∷ callers) bytes) input s f callers b q)
   unfolding sel_step
   step_is f callers bytes printed taken fn b q is_function is_block there =
       let s = state_of f callers bytes printed taken in
       let flat = flat_in (f ∷ callers) bytes in
-      ap (λ x. sel_turned s (and_then (found_or Malformed x) (λ (g : SelFun). and_then (found_or Malformed (slice_get g.blocks f.block)) (λ (c : SelBlock). sel_turn_at sel plan flat input s f callers c (slice_get c.ops f.next))))) is_function ∙
+      ap (λ x. sel_turned s (and_then (found_or Malformed x) (λ (g : SelFun). and_then (found_or Malformed (slice_get g.blocks f.block)) (λ (c : SelBlock). sel_turn_at sel plan flat input s f callers c (slice_get c.ops f.next)))))
+          is_function ∙
       ap (λ x. sel_turned s (and_then (found_or Malformed x) (λ (c : SelBlock). sel_turn_at sel plan flat input s f callers c (slice_get c.ops f.next)))) is_block ∙
       ap (λ x. sel_turned s (sel_turn_at sel plan flat input s f callers b x)) there
 
