@@ -60,6 +60,12 @@ pub mod EndStep
 pub mod Front
 pub mod Calling
 pub mod Jumping
+pub mod Entered
+pub mod CallStep
+pub mod Running
+pub mod Globals
+pub mod StartStep
+pub mod OpStep
 pub mod OutsideCall
 pub mod Spanned
 pub mod OutsideLent

@@ -1,10 +1,8 @@
 -- Allocas: each has its place in the own memory of its call, behind those in front of it.
-use Rattle.std.proofs.Common.{◌≡◌, ◌≢◌, ℕ, zero, suc, ◌+◌, ◌-◌, ◌*◌, ◌<◌, ◌≤◌, Bool, true, List, [], ◌∷◌, ◌++◌, length, take, Option, Some, None, Ok, slice_get, refl, ap, sym, ◌∙◌, subst, inl, inr, ◌⊎◌, arith}
-use Rattle.std.specs.Prelude.{◌&&◌, nat_le}
+use Rattle.std.proofs.Common.{◌≡◌, ℕ, zero, suc, ◌+◌, ◌-◌, ◌*◌, ◌<◌, ◌≤◌, true, List, [], ◌∷◌, length, take, Option, Some, slice_get, refl, ap, sym, ◌∙◌, subst, inl, inr, arith}
 use Rattle.std.specs.List.{sum_by}
 use Rattle.std.proofs.lemmas.Bool.{and_from, le-leb}
 use Rattle.std.proofs.lemmas.List.Sums.{sum_by-take-le, sum_by-cons}
-use Rattle.behavior.specs.System.{iter}
 use Rattle.ir_core.specs.declared.instruction.Inst.{Inst}
 use Rattle.ir_core.specs.declared.instruction.Op.TheVariants as op
 use Rattle.ir_core.specs.declared.memory.Value.{Value}
@@ -16,16 +14,14 @@ use Rattle.ir_core.specs.declared.ty.Ty.{Ty}
 use Rattle.ir_core.specs.Counts.{alloca_bytes, spaced}
 use Rattle.ir_core.specs.Memory.{Memory, with_alloca}
 use Rattle.ir_core.specs.Shapes.{shape_of}
-use Rattle.ir_core.specs.State.{Frame, State, Nothing, turned, with_local}
+use Rattle.ir_core.specs.State.{Frame, State, turned, with_local}
 use Rattle.ir_core.specs.Step.{instruction_turn}
 use Rattle.ir_core.specs.Valid.{LocalKind, named_locals}
-use Rattle.low_core.specs.declared.sel.SelOp.TheVariants as sel
-use Rattle.low_core.specs.Flat.{Span, Bytes, covers}
+use Rattle.low_core.specs.Flat.{Bytes, covers}
 use Rattle.low_core.specs.Plan.{Plan, Content}
-use Rattle.low_core.specs.Contents.{Addresses, word_of}
-use Rattle.low_core.specs.Bridge.{Setting, CallMemory, Bridges}
-use Rattle.low_core.specs.SelState.{SelFrame, SelState, with_register, top_of}
-use Rattle.low_core.specs.Weights.{allocas_room}
+use Rattle.low_core.specs.Contents.{Addresses}
+use Rattle.low_core.specs.Bridge.{Setting}
+use Rattle.low_core.specs.SelState.{SelFrame, with_register}
 use Rattle.flat_memory.specs.Accesses.{AreFree, Allocates, with_address}
 use Rattle.flat_memory.proofs.Frames.{alloca_law}
 use Rattle.flat_memory.proofs.Lists.{get_set_same, get_set_other, length_set}
@@ -41,6 +37,7 @@ use Rattle.isel.proofs.Premises.{Premises, rules_at}
 use Rattle.isel.proofs.Straight.{moved, straight}
 use Rattle.isel.proofs.Here.{IsHere, vs, now, ready, ops, stands_here, result_below, into_variable}
 use Rattle.isel.proofs.Past.{top_past}
+use Rattle.isel.proofs.Results.{Stands, IsMet}
 
 -- a multiple of sixteen that isn't below
 spaced_enough : (n : ℕ) → n ≤ spaced n
@@ -98,6 +95,7 @@ module _ (m : Module) (plan : Plan) (contents : List Content) (p : Premises m pl
     abbrev at : Addresses
     at = with_address x.at start
 
+    -- the operation of the alloca
     o : OpsAt m vars before x.call.block.insts f.next i
     o = ops_at m vars before x.call.block.insts f.next i there
 
@@ -111,6 +109,7 @@ module _ (m : Module) (plan : Plan) (contents : List Content) (p : Premises m pl
         let next = o.allocas in
         omega (arith, some, part, all, whole, next)
 
+    -- its bytes are free
     free : AreFree g s.objects x.at start size
     free =
         let r = room in
@@ -118,6 +117,7 @@ module _ (m : Module) (plan : Plan) (contents : List Content) (p : Premises m pl
         let z : start + 0 ≡ start = omega arith in
         subst (λ n. AreFree g s.objects x.at n size) z (free_part g s.objects x.at start x.call.left 0 size x.call.free (omega arith))
 
+    -- they are in the own memory of the call
     inside : covers start size h.own ≡ true
     inside =
         let r = room in
@@ -125,9 +125,11 @@ module _ (m : Module) (plan : Plan) (contents : List Content) (p : Premises m pl
         let whole = x.call.whole in
         and_from _ _ (le-leb h.own.start start (omega arith)) (le-leb (start + size) (h.own.start + h.own.size) (omega arith))
 
+    -- so it is made there
     allocates : Allocates g s.objects objects x.at at start size
     allocates = allocates_law g (record { own = h.own; objects = f.objects }) (memories fs hs) s.objects x.at bytes x.tied start size free inside x.call.writable
 
+    -- and what was known stays so
     changed : Changed g s.objects objects x.at at start size
     changed = alloca_changed g s.objects objects x.at at start size allocates
 
@@ -140,6 +142,7 @@ module _ (m : Module) (plan : Plan) (contents : List Content) (p : Premises m pl
     abbrev v : Value
     v = At (length s.objects) 0
 
+    -- variables hold their values, its place among them
     holds : Holds (length objects) g.taken at (named_locals vars) (with_local into v f.locals) after
     holds =
         let rules = rules_at m plan contents p f.function x.call.fn x.call.in_module f.block x.call.block x.call.in_function f.next i there in
@@ -151,6 +154,7 @@ module _ (m : Module) (plan : Plan) (contents : List Content) (p : Premises m pl
         (λ j u other e. get_set_other h.registers r j (Some start) (λ same. other (sym same)) ∙ old.words j u e)
         allocates.known
 
+    -- the call behind it
     call : IsCallBeside m g objects at (record f { next = f.next + 1; locals = with_local into v f.locals; objects = length s.objects ∷ f.objects }) (moved h after 1)
     call =
         let allocas = o.allocas in
@@ -177,6 +181,7 @@ module _ (m : Module) (plan : Plan) (contents : List Content) (p : Premises m pl
           free = subst (λ n. AreFree g objects at n left) further (changed.free (start + spaced size) left rest (λ d e low high same. omega (arith, same, high, enough)));
         }
 
+    -- the alloca is met by its operation
     pub alloca_meets : Meets m g input (length (ops m plan contents p input s f fs h hs bytes x i there)) (now m plan contents p input s f fs h hs bytes x) (turned s (instruction_turn m input s f fs into (op.Alloca ty count)))
     alloca_meets =
         let stands = stands_here m plan contents p input s f fs h hs bytes x i there in
@@ -201,3 +206,7 @@ module _ (m : Module) (plan : Plan) (contents : List Content) (p : Premises m pl
             tied = alloca_law g (record { own = h.own; objects = f.objects }) (memories fs hs) s.objects x.at bytes x.tied start size free inside x.call.writable;
           };
         }))
+
+  -- an alloca
+  pub alloca_met : (into : Option (List ℕ)) (ty : Ty) (count : ℕ) → Stands m plan contents p input s f fs h hs bytes x into (op.Alloca ty count) → IsMet m plan contents p input s f fs h hs bytes x into (op.Alloca ty count)
+  alloca_met into ty count there = alloca_meets into ty count there

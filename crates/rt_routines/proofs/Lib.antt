@@ -7,3 +7,12 @@ pub mod Start
 pub mod Loops
 pub mod Fills
 pub mod Copies
+pub mod Lent
+pub mod Memcpy
+pub mod Memset
+pub mod Writing
+pub mod Sound
+pub mod Sites
+pub mod Linked
+pub mod Standing
+pub mod Planned

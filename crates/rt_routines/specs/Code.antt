@@ -1,5 +1,5 @@
 -- The code of the six routines, where the slots that they use stand one after another: `first` is the number of the first one.
-use Rattle.std.specs.Prelude.{ℕ, ◌+◌, List, [], ◌∷◌, ◌++◌, ℤ, pos, negsuc}
+use Rattle.std.specs.Prelude.{ℕ, ◌+◌, ◌-◌, List, [], ◌∷◌, ◌++◌, length, ℤ, pos, negsuc}
 use Rattle.ir_core.specs.declared.TheConstants.{MAX_CALLS}
 use Rattle.x86_core.specs.declared.reg.Reg.{Reg}
 use Rattle.x86_core.specs.declared.reg.Reg.TheVariants.{Rax, Rcx, Rdx, Rsp, Rsi, Rdi, R15}
@@ -13,6 +13,7 @@ use Rattle.x86_core.specs.declared.instr.Instr.{Instr}
 use Rattle.x86_core.specs.declared.instr.Instr.TheVariants.{Mov, MovImm64, MovImm32, AluImm, Imul, Widen, Load, Store, Lea, Cmov, Jcc, Jmp, Ret, Ud2}
 use Rattle.obj_core.specs.declared.object.Func.{Func}
 use Rattle.obj_core.specs.declared.object.FuncKind.{FuncKind}
+use Rattle.obj_core.specs.declared.plan.SlotPlan.{SlotPlan}
 use Rattle.obj_core.specs.Disassembly.{spelled}
 use Rattle.obj_rows.specs.Marked.{Marked, unlinked, linked, all_unlinked, instrs_of, links_from}
 
@@ -113,3 +114,7 @@ functions_of (row ∷ rows) = function_of row ∷ functions_of rows
 
 abbrev pub routine_functions : ℕ → List Func
 routine_functions first = functions_of (routine_rows first)
+
+-- the six functions for a plan, whose last five slots are theirs
+unfoldable pub routines_of : SlotPlan → List Func
+routines_of plan = routine_functions (length plan.slots - 5)
