@@ -1,19 +1,18 @@
 -- A call of a function by its number, and one by its address.
-use Rattle.std.proofs.Common.{◌≡◌, ◌≢◌, ℕ, zero, suc, ◌+◌, ◌-◌, ◌*◌, ◌^◌, ◌<◌, ◌≤◌, true, List, [], ◌∷◌, ◌++◌, length, drop, take, Option, Some, None, Ok, Err, refl, sym, ◌∙◌, ap, subst, inl, inr, ◌⊎◌, arith}
-use Rattle.std.specs.Prelude.{pos, negsuc, slice_get}
+use Rattle.std.proofs.Common.{◌≡◌, ℕ, ◌+◌, ◌-◌, ◌≤◌, List, [], ◌∷◌, ◌++◌, length, drop, Option, Some, None, Ok, refl, sym, ◌∙◌, ap, subst, inl, inr, arith}
+use Rattle.std.specs.Prelude.{negsuc, slice_get}
 use Rattle.std.proofs.lemmas.Bool.{cases_eq}
 use Rattle.std.proofs.lemmas.List.{append-nil, length-drop}
 use Rattle.behavior.specs.Simulation.{Comes}
 use Rattle.behavior.proofs.Stretch.{comes_one, comes_join, comes_wider}
-use Rattle.ir_core.specs.declared.memory.Reason.TheVariants.{Bounds, Unset}
+use Rattle.ir_core.specs.declared.memory.Reason.TheVariants.{Bounds}
 use Rattle.ir_core.specs.Stops.{Answer, Left, Malformed, and_then, found_or}
 use Rattle.rd_num.specs.Number.{le_bytes}
 use Rattle.x86_core.specs.declared.flags.Flags.{Flags}
 use Rattle.x86_core.specs.declared.image.Segment.{Segment}
 use Rattle.x86_core.specs.declared.instr.Instr.{Instr}
-use Rattle.x86_core.specs.declared.reg.Reg.TheVariants.{R11, Rsp}
+use Rattle.x86_core.specs.declared.reg.Reg.TheVariants.{R11}
 use Rattle.x86_core.specs.Data.{stack_start, stack_end}
-use Rattle.x86_core.specs.Memory.{writes}
 use Rattle.x86_core.specs.Arithmetic.{moved}
 use Rattle.x86_core.specs.Step.{State}
 use Rattle.x86_rows.specs.Addresses.{SameShape, Written}
@@ -28,7 +27,7 @@ use Rattle.low_core.specs.Flat.{Flat, Bytes}
 use Rattle.low_core.specs.Plan.{Plan, Content}
 use Rattle.low_core.specs.SelParts as parts
 use Rattle.low_core.specs.SelShaped.{IsCallOf}
-use Rattle.low_core.specs.SelState.{SelFrame, SelState, SelTurn, sel_turned, word_in, words_in}
+use Rattle.low_core.specs.SelState.{SelFrame, SelState, SelTurn, word_in, words_in}
 use Rattle.low_core.specs.SelStep.{enters, function_at, op_turn}
 use Rattle.low_core.specs.SelWeights.{arguments_of}
 use Rattle.obj_core.specs.declared.object.Object.{Object}
@@ -36,7 +35,7 @@ use Rattle.obj_core.specs.declared.object.Place.{Place}
 use Rattle.obj_core.specs.declared.object.Slot.{Slot}
 use Rattle.obj_core.specs.Slots.{slot_start}
 use Rattle.obj_core.specs.SymbolicMachine.{symbolic_step}
-use Rattle.obj_rows.specs.Marked.{Marked, Stands}
+use Rattle.obj_rows.specs.Marked.{Stands}
 use Rattle.obj_rows.specs.Standing.{Outside as World, standing}
 use Rattle.obj_rows.proofs.Slots.{call_goes, call_returns, indirect_returns, pointer_goes}
 use Rattle.obj_rows.proofs.Words.{found_within}
@@ -53,7 +52,7 @@ use Rattle.frame_lower.proofs.Chains.{chain_high}
 use Rattle.frame_lower.proofs.Entered.{address_taken, taken_is, enters_is, enters_not}
 use Rattle.frame_lower.proofs.Facts.{op_shaped}
 use Rattle.frame_lower.proofs.Jumping.{slot, jump_at, back_stands, has_slot, to_slot, passed_fit}
-use Rattle.frame_lower.proofs.Passing.{Passes, passes, PassesAt, passes_at}
+use Rattle.frame_lower.proofs.Passing.{Passes, passes, passes_at}
 use Rattle.frame_lower.proofs.PlainStep.{stack_same, Turned}
 use Rattle.frame_lower.proofs.Stage.{flat_in, globals, last, state_of, function_is, Whole}
 
@@ -86,7 +85,8 @@ module _ (o : Object) (sel : Sel) (plan : Plan) (contents : List Content) (by : 
     alive = live f.function f.block f.next
 
     -- the words of the arguments come where the function finds them
-    passing : (op : SelOp) (args : List ℕ) → slice_get b.ops f.next ≡ Some op → arguments_of op ≡ length args → ((z : ℕ) → parts.IsOneOf z args → alive z) → (t : Told f.registers args) → Passes x.homes f.base x.words alive f.registers flat args t.words w fl ss
+    passing : (op : SelOp) (args : List ℕ) → slice_get b.ops f.next ≡ Some op → arguments_of op ≡ length args → ((z : ℕ) → parts.IsOneOf z args → alive z) → (t : Told f.registers args) →
+        Passes x.homes f.base x.words alive f.registers flat args t.words w fl ss
     passing op args there count used t =
         let fit = passed_fit o sel plan contents by live suits f off b is_function is_block stands op there args count in
         let f1 = fit.1 in
@@ -140,16 +140,20 @@ module _ (o : Object) (sel : Sel) (plan : Plan) (contents : List Content) (by : 
                 (comes_join step 1 70 1 1 t0 t1 t2 (to_slot o sel plan contents by live suits f off b is_function is_block stands op there [] into args refl few (omega arith) out w w1 fl fl ss p.segments (p.runs []))
                 (comes_one step t1 t2 (call_goes o out k c1 g back.back (f.base - 8) back.is_slot (down w1 at) pushed))) in
             subst Turned_ (sym (enters_is o sel plan contents by live suits s f callers into t.words g is_callee Malformed params))
-            (called o sel plan contents by live suits input f callers bytes printed taken depth w fl ss off b is_function is_block stands whole op there into refl g is_callee t.words (sym params) (have_small f.registers args t.words whole.tied.small t.have) longer
+            (called o sel plan contents by live suits input f callers bytes printed taken depth w fl ss off b is_function is_block stands whole op there into refl g is_callee t.words (sym params)
+                (have_small f.registers args t.words whole.tied.small t.have) longer
             w1 fl p.segments p.same p.tied p.held p.stand p.shape p.outside k (found_within o.slots k _ back.is_slot) pushed comes
-            (jump_at o sel plan contents by live suits f off b is_function is_block stands op there [] into args refl few (omega arith) + 5) (λ out2 core. call_returns o out2 k core g back.back back.is_slot ∙ ap (λ q. standing out2 q core) back.is_place)
+            (jump_at o sel plan contents by live suits f off b is_function is_block stands op there [] into args refl few (omega arith) + 5)
+                (λ out2 core. call_returns o out2 k core g back.back back.is_slot ∙ ap (λ q. standing out2 q core) back.is_place)
             (back_stands o sel plan contents by live suits f off b is_function is_block stands op there [] into args refl few (omega arith)))
 
     -- a call by address
     pub call_at_step : (a : ℕ) (into : Option ℕ) (args : List ℕ) → slice_get b.ops f.next ≡ Some (CallAt a into args) → Turned_ (op_turn sel plan flat input s f callers (CallAt a into args))
     call_at_step a into args there = elim (word_cases f.registers a) [
-      | inr e ↦ subst (λ q. Turned_ (and_then q (λ at. and_then (words_in f.registers args) (λ ns. and_then (found_or (Left Bounds) (function_at at sel.taken plan.functions)) (λ g. enters (Left Bounds) sel plan s f callers into ns g))))) (sym e) (inl refl)
-      | inl v ↦ subst (λ q. Turned_ (and_then q (λ at. and_then (words_in f.registers args) (λ ns. and_then (found_or (Left Bounds) (function_at at sel.taken plan.functions)) (λ g. enters (Left Bounds) sel plan s f callers into ns g))))) (sym v.1)
+      | inr e ↦ subst (λ q. Turned_ (and_then q (λ at. and_then (words_in f.registers args)
+          (λ ns. and_then (found_or (Left Bounds) (function_at at sel.taken plan.functions)) (λ g. enters (Left Bounds) sel plan s f callers into ns g))))) (sym e) (inl refl)
+      | inl v ↦ subst (λ q. Turned_ (and_then q (λ at. and_then (words_in f.registers args)
+          (λ ns. and_then (found_or (Left Bounds) (function_at at sel.taken plan.functions)) (λ g. enters (Left Bounds) sel plan s f callers into ns g))))) (sym v.1)
           (elim (words_cases f.registers args) [
             | inr e ↦ subst (λ q. Turned_ (and_then q (λ ns. and_then (found_or (Left Bounds) (function_at v.0 sel.taken plan.functions)) (λ g. enters (Left Bounds) sel plan s f callers into ns g)))) (sym e) (inl refl)
             | inl t ↦ subst (λ q. Turned_ (and_then q (λ ns. and_then (found_or (Left Bounds) (function_at v.0 sel.taken plan.functions)) (λ g. enters (Left Bounds) sel plan s f callers into ns g)))) (sym t.gives)
@@ -157,7 +161,8 @@ module _ (o : Object) (sel : Sel) (plan : Plan) (contents : List Content) (by : 
           ])
     ]
       where
-        by_words : (at : ℕ) → word_in f.registers a ≡ Ok at → (t : Told f.registers args) (g : ℕ) → function_at at sel.taken plan.functions ≡ Some g → length (function_in sel g).params ≡ length t.words → slice_get sel.functions g ≡ Some (function_in sel g) → IsPointer o g at →
+        by_words : (at : ℕ) → word_in f.registers a ≡ Ok at → (t : Told f.registers args) (g : ℕ) → function_at at sel.taken plan.functions ≡ Some g → length (function_in sel g).params ≡ length t.words →
+            slice_get sel.functions g ≡ Some (function_in sel g) → IsPointer o g at →
             Turned_ (enters (Left Bounds) sel plan s f callers into t.words g)
         by_words at told t g is params is_callee pointer =
             let op = CallAt a into args in
@@ -177,15 +182,18 @@ module _ (o : Object) (sel : Sel) (plan : Plan) (contents : List Content) (by : 
             let t2 = standing out (Place.Code g 0) (core_of (record w1 { rsp = f.base - 8 }) fl pushed.segments) in
             let fit = passed_fit o sel plan contents by live suits f off b is_function is_block stands op there args refl in
             let longer : length (drop 6 t.words) ≤ x.words = (let f0 = fit.0 in let d = length-drop 6 t.words in let e = length-drop 6 args in omega (arith, f0, d, e, long)) in
-            let four : Comes step 4 4 t1 t2 = record { count = 4; low = omega arith; high = omega arith; arrives = pointer_goes o out k c1 back.back (f.base - 8) pointer.slot g back.is_slot pointer.is_slot (p.pointer ∙ pointer.address) (down w1 at_base) pushed } in
+            let four : Comes step 4 4 t1 t2 = record { count = 4; low = omega arith; high = omega arith; arrives =
+                pointer_goes o out k c1 back.back (f.base - 8) pointer.slot g back.is_slot pointer.is_slot (p.pointer ∙ pointer.address) (down w1 at_base) pushed } in
             let ready : exec (pass_row x.homes args ++ wanted) (core_of w fl ss) ≡ Through c1 = ap (λ r. exec r (core_of w fl ss)) (sym (append-nil (pass_row x.homes args ++ wanted))) ∙ p.runs [] in
             let comes : Comes step 1 200 t0 t2 =
                 comes_wider step (1 + 4) (70 + 4) 1 200 t0 t2 (omega arith) (omega arith)
                 (comes_join step 1 70 4 4 t0 t1 t2 (to_slot o sel plan contents by live suits f off b is_function is_block stands op there wanted into args refl few (omega arith) out w w1 fl fl ss p.segments ready) four) in
             subst Turned_ (sym (enters_is o sel plan contents by live suits s f callers into t.words g is_callee (Left Bounds) params))
-            (called o sel plan contents by live suits input f callers bytes printed taken depth w fl ss off b is_function is_block stands whole op there into refl g is_callee t.words (sym params) (have_small f.registers args t.words whole.tied.small t.have) longer
+            (called o sel plan contents by live suits input f callers bytes printed taken depth w fl ss off b is_function is_block stands whole op there into refl g is_callee t.words (sym params)
+                (have_small f.registers args t.words whole.tied.small t.have) longer
             w1 fl p.segments p.same p.tied p.held p.stand p.shape p.outside k (found_within o.slots k _ back.is_slot) pushed comes
-            (jump_at o sel plan contents by live suits f off b is_function is_block stands op there wanted into args refl few (omega arith) + 5) (λ out2 core. indirect_returns o out2 k core back.back back.is_slot ∙ ap (λ q. standing out2 q core) back.is_place)
+            (jump_at o sel plan contents by live suits f off b is_function is_block stands op there wanted into args refl few (omega arith) + 5)
+                (λ out2 core. indirect_returns o out2 k core back.back back.is_slot ∙ ap (λ q. standing out2 q core) back.is_place)
             (back_stands o sel plan contents by live suits f off b is_function is_block stands op there wanted into args refl few (omega arith)))
 
         by_address : (at : ℕ) → word_in f.registers a ≡ Ok at → (t : Told f.registers args) (q : Option ℕ) → function_at at sel.taken plan.functions ≡ q →

@@ -1,6 +1,6 @@
 -- A call, from the start of the function that is called: it begins, or one call too many is active.
-use Rattle.std.proofs.Common.{◌≡◌, ◌≢◌, ℕ, zero, suc, ◌+◌, ◌-◌, ◌*◌, ◌^◌, ◌<◌, ◌≤◌, Bool, true, false, nat_le, if◌then◌else◌, List, [], ◌∷◌, ◌++◌, length, drop, Option, Some, None, Ok, Err, refl, sym, ◌∙◌, ap, subst, inl, inr, ◌⊎◌, arith}
-use Rattle.std.specs.Prelude.{pos, replicate, slice_get, get_or}
+use Rattle.std.proofs.Common.{◌≡◌, ℕ, zero, suc, ◌+◌, ◌-◌, ◌*◌, ◌<◌, ◌≤◌, true, false, nat_le, if◌then◌else◌, List, ◌∷◌, ◌++◌, length, drop, Option, Some, Ok, Err, refl, sym, ◌∙◌, ap, subst, inl, inr, ◌⊎◌, arith}
+use Rattle.std.specs.Prelude.{slice_get, get_or}
 use Rattle.std.proofs.lemmas.Bool.{le-leb, lt-leb, cases_lt}
 use Rattle.std.proofs.lemmas.Option.{slice_get-get_or}
 use Rattle.behavior.specs.Ending as ending
@@ -13,12 +13,11 @@ use Rattle.ir_core.specs.Stops.{Answer, Depth}
 use Rattle.rd_num.specs.Number.{le_bytes}
 use Rattle.x86_core.specs.declared.flags.Flags.{Flags}
 use Rattle.x86_core.specs.declared.image.Segment.{Segment}
-use Rattle.x86_core.specs.declared.instr.Instr.TheVariants.{Int3}
 use Rattle.x86_core.specs.Data.{stack_start, stack_end}
 use Rattle.x86_core.specs.Step.{State, moment_of}
 use Rattle.x86_rows.specs.Addresses.{byte_at, range_at, SameShape, Written}
 use Rattle.x86_rows.specs.Saving.{IsStack}
-use Rattle.x86_rows.specs.Straight.{Core, Stopped, exec}
+use Rattle.x86_rows.specs.Straight.{Core}
 use Rattle.x86_rows.proofs.Covers.{range_same}
 use Rattle.x86_rows.proofs.Shapes.{shape_trans}
 use Rattle.low_core.specs.declared.sel.SelBlock.{SelBlock}
@@ -28,13 +27,13 @@ use Rattle.low_core.specs.declared.sel.Sel.{Sel}
 use Rattle.low_core.specs.Flat.{Span, Bytes, is_inside, forgotten}
 use Rattle.low_core.specs.Plan.{FramePlan, Plan, Content}
 use Rattle.low_core.specs.SelParts.{assigns_of}
-use Rattle.low_core.specs.SelState.{SelFrame, SelState, SelTurn, sel_turned, word_in, first_sel_frame}
+use Rattle.low_core.specs.SelState.{SelFrame, SelState, SelTurn, sel_turned, first_sel_frame}
 use Rattle.low_core.specs.SelStep as sel_step
 use Rattle.obj_core.specs.declared.object.Object.{Object}
 use Rattle.obj_core.specs.declared.object.Place.{Place}
 use Rattle.obj_core.specs.Slots.{slot_start}
 use Rattle.obj_core.specs.SymbolicMachine.{symbolic_step}
-use Rattle.obj_rows.specs.Marked.{Marked, unlinked, all_unlinked, row_size, Stands}
+use Rattle.obj_rows.specs.Marked.{all_unlinked, row_size, Stands}
 use Rattle.obj_rows.specs.Standing.{Outside, standing, shown}
 use Rattle.obj_rows.proofs.Rows.{stands_first}
 use Rattle.obj_rows.proofs.Runs.{row_stops}
@@ -43,10 +42,10 @@ use Rattle.frame_rows.specs.declared.spot.Spot.{Spot}
 use Rattle.frame_rows.specs.declared.spot.Spot.TheVariants.{Own, Frame}
 use Rattle.frame_rows.specs.Steps.{IsAllocated}
 use Rattle.frame_rows.specs.Ties.{IsHome, Keeps, Tied}
-use Rattle.frame_rows.specs.Words.{Words, held_in, core_of}
+use Rattle.frame_rows.specs.Words.{Words, core_of}
 use Rattle.frame_rows.proofs.Registers.{Same}
 use Rattle.frame_lower.specs.Calls.{argument_registers, take_row}
-use Rattle.frame_lower.specs.Chain.{upward, Saved, Stored, IsWay, HasRoom, function_in, code_in, rest_in, starts_in, pushes_of, spans_of, Reserved, IsOff, Entry, Chain}
+use Rattle.frame_lower.specs.Chain.{upward, Saved, Stored, IsWay, HasRoom, function_in, code_in, rest_in, starts_in, pushes_of, spans_of, IsOff, Chain}
 use Rattle.frame_lower.specs.Frames.{kept_bytes}
 use Rattle.frame_lower.specs.Rows.{Making, count_row}
 use Rattle.frame_lower.specs.Suits.{Suits}
@@ -88,12 +87,15 @@ module _ (o : Object) (sel : Sel) (plan : Plan) (contents : List Content) (by : 
       (stands : Stands (code_in sel by f.function) off (rest_in sel by f.function off f.block f.next b)) (whole : Tells f depth callers (live f.function f.block f.next) bytes w ss)
       (op : SelOp) (there : slice_get b.ops f.next ≡ Some op) (into : Option ℕ) (is_into : assigns_of op ≡ into)
       (g : ℕ) (is_callee : slice_get sel.functions g ≡ Some (function_in sel g)) (ns : List ℕ) (long : length ns ≡ length (function_in sel g).params) (small : AreSmall ns) (fit : length (drop 6 ns) ≤ (by f.function).words)
-      (w1 : Words) (fl1 : Flags) (ss1 : List Segment) (same : Same w w1) (tied1 : Tied (by f.function).homes f.base (by f.function).words (live f.function f.block f.next) f.registers (flat_in o sel plan contents by live suits input (f ∷ callers) bytes) w1 ss1)
+      (w1 : Words) (fl1 : Flags) (ss1 : List Segment) (same : Same w w1)
+          (tied1 : Tied (by f.function).homes f.base (by f.function).words (live f.function f.block f.next) f.registers (flat_in o sel plan contents by live suits input (f ∷ callers) bytes) w1 ss1)
       (held : AreHeld w1 argument_registers ns) (stand : StandAt ss1 f.base (drop 6 ns)) (shape1 : SameShape ss ss1) (outside1 : (p : ℕ) → (p < f.base) ⊎ (f.base + 8 * length (drop 6 ns) ≤ p) → byte_at ss1 p ≡ byte_at ss p)
       (k : ℕ) (is_slot : k < length o.slots) (pushed : Written ss1 (f.base - 8) (le_bytes 8 (slot_start o k + 5)))
-      (comes : Comes step 1 200 (standing (record { left = drop taken input; printed = printed; taken = taken }) (Place.Code f.function off) (core_of w fl ss)) (standing (record { left = drop taken input; printed = printed; taken = taken }) (Place.Code g 0) (core_of (record w1 { rsp = f.base - 8 }) fl1 pushed.segments)))
+      (comes : Comes step 1 200 (standing (record { left = drop taken input; printed = printed; taken = taken }) (Place.Code f.function off) (core_of w fl ss))
+          (standing (record { left = drop taken input; printed = printed; taken = taken }) (Place.Code g 0) (core_of (record w1 { rsp = f.base - 8 }) fl1 pushed.segments)))
       (offset : ℕ) (returns : (out : Outside) (core : Core) → step (standing out (Place.Slot k 5) core) ≡ standing out (Place.Code f.function offset) core)
-      (stands2 : Stands (code_in sel by f.function) offset (all_unlinked (take_row (by f.function).homes into) ++ rest_in sel by f.function (offset + row_size (all_unlinked (take_row (by f.function).homes into))) f.block (f.next + 1) b)) where
+      (stands2 : Stands (code_in sel by f.function) offset (all_unlinked (take_row (by f.function).homes into) ++ rest_in sel by f.function (offset + row_size (all_unlinked (take_row (by f.function).homes into))) f.block
+          (f.next + 1) b)) where
     abbrev s : SelState
     s = state_of f callers bytes printed taken
 
@@ -151,11 +153,13 @@ module _ (o : Object) (sel : Sel) (plan : Plan) (contents : List Content) (by : 
         let c = counts_out w2 fl1 ss2 fewer in
         let code = code_in sel by g in
         let part = all_unlinked count_row in
-        let others = all_unlinked (rest o sel plan contents by live suits g 0 0 out ns (live g 0 0) (flat_in o sel plan contents by live suits input (f ∷ callers) bytes) w fl ss first_block.0 is_callee first_block.1) ++ blocks o sel plan contents by live suits g 0 0 out ns (live g 0 0) (flat_in o sel plan contents by live suits input (f ∷ callers) bytes) w fl ss first_block.0 is_callee first_block.1 in
+        let others = all_unlinked (rest o sel plan contents by live suits g 0 0 out ns (live g 0 0) (flat_in o sel plan contents by live suits input (f ∷ callers) bytes) w fl ss first_block.0 is_callee first_block.1) ++ blocks o sel
+            plan contents by live suits g 0 0 out ns (live g 0 0) (flat_in o sel plan contents by live suits input (f ∷ callers) bytes) w fl ss first_block.0 is_callee first_block.1 in
         let u = iter step 3 t1 in
         let m : moment_of u ≡ shown out ending.Breakpoint =
             row_stops o g code (suits.codes g callee is_callee) out part 0 (core_of w2 fl1 ss2) ending.Breakpoint
-            (stands_first code 0 part others (stands0 o sel plan contents by live suits g 0 0 out ns (live g 0 0) (flat_in o sel plan contents by live suits input (f ∷ callers) bytes) w fl ss first_block.0 is_callee first_block.1)) c.stops in
+            (stands_first code 0 part others (stands0 o sel plan contents by live suits g 0 0 out ns (live g 0 0) (flat_in o sel plan contents by live suits input (f ∷ callers) bytes) w fl ss first_block.0 is_callee first_block.1))
+                c.stops in
         let stop : Comes step 3 3 t1 u = record { count = 3; low = omega arith; high = omega arith; arrives = refl } in
         subst (λ q. Turned_ (if q then Err Depth else Ok (record { frames = new ∷ sel_step.past_op f ∷ callers; bytes = forgotten bytes new.own.start new.own.size; exchange = Nothing }))) (sym full)
         (inr (met_by A_ B_ Stage_ (λ _. 0) most_steps s (sel_turned s (Err Depth)) t0 u
@@ -219,7 +223,8 @@ module _ (o : Object) (sel : Sel) (plan : Plan) (contents : List Content) (by : 
           (six_held w1 w2 ns (record { rdi = refl; rsi = refl; rdx = refl; rcx = refl; r8 = refl; r9 = refl }) held)
           (subst (λ p. StandAt ss2 p (drop 6 ns)) e (stand_same ss1 ss2 (drop 6 ns) f.base (λ p from to. pushed.outside p (inr (omega (arith, from, e)))) stand))
           (λ ts shape outer.
-              contains_made f.base x.words lower y.words (lower + 8 * y.words) callee.frame f.base (spans_of o sel by globals_ live last_ (f ∷ callers)) bytes ss ts (stack_same stack_start stack_end ss2 ts shape stack2) (shape_trans ss ss2 ts (shape_trans ss ss1 ss2 shape1 pushed.shape) shape)
+              contains_made f.base x.words lower y.words (lower + 8 * y.words) callee.frame f.base (spans_of o sel by globals_ live last_ (f ∷ callers)) bytes ss ts (stack_same stack_start stack_end ss2 ts shape stack2)
+                  (shape_trans ss ss2 ts (shape_trans ss ss1 ss2 shape1 pushed.shape) shape)
               (omega (arith, r)) (omega arith) (omega (arith, e, rs)) (omega (arith, h)) (λ p i lo hi. (whole.off p i).0 lo (omega (arith, hi)))
               (λ p i. elim (away p i) [
                 | inl lt ↦ outer p (inl (omega (arith, lt, r))) ∙ same2 p (inl (omega (arith, lt, r)))

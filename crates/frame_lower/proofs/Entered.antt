@@ -1,13 +1,13 @@
 -- What a call does in a program of registers: the function that is called, by its number or by its address.
-use Rattle.std.proofs.Common.{◌≡◌, ◌≢◌, ℕ, zero, suc, ◌+◌, ◌-◌, ◌*◌, ◌<◌, ◌≤◌, Bool, true, false, ◌&&◌, nat_eq, if◌then◌else◌, List, [], ◌∷◌, length, Option, Some, None, Ok, Err, refl, sym, ◌∙◌, ap, subst, inl, inr, ◌⊎◌, arith}
-use Rattle.std.specs.Prelude.{slice_get, get_or, option_map}
-use Rattle.std.proofs.lemmas.Bool.{and_parts, cases_Bool, cases_eq, eq-eqb, eqb-true, ne_eqb}
+use Rattle.std.proofs.Common.{◌≡◌, ℕ, suc, ◌+◌, ◌*◌, Bool, true, false, ◌&&◌, nat_eq, if◌then◌else◌, List, [], ◌∷◌, length, Option, Some, None, Err, refl, ◌∙◌, ap, subst, arith}
+use Rattle.std.specs.Prelude.{slice_get, option_map}
+use Rattle.std.proofs.lemmas.Bool.{and_parts, eq-eqb, eqb-true, ne_eqb}
 use Rattle.std.proofs.lemmas.Option.{slice_get_within, slice_get-get_or}
 use Rattle.ir_core.specs.Stops.{Answer, Malformed, and_then, found_or}
 use Rattle.ir_core.specs.Stops as stop
 use Rattle.low_core.specs.declared.sel.SelFun.{SelFun}
 use Rattle.low_core.specs.declared.sel.Sel.{Sel}
-use Rattle.low_core.specs.Plan.{FramePlan, Plan, Content, IsTaken}
+use Rattle.low_core.specs.Plan.{FramePlan, Plan, Content}
 use Rattle.low_core.specs.SelState.{SelFrame, SelState, SelTurn, first_sel_frame}
 use Rattle.low_core.specs.SelStep.{begins, enters, function_at}
 use Rattle.obj_core.specs.declared.object.Object.{Object}
@@ -22,14 +22,16 @@ address_taken at [] places g e = absurd (cc)
 address_taken at (t ∷ ts) [] g e = absurd (cc)
 address_taken at (t ∷ ts) (p ∷ ps) g e = by_test (t && nat_eq p at) refl (λ j h. address_taken at ts ps j h) e
   where
-    others : (o : Option ℕ) (k : ℕ) → ((j : ℕ) → function_at at ts ps ≡ Some j → (slice_get ts j ≡ Some true) × (slice_get ps j ≡ Some at)) → function_at at ts ps ≡ o → option_map suc o ≡ Some k → (slice_get (t ∷ ts) k ≡ Some true) × (slice_get (p ∷ ps) k ≡ Some at)
+    others : (o : Option ℕ) (k : ℕ) → ((j : ℕ) → function_at at ts ps ≡ Some j → (slice_get ts j ≡ Some true) × (slice_get ps j ≡ Some at)) → function_at at ts ps ≡ o → option_map suc o ≡ Some k →
+        (slice_get (t ∷ ts) k ≡ Some true) × (slice_get (p ∷ ps) k ≡ Some at)
     others None k below f e = absurd (cc)
     others (Some j) k below f e =
         let same : suc j ≡ k = cc in
         let h = below j f in
         (subst (λ i. slice_get (t ∷ ts) i ≡ Some true) same h.0, subst (λ i. slice_get (p ∷ ps) i ≡ Some at) same h.1)
 
-    by_test : (b : Bool) → (t && nat_eq p at) ≡ b → ((j : ℕ) → function_at at ts ps ≡ Some j → (slice_get ts j ≡ Some true) × (slice_get ps j ≡ Some at)) → (if b then Some 0 else option_map suc (function_at at ts ps)) ≡ Some g → (slice_get (t ∷ ts) g ≡ Some true) × (slice_get (p ∷ ps) g ≡ Some at)
+    by_test : (b : Bool) → (t && nat_eq p at) ≡ b → ((j : ℕ) → function_at at ts ps ≡ Some j → (slice_get ts j ≡ Some true) × (slice_get ps j ≡ Some at)) → (if b then Some 0 else option_map suc (function_at at ts ps)) ≡ Some g →
+        (slice_get (t ∷ ts) g ≡ Some true) × (slice_get (p ∷ ps) g ≡ Some at)
     by_test true both below e =
         let zero_is : 0 ≡ g = cc in
         let x = and_parts t (nat_eq p at) both in

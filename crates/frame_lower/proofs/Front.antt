@@ -1,9 +1,9 @@
 -- From the start of a function to its first block.
-use Rattle.std.proofs.Common.{◌≡◌, ℕ, zero, suc, ◌+◌, ◌*◌, ◌%◌, ◌^◌, ◌<◌, ◌≤◌, true, List, [], ◌∷◌, ◌++◌, length, drop, Option, Some, None, refl, sym, ◌∙◌, ap, subst, inl, inr, ◌⊎◌, arith, length-append}
+use Rattle.std.proofs.Common.{◌≡◌, ℕ, suc, ◌+◌, ◌*◌, ◌^◌, ◌<◌, ◌≤◌, true, List, [], ◌∷◌, ◌++◌, length, drop, Some, None, refl, sym, ◌∙◌, ap, subst, inl, inr, ◌⊎◌, arith, length-append}
 use Rattle.std.specs.Prelude.{pos, replicate, slice_get}
 use Rattle.std.proofs.lemmas.List.{append-nil}
 use Rattle.behavior.specs.Simulation.{Comes}
-use Rattle.behavior.proofs.Stretch.{comes_one, comes_step, comes_join, comes_wider}
+use Rattle.behavior.proofs.Stretch.{comes_one, comes_join, comes_wider}
 use Rattle.x86_core.specs.declared.flags.Flags.{Flags}
 use Rattle.x86_core.specs.declared.image.Segment.{Segment}
 use Rattle.x86_core.specs.declared.reg.Reg.{Reg}
@@ -12,7 +12,6 @@ use Rattle.x86_core.specs.declared.instr.Cond.{Cond}
 use Rattle.x86_core.specs.declared.instr.Instr.{Instr}
 use Rattle.x86_core.specs.declared.instr.Instr.TheVariants.{Jcc, Int3}
 use Rattle.x86_core.specs.Data.{stack_start, stack_end}
-use Rattle.x86_core.specs.Step.{State}
 use Rattle.x86_rows.specs.Addresses.{byte_at, SameShape}
 use Rattle.x86_rows.specs.Saving.{IsStack}
 use Rattle.x86_rows.specs.Straight.{Through, exec}
@@ -45,13 +44,13 @@ use Rattle.frame_lower.proofs.Arguments.{AreSmall, AreHeld, StandAt, six_held, s
 use Rattle.frame_lower.proofs.Bodies.{front_stands, first_starts}
 use Rattle.frame_lower.proofs.Bound.{homes_apart}
 use Rattle.frame_lower.proofs.Chains.{saved_same}
-use Rattle.frame_lower.proofs.Counting.{one_fewer, CountsDown, counts_down}
+use Rattle.frame_lower.proofs.Counting.{one_fewer, counts_down}
 use Rattle.frame_lower.proofs.Counts.{push_count, receive_count}
-use Rattle.frame_lower.proofs.Entering.{makes_room, Enters, enters}
-use Rattle.frame_lower.proofs.Facts.{function_shaped, frame_few}
+use Rattle.frame_lower.proofs.Entering.{makes_room, enters}
+use Rattle.frame_lower.proofs.Facts.{function_shaped}
 use Rattle.frame_lower.proofs.Order.{upward_long}
 use Rattle.frame_lower.proofs.PlainStep.{stack_same}
-use Rattle.frame_lower.proofs.Receiving.{Receives, receives}
+use Rattle.frame_lower.proofs.Receiving.{receives}
 use Rattle.frame_lower.proofs.RetStep.{room_in}
 use Rattle.frame_lower.proofs.Saved.{saved_of}
 
@@ -102,12 +101,14 @@ module _ (o : Object) (sel : Sel) (plan : Plan) (contents : List Content) (by : 
     stands1 : Stands code (size_of one_fewer) (unlinked (Jcc Cond.Ae (pos 1)) ∷ unlinked Int3 ∷ (all_unlinked rest ++ blocks))
     stands1 =
         let e : 0 + size_of one_fewer ≡ size_of one_fewer = omega arith in
-        subst (λ p. Stands code p (unlinked (Jcc Cond.Ae (pos 1)) ∷ unlinked Int3 ∷ (all_unlinked rest ++ blocks))) e (stands_next code 0 (unlinked one_fewer) (unlinked (Jcc Cond.Ae (pos 1)) ∷ unlinked Int3 ∷ (all_unlinked rest ++ blocks)) stands0)
+        subst (λ p. Stands code p (unlinked (Jcc Cond.Ae (pos 1)) ∷ unlinked Int3 ∷ (all_unlinked rest ++ blocks))) e
+            (stands_next code 0 (unlinked one_fewer) (unlinked (Jcc Cond.Ae (pos 1)) ∷ unlinked Int3 ∷ (all_unlinked rest ++ blocks)) stands0)
 
     stands2 : Stands code 14 (all_unlinked rest ++ blocks)
     stands2 = stands_next code 13 (unlinked Int3) (all_unlinked rest ++ blocks) (stands_next code 7 (unlinked (Jcc Cond.Ae (pos 1))) (unlinked Int3 ∷ (all_unlinked rest ++ blocks)) stands1)
 
-    pub begins : w.r15 ≡ suc depth → depth < 2 ^ 32 → w.rsp ≡ lower + x.room + 40 → IsStack stack_start stack_end ss → stack_start ≤ lower → lower + x.room + 48 + 8 * length (drop 6 ns) ≤ stack_end → length ns ≡ length fn.params → AreSmall ns → AreHeld w argument_registers ns → StandAt ss (lower + x.room + 48) (drop 6 ns) →
+    pub begins : w.r15 ≡ suc depth → depth < 2 ^ 32 → w.rsp ≡ lower + x.room + 40 → IsStack stack_start stack_end ss → stack_start ≤ lower → lower + x.room + 48 + 8 * length (drop 6 ns) ≤ stack_end → length ns ≡ length fn.params →
+        AreSmall ns → AreHeld w argument_registers ns → StandAt ss (lower + x.room + 48) (drop 6 ns) →
         ((ts : List Segment) → SameShape ss ts → ((q : ℕ) → (q < lower) ⊎ (lower + x.room + 40 ≤ q) → byte_at ts q ≡ byte_at ss q) → Contains lower x.words flat ts) → Begins g lower depth out ns alive flat w fl ss
     begins counter few rsp stack low high long small held stand memory =
         let shaped = function_shaped o sel plan contents by live suits g fn is_function in
@@ -119,7 +120,8 @@ module _ (o : Object) (sel : Sel) (plan : Plan) (contents : List Content) (by : 
         let w4 : Words = record w3 { rsp = lower } in
         let stack2 = stack_same stack_start stack_end ss e.segments e.shape stack in
         let outer : (q : ℕ) → (q < lower) ⊎ (lower + x.room + 40 ≤ q) → byte_at e.segments q ≡ byte_at ss q = λ q c. e.outside q (elim c [ inl lt ↦ inl (omega (arith, lt)) | inr le ↦ inr (omega (arith, le, five)) ]) in
-        let r = receives x.homes lower x.words (suits.homes g) stack_start stack_end x.room fn.params ns fn.registers alive flat w4 e.flags e.segments (homes_apart x.homes fn.params shaped.params_apart (suits.allotted g fn is_function).params) long small stack2 (omega (arith, low)) high (omega (arith, rooms))
+        let r = receives x.homes lower x.words (suits.homes g) stack_start stack_end x.room fn.params ns fn.registers alive flat w4 e.flags e.segments
+            (homes_apart x.homes fn.params shaped.params_apart (suits.allotted g fn is_function).params) long small stack2 (omega (arith, low)) high (omega (arith, rooms))
             (six_held w w4 ns (record { rdi = refl; rsi = refl; rdx = refl; rcx = refl; r8 = refl; r9 = refl }) held)
             (stand_same ss e.segments (drop 6 ns) (lower + x.room + 48) (λ q from to. outer q (inr (omega (arith, from)))) stand)
             (room_in lower x.words e.segments stack2 low (omega (arith, high, rooms))) refl (memory e.segments e.shape outer) in
@@ -145,11 +147,14 @@ module _ (o : Object) (sel : Sel) (plan : Plan) (contents : List Content) (by : 
           comes =
               comes_wider (symbolic_step o) (1 + (1 + n)) (1 + (1 + n)) 1 100 t0 t3 (omega arith) (omega (arith, pushes, homes, most, all, same, five))
               (comes_join (symbolic_step o) 1 1 (1 + n) (1 + n) t0 t1 t3
-              (row_comes o g code (suits.codes g fn is_function) out (unlinked one_fewer ∷ []) 0 (core_of w fl ss) (core_of w3 count.flags ss) (stands_one code 0 (unlinked one_fewer) (unlinked (Jcc Cond.Ae (pos 1)) ∷ unlinked Int3 ∷ (marked ++ blocks)) stands0) count.runs)
+              (row_comes o g code (suits.codes g fn is_function) out (unlinked one_fewer ∷ []) 0 (core_of w fl ss) (core_of w3 count.flags ss)
+                  (stands_one code 0 (unlinked one_fewer) (unlinked (Jcc Cond.Ae (pos 1)) ∷ unlinked Int3 ∷ (marked ++ blocks)) stands0) count.runs)
               (comes_join (symbolic_step o) 1 1 n n t1 t2 t3
-              (comes_one (symbolic_step o) t1 t2 (branches o g code (suits.codes g fn is_function) out 7 (core_of w3 count.flags ss) Cond.Ae None (pos 1) (stands_one code 7 (unlinked (Jcc Cond.Ae (pos 1))) (unlinked Int3 ∷ (marked ++ blocks)) stands1) count.taken))
+              (comes_one (symbolic_step o) t1 t2 (branches o g code (suits.codes g fn is_function) out 7 (core_of w3 count.flags ss) Cond.Ae None (pos 1)
+                  (stands_one code 7 (unlinked (Jcc Cond.Ae (pos 1))) (unlinked Int3 ∷ (marked ++ blocks)) stands1) count.taken))
               (subst (λ p. Comes (symbolic_step o) n n t2 (standing out (Place.Code g p) (core_of r.after e.flags r.segments))) place
-              (row_comes o g code (suits.codes g fn is_function) out marked 14 (core_of w3 count.flags ss) (core_of r.after e.flags r.segments) (stands_first code 14 marked blocks stands2) (ap (λ q. exec q (core_of w3 count.flags ss)) (instrs_of-unlinked rest) ∙ run)))));
+              (row_comes o g code (suits.codes g fn is_function) out marked 14 (core_of w3 count.flags ss) (core_of r.after e.flags r.segments) (stands_first code 14 marked blocks stands2)
+                  (ap (λ q. exec q (core_of w3 count.flags ss)) (instrs_of-unlinked rest) ∙ run)))));
           tied = r.tied;
           counter = r.depth;
           saved = λ q is.

@@ -1,5 +1,5 @@
 -- From a call to its slot: arguments where they are wanted, and a jump.
-use Rattle.std.proofs.Common.{◌≡◌, ℕ, zero, suc, ◌+◌, ◌-◌, ◌*◌, ◌^◌, ◌<◌, ◌≤◌, max, List, [], ◌∷◌, ◌++◌, length, drop, take, Option, Some, None, refl, sym, ◌∙◌, ap, subst, arith, append_assoc, length-append}
+use Rattle.std.proofs.Common.{◌≡◌, ℕ, zero, suc, ◌+◌, ◌-◌, ◌≤◌, List, [], ◌∷◌, ◌++◌, length, drop, take, Option, Some, refl, sym, ◌∙◌, ap, subst, arith, append_assoc, length-append}
 use Rattle.std.specs.Prelude.{pos, slice_get}
 use Rattle.std.specs.List.{flat_map}
 use Rattle.std.proofs.lemmas.List.{length-drop}
@@ -10,10 +10,8 @@ use Rattle.x86_core.specs.declared.flags.Flags.{Flags}
 use Rattle.x86_core.specs.declared.image.Segment.{Segment}
 use Rattle.x86_core.specs.declared.instr.Instr.{Instr}
 use Rattle.x86_core.specs.declared.instr.Instr.TheVariants.{Jmp}
-use Rattle.x86_core.specs.Step.{State}
 use Rattle.x86_rows.specs.Straight.{Through, exec}
 use Rattle.low_core.specs.declared.sel.SelBlock.{SelBlock}
-use Rattle.low_core.specs.declared.sel.SelFun.{SelFun}
 use Rattle.low_core.specs.declared.sel.SelOp.{SelOp}
 use Rattle.low_core.specs.declared.sel.Sel.{Sel}
 use Rattle.low_core.specs.Plan.{Plan, Content}
@@ -116,7 +114,8 @@ module _ (o : Object) (sel : Sel) (plan : Plan) (contents : List Content) (by : 
           let is = suits.codes f.function (function_in sel f.function) is_function in
           comes_wider (symbolic_step o) (n + 1) (n + 1) 1 70 t0 t2 (omega arith) (omega (arith, long, both, count, few, one))
           (comes_join (symbolic_step o) n n 1 1 t0 t1 t2
-          (row_comes o f.function code is out marked off (core_of w fl ss) (core_of w1 fl1 ss1) (stands_first code off marked (jump ∷ (taking ++ rest_from (jump_at + 5 + row_size taking))) whole_row) (ap (λ r. exec r (core_of w fl ss)) (instrs_of-unlinked ready) ∙ runs))
+          (row_comes o f.function code is out marked off (core_of w fl ss) (core_of w1 fl1 ss1) (stands_first code off marked (jump ∷ (taking ++ rest_from (jump_at + 5 + row_size taking))) whole_row)
+              (ap (λ r. exec r (core_of w fl ss)) (instrs_of-unlinked ready) ∙ runs))
           (comes_one (symbolic_step o) t1 t2 (jumps o f.function code is out jump_at (core_of w1 fl1 ss1) (Some slot) (pos 0) (stands_one code jump_at jump (taking ++ rest_from (jump_at + 5 + row_size taking)) jump_stands))))
 
     -- the words that it passes are in the frame

@@ -1,10 +1,9 @@
 -- The return of the first function, which ends the run.
-use Rattle.std.proofs.Common.{◌≡◌, ℕ, zero, suc, ◌+◌, ◌*◌, ◌%◌, ◌^◌, ◌<◌, ◌≤◌, List, [], ◌∷◌, ◌++◌, length, drop, Option, Some, None, Err, refl, sym, ◌∙◌, ap, subst, inl, inr, ◌⊎◌, arith}
+use Rattle.std.proofs.Common.{◌≡◌, ℕ, ◌+◌, ◌%◌, ◌^◌, ◌<◌, ◌≤◌, List, [], ◌++◌, length, drop, Some, Err, refl, sym, ◌∙◌, ap, inr, arith}
 use Rattle.std.specs.Prelude.{slice_get}
 use Rattle.behavior.specs.Ending as ending
-use Rattle.behavior.specs.System.{System}
 use Rattle.behavior.proofs.Stretch.{comes_join, comes_wider, met_by}
-use Rattle.ir_core.specs.Stops.{Answer, Ended}
+use Rattle.ir_core.specs.Stops.{Ended}
 use Rattle.x86_core.specs.declared.flags.Flags.{Flags}
 use Rattle.x86_core.specs.declared.image.Segment.{Segment}
 use Rattle.x86_core.specs.declared.instr.Instr.{Instr}
@@ -13,13 +12,13 @@ use Rattle.x86_core.specs.Step.{State, moment_of}
 use Rattle.x86_rows.specs.Straight.{Through, exec}
 use Rattle.low_core.specs.declared.sel.SelBlock.{SelBlock}
 use Rattle.low_core.specs.declared.sel.Sel.{Sel}
-use Rattle.low_core.specs.Flat.{Span, Bytes}
+use Rattle.low_core.specs.Flat.{Bytes}
 use Rattle.low_core.specs.Plan.{Plan, Content}
-use Rattle.low_core.specs.SelState.{SelFrame, SelState, SelTurn, sel_turned}
+use Rattle.low_core.specs.SelState.{SelFrame, sel_turned}
 use Rattle.obj_core.specs.declared.object.Object.{Object}
 use Rattle.obj_core.specs.declared.object.Place.{Place}
 use Rattle.obj_core.specs.SymbolicMachine.{symbolic_step}
-use Rattle.obj_rows.specs.Marked.{Marked, all_unlinked, Stands}
+use Rattle.obj_rows.specs.Marked.{all_unlinked, Stands}
 use Rattle.obj_rows.specs.Routines.{ComesToShow, few_steps}
 use Rattle.obj_rows.specs.Standing.{Outside, standing, shown}
 use Rattle.frame_rows.specs.Words.{Words, core_of}
@@ -42,7 +41,8 @@ module _ (o : Object) (sel : Sel) (plan : Plan) (contents : List Content) (by : 
   module _ (f : SelFrame) (bytes : Bytes) (printed : List ℕ) (taken depth : ℕ) (w : Words) (fl : Flags) (ss : List Segment) (off : ℕ) (b : SelBlock)
       (is_function : slice_get sel.functions f.function ≡ Some (function_in sel f.function)) (is_block : slice_get (function_in sel f.function).blocks f.block ≡ Some b)
       (stands : Stands (code_in sel by f.function) off (rest_in sel by f.function off f.block f.next b)) (whole : Whole o sel plan contents by live suits input f depth [] (live f.function f.block f.next) bytes w ss)
-      (first : List Instr) (w1 : Words) (runs : exec first (core_of w fl ss) ≡ Through (core_of w1 fl ss)) (few : length first ≤ 1) (same : Same w w1) (closes : Stands (code_in sel by f.function) off (all_unlinked (first ++ leave_row (by f.function))))
+      (first : List Instr) (w1 : Words) (runs : exec first (core_of w fl ss) ≡ Through (core_of w1 fl ss)) (few : length first ≤ 1) (same : Same w w1)
+          (closes : Stands (code_in sel by f.function) off (all_unlinked (first ++ leave_row (by f.function))))
       (n : ℕ) (result : w1.rax ≡ n) where
     abbrev out : Outside
     out = record { left = drop taken input; printed = printed; taken = taken }
@@ -80,6 +80,7 @@ module _ (o : Object) (sel : Sel) (plan : Plan) (contents : List Content) (by : 
         inr (met_by (A o sel plan contents by live suits input) (B o sel plan contents by live suits input) (Stage o sel plan contents by live suits input) (λ _. 0) most_steps s (sel_turned s (Err (Ended (n % 256)))) t0 ends.state
         (comes_wider step (1 + 1) (20 + few_steps) 1 most_steps t0 ends.state (omega arith) (omega arith)
         (comes_join step 1 20 1 few_steps t0 t1 ends.state
-        (return_comes o f.function (code_in sel by f.function) (suits.codes f.function _ is_function) out x (suits.five f.function) first off f.base w w1 fl ss last_ closes few runs whole.stack (same.rsp ∙ whole.tied.at_base) l whole.chain.0 few_calls whole.chain.1 left)
+        (return_comes o f.function (code_in sel by f.function) (suits.codes f.function _ is_function) out x (suits.five f.function) first off f.base w w1 fl ss last_ closes few runs whole.stack (same.rsp ∙ whole.tied.at_base) l
+            whole.chain.0 few_calls whole.chain.1 left)
         ends.comes))
         (inr (refl, record { printed = ap (λ q. q.printed) (sym m); taken = ap (λ q. q.taken) (sym m); ending = ap (λ q. ending.common q.ending) (sym m) })))

@@ -50,7 +50,6 @@ pub mod Taking
 pub mod Counts
 pub mod OwnMemory
 pub mod Returning
-pub mod Departing
 pub mod ByteMemory
 pub mod OutsideBack
 pub mod Copying
@@ -64,4 +63,10 @@ pub mod Jumping
 pub mod Entered
 pub mod CallStep
 pub mod Running
-pub mod Start
+pub mod Globals
+pub mod StartStep
+pub mod OpStep
+pub mod OutsideCall
+pub mod Spanned
+pub mod OutsideLent
+pub mod OutsideStep

@@ -1,11 +1,9 @@
 -- A return to a function that waits.
-use Rattle.std.proofs.Common.{◌≡◌, ◌≢◌, ℕ, zero, suc, ◌+◌, ◌*◌, ◌^◌, ◌<◌, ◌≤◌, true, List, [], ◌∷◌, ◌++◌, length, drop, take, Option, Some, None, refl, sym, ◌∙◌, ap, subst, inl, inr, ◌⊎◌, arith}
+use Rattle.std.proofs.Common.{◌≡◌, ℕ, suc, ◌+◌, ◌*◌, ◌^◌, ◌<◌, ◌≤◌, List, ◌∷◌, ◌++◌, length, drop, Some, refl, sym, ◌∙◌, ap, subst, inl, inr, arith}
 use Rattle.std.specs.Prelude.{slice_get}
 use Rattle.behavior.specs.System.{System}
 use Rattle.behavior.specs.Simulation.{Comes}
 use Rattle.behavior.proofs.Stretch.{comes_one, comes_join, comes_wider, met_by}
-use Rattle.ir_core.specs.Stops.{Answer}
-use Rattle.rd_num.specs.Number.{le_bytes}
 use Rattle.x86_core.specs.declared.flags.Flags.{Flags}
 use Rattle.x86_core.specs.declared.image.Segment.{Segment}
 use Rattle.x86_core.specs.declared.instr.Instr.{Instr}
@@ -17,23 +15,23 @@ use Rattle.low_core.specs.declared.sel.SelBlock.{SelBlock}
 use Rattle.low_core.specs.declared.sel.Sel.{Sel}
 use Rattle.low_core.specs.Flat.{Span, Bytes}
 use Rattle.low_core.specs.Plan.{Plan, Content}
-use Rattle.low_core.specs.SelState.{SelFrame, SelState, SelTurn, sel_turned, word_in}
+use Rattle.low_core.specs.SelState.{SelFrame, SelState, sel_turned}
 use Rattle.low_core.specs.SelStep.{goes, with_result}
 use Rattle.obj_core.specs.declared.object.Object.{Object}
 use Rattle.obj_core.specs.declared.object.Place.{Place}
 use Rattle.obj_core.specs.SymbolicMachine.{symbolic_step}
-use Rattle.obj_rows.specs.Marked.{Marked, all_unlinked, row_size, Stands}
+use Rattle.obj_rows.specs.Marked.{all_unlinked, Stands}
 use Rattle.obj_rows.specs.Standing.{Outside, standing}
 use Rattle.obj_rows.proofs.Rows.{instrs_of-unlinked, length-unlinked, stands_first, stands_behind}
 use Rattle.obj_rows.proofs.Runs.{row_comes}
 use Rattle.frame_rows.specs.declared.spot.Spot.{Spot}
 use Rattle.frame_rows.specs.declared.spot.Spot.TheVariants.{Own, Frame}
 use Rattle.frame_rows.specs.Steps.{Leads}
-use Rattle.frame_rows.specs.Ties.{is_home, IsHome, Keeps, Room, Tied}
+use Rattle.frame_rows.specs.Ties.{IsHome, Keeps, Room, Tied}
 use Rattle.frame_rows.specs.Words.{Words, core_of}
 use Rattle.frame_rows.proofs.Registers.{Same}
 use Rattle.frame_lower.specs.Calls.{take_row}
-use Rattle.frame_lower.specs.Chain.{upward, Saved, Stored, function_in, code_in, rest_in, pushes_of, spans_of, Entry, Chain}
+use Rattle.frame_lower.specs.Chain.{Stored, function_in, code_in, rest_in, spans_of, Entry, Chain}
 use Rattle.frame_lower.specs.Rows.{Making, leave_row}
 use Rattle.frame_lower.specs.Suits.{Suits}
 use Rattle.frame_lower.proofs.Chains.{chain_same, chain_moved, chain_high, reserved_low, moved_to}
@@ -82,7 +80,8 @@ module _ (o : Object) (sel : Sel) (plan : Plan) (contents : List Content) (by : 
   module _ (f z : SelFrame) (zs : List SelFrame) (bytes : Bytes) (printed : List ℕ) (taken depth : ℕ) (w : Words) (fl : Flags) (ss : List Segment) (off : ℕ) (b : SelBlock)
       (is_function : slice_get sel.functions f.function ≡ Some (function_in sel f.function)) (is_block : slice_get (function_in sel f.function).blocks f.block ≡ Some b)
       (stands : Stands (code_in sel by f.function) off (rest_in sel by f.function off f.block f.next b)) (whole : Tells f depth (z ∷ zs) (live f.function f.block f.next) bytes w ss)
-      (first : List Instr) (w1 : Words) (runs : exec first (core_of w fl ss) ≡ Through (core_of w1 fl ss)) (few : length first ≤ 1) (same : Same w w1) (closes : Stands (code_in sel by f.function) off (all_unlinked (first ++ leave_row (by f.function))))
+      (first : List Instr) (w1 : Words) (runs : exec first (core_of w fl ss) ≡ Through (core_of w1 fl ss)) (few : length first ≤ 1) (same : Same w w1)
+          (closes : Stands (code_in sel by f.function) off (all_unlinked (first ++ leave_row (by f.function))))
       (n : ℕ) (result : (r : ℕ) → f.into ≡ Some r → (w1.rax ≡ n) × (n < 2 ^ 64)) where
     abbrev s : SelState
     s = state_of f (z ∷ zs) bytes printed taken
@@ -154,7 +153,8 @@ module _ (o : Object) (sel : Sel) (plan : Plan) (contents : List Content) (by : 
         }
 
     taking : Leads y.homes z.base y.words (take_row y.homes f.into) w5 left.flags ss (live z.function z.block z.next) (with_result f.into n z.registers) (flat_in o sel plan contents by live suits input (z ∷ zs) bytes)
-    taking = takes y.homes z.base y.words (live z.function z.block z.next) f.into z.registers (flat_in o sel plan contents by live suits input (z ∷ zs) bytes) w5 left.flags ss n (λ i r e l ne. entry.apart i r e l ne) (λ r e. (left.result ∙ (result r e).0, (result r e).1)) tied5
+    taking = takes y.homes z.base y.words (live z.function z.block z.next) f.into z.registers (flat_in o sel plan contents by live suits input (z ∷ zs) bytes) w5 left.flags ss n (λ i r e l ne. entry.apart i r e l ne)
+        (λ r e. (left.result ∙ (result r e).0, (result r e).1)) tied5
 
     abbrev z2 : SelFrame
     z2 = moved_to o sel by globals_ live last_ z z.block z.next (with_result f.into n z.registers)
@@ -198,7 +198,8 @@ module _ (o : Object) (sel : Sel) (plan : Plan) (contents : List Content) (by : 
         inr (met_by A_ B_ Stage_ (λ _. 0) most_steps s (sel_turned s (goes s (z2 ∷ zs))) t0 t3
         (comes_wider step (1 + (1 + m)) (20 + (1 + m)) 1 most_steps t0 t3 (omega arith) (omega (arith, some, long))
         (comes_join step 1 20 (1 + m) (1 + m) t0 t1 t3
-        (return_comes o f.function (code_in sel by f.function) (suits.codes f.function _ is_function) out x (suits.five f.function) first off f.base w w1 fl ss entry.back closes few runs whole.stack (same.rsp ∙ whole.tied.at_base) l h few_calls entry.way left)
+        (return_comes o f.function (code_in sel by f.function) (suits.codes f.function _ is_function) out x (suits.five f.function) first off f.base w w1 fl ss entry.back closes few runs whole.stack (same.rsp ∙ whole.tied.at_base) l
+            h few_calls entry.way left)
         (comes_join step 1 1 m m t1 t2 t3 (comes_one step t1 t2 (entry.returns out (core_of w5 left.flags ss)))
         (subst (λ p. Comes step m m t2 (standing out (Place.Code z.function p) (core_of taking.after taking.flags taking.segments))) (sym here)
         (row_comes o z.function code (suits.codes z.function _ entry.is_function) out marked entry.offset (core_of w5 left.flags ss) (core_of taking.after taking.flags taking.segments)
