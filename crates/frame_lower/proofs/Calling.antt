@@ -1,4 +1,4 @@
--- A call, from the start of the function that is called: it begins, or one call too many is active.
+-- A call, from the start of the function that is called.
 use Rattle.std.proofs.Common.{◌≡◌, ℕ, zero, suc, ◌+◌, ◌-◌, ◌*◌, ◌<◌, ◌≤◌, true, false, nat_le, if◌then◌else◌, List, ◌∷◌, ◌++◌, length, drop, Option, Some, Ok, Err, refl, sym, ◌∙◌, ap, subst, inl, inr, ◌⊎◌, arith}
 use Rattle.std.specs.Prelude.{slice_get, get_or}
 use Rattle.std.proofs.lemmas.Bool.{le-leb, lt-leb, cases_lt}
@@ -53,11 +53,13 @@ use Rattle.frame_lower.proofs.Arguments.{AreSmall, AreHeld, StandAt, six_held, s
 use Rattle.frame_lower.proofs.Bodies.{block_stands}
 use Rattle.frame_lower.proofs.Chains.{chain_same, chain_moved, chain_high, reserved_low, moved_to}
 use Rattle.frame_lower.proofs.Counting.{counts_out}
+use Rattle.frame_lower.proofs.Entered.{planned}
 use Rattle.frame_lower.proofs.Facts.{function_shaped, frame_few}
 use Rattle.frame_lower.proofs.Front.{Begins, begins, stands0, rest, blocks}
 use Rattle.frame_lower.proofs.OwnMemory.{one_more, contains_made}
 use Rattle.frame_lower.proofs.PlainStep.{stack_same, Turned}
 use Rattle.frame_lower.proofs.Returning.{home_rsp}
+use Rattle.frame_lower.proofs.TooDeep.{too_deep}
 use Rattle.frame_lower.proofs.Stage.{most_steps, state_of, flat_in, globals, last, Whole, Stage, A, B}
 
 module _ (o : Object) (sel : Sel) (plan : Plan) (contents : List Content) (by : ℕ → Making) (live : ℕ → ℕ → ℕ → ℕ → Type 0) (suits : Suits o sel plan contents by live) (input : List ℕ) where
@@ -117,12 +119,9 @@ module _ (o : Object) (sel : Sel) (plan : Plan) (contents : List Content) (by : 
     abbrev callee : SelFun
     callee = function_in sel g
 
-    -- the frame that begins, as it is planned
-    abbrev pub planned : FramePlan
-    planned = record { bytes = y.room + kept_bytes; allocas = 8 * y.words }
-
+    -- the frame that begins
     abbrev pub new : SelFrame
-    new = first_sel_frame g callee planned f.base ns into
+    new = first_sel_frame g callee (planned o sel plan contents by live suits g) f.base ns into
 
     abbrev pub turn : Answer SelTurn
     turn = sel_step.begins s f callers new
@@ -143,28 +142,6 @@ module _ (o : Object) (sel : Sel) (plan : Plan) (contents : List Content) (by : 
     first_block =
         let some = (function_shaped o sel plan contents by live suits g callee is_callee).some_block in
         (get_or callee.blocks 0 b, slice_get-get_or callee.blocks 0 b some)
-
-    -- no call more
-    pub too_deep : depth ≡ 0 → Turned_ turn
-    too_deep e =
-        let active = whole.active in
-        let full : nat_le MAX_CALLS (suc (length callers)) ≡ true = le-leb MAX_CALLS (suc (length callers)) (omega (arith, active, e)) in
-        let fewer : w2.r15 ≡ 0 = same.r15 ∙ whole.counter ∙ e in
-        let c = counts_out w2 fl1 ss2 fewer in
-        let code = code_in sel by g in
-        let part = all_unlinked count_row in
-        let others = all_unlinked (rest o sel plan contents by live suits g 0 0 out ns (live g 0 0) (flat_in o sel plan contents by live suits input (f ∷ callers) bytes) w fl ss first_block.0 is_callee first_block.1) ++ blocks o sel
-            plan contents by live suits g 0 0 out ns (live g 0 0) (flat_in o sel plan contents by live suits input (f ∷ callers) bytes) w fl ss first_block.0 is_callee first_block.1 in
-        let u = iter step 3 t1 in
-        let m : moment_of u ≡ shown out ending.Breakpoint =
-            row_stops o g code (suits.codes g callee is_callee) out part 0 (core_of w2 fl1 ss2) ending.Breakpoint
-            (stands_first code 0 part others (stands0 o sel plan contents by live suits g 0 0 out ns (live g 0 0) (flat_in o sel plan contents by live suits input (f ∷ callers) bytes) w fl ss first_block.0 is_callee first_block.1))
-                c.stops in
-        let stop : Comes step 3 3 t1 u = record { count = 3; low = omega arith; high = omega arith; arrives = refl } in
-        subst (λ q. Turned_ (if q then Err Depth else Ok (record { frames = new ∷ sel_step.past_op f ∷ callers; bytes = forgotten bytes new.own.start new.own.size; exchange = Nothing }))) (sym full)
-        (inr (met_by A_ B_ Stage_ (λ _. 0) most_steps s (sel_turned s (Err Depth)) t0 u
-        (comes_wider step (1 + 3) (200 + 3) 1 most_steps t0 u (omega arith) (omega arith) (comes_join step 1 200 3 3 t0 t1 u comes stop))
-        (inr (refl, record { printed = ap (λ q. q.printed) (sym m); taken = ap (λ q. q.taken) (sym m); ending = ap (λ q. ending.common q.ending) (sym m) }))))
 
     -- one call more
     module _ (d : ℕ) (deep : depth ≡ suc d) where
@@ -358,5 +335,5 @@ module _ (o : Object) (sel : Sel) (plan : Plan) (contents : List Content) (by : 
     called = by_depth depth refl
       where
         by_depth : (m : ℕ) → depth ≡ m → Turned_ turn
-        by_depth zero e = too_deep e
+        by_depth zero e = too_deep o sel plan contents by live suits input f callers bytes printed taken depth w fl ss off b is_function is_block stands whole into g is_callee ns w2 fl1 ss2 same.r15 comes e
         by_depth (suc d) e = begun d e
