@@ -70,3 +70,4 @@ pub mod OutsideCall
 pub mod Spanned
 pub mod OutsideLent
 pub mod OutsideStep
+pub mod FineRunning
