@@ -71,3 +71,4 @@ pub mod OutsideCall
 pub mod Spanned
 pub mod OutsideLent
 pub mod OutsideStep
+pub mod FineRunning
