@@ -1,11 +1,10 @@
 -- A call, from the start of the function that is called.
 use Rattle.std.proofs.Common.{◌≡◌, ℕ, zero, suc, ◌+◌, ◌-◌, ◌*◌, ◌<◌, ◌≤◌, true, false, nat_le, if◌then◌else◌, List, ◌∷◌, ◌++◌, length, drop, Option, Some, Ok, Err, refl, sym, ◌∙◌, ap, subst, inl, inr, ◌⊎◌, arith}
 use Rattle.std.specs.Prelude.{slice_get, get_or}
-use Rattle.std.proofs.lemmas.Bool.{le-leb, lt-leb, cases_lt}
+use Rattle.std.proofs.lemmas.Bool.{lt-leb, cases_lt}
 use Rattle.std.proofs.lemmas.Option.{slice_get-get_or}
-use Rattle.behavior.specs.Ending as ending
 use Rattle.behavior.specs.Simulation.{Comes}
-use Rattle.behavior.specs.System.{System, iter}
+use Rattle.behavior.specs.System.{System}
 use Rattle.behavior.proofs.Stretch.{comes_join, comes_wider, met_by}
 use Rattle.ir_core.specs.declared.TheConstants.{MAX_CALLS}
 use Rattle.ir_core.specs.State.{Nothing}
@@ -14,7 +13,7 @@ use Rattle.rd_num.specs.Number.{le_bytes}
 use Rattle.x86_core.specs.declared.flags.Flags.{Flags}
 use Rattle.x86_core.specs.declared.image.Segment.{Segment}
 use Rattle.x86_core.specs.Data.{stack_start, stack_end}
-use Rattle.x86_core.specs.Step.{State, moment_of}
+use Rattle.x86_core.specs.Step.{State}
 use Rattle.x86_rows.specs.Addresses.{byte_at, range_at, SameShape, Written}
 use Rattle.x86_rows.specs.Saving.{IsStack}
 use Rattle.x86_rows.specs.Straight.{Core}
@@ -25,7 +24,7 @@ use Rattle.low_core.specs.declared.sel.SelFun.{SelFun}
 use Rattle.low_core.specs.declared.sel.SelOp.{SelOp}
 use Rattle.low_core.specs.declared.sel.Sel.{Sel}
 use Rattle.low_core.specs.Flat.{Span, Bytes, is_inside, forgotten}
-use Rattle.low_core.specs.Plan.{FramePlan, Plan, Content}
+use Rattle.low_core.specs.Plan.{Plan, Content}
 use Rattle.low_core.specs.SelParts.{assigns_of}
 use Rattle.low_core.specs.SelState.{SelFrame, SelState, SelTurn, sel_turned, first_sel_frame}
 use Rattle.low_core.specs.SelStep as sel_step
@@ -34,9 +33,7 @@ use Rattle.obj_core.specs.declared.object.Place.{Place}
 use Rattle.obj_core.specs.Slots.{slot_start}
 use Rattle.obj_core.specs.SymbolicMachine.{symbolic_step}
 use Rattle.obj_rows.specs.Marked.{all_unlinked, row_size, Stands}
-use Rattle.obj_rows.specs.Standing.{Outside, standing, shown}
-use Rattle.obj_rows.proofs.Rows.{stands_first}
-use Rattle.obj_rows.proofs.Runs.{row_stops}
+use Rattle.obj_rows.specs.Standing.{Outside, standing}
 use Rattle.obj_rows.proofs.Words.{back_lands, slot_below}
 use Rattle.frame_rows.specs.declared.spot.Spot.{Spot}
 use Rattle.frame_rows.specs.declared.spot.Spot.TheVariants.{Own, Frame}
@@ -46,20 +43,18 @@ use Rattle.frame_rows.specs.Words.{Words, core_of}
 use Rattle.frame_rows.proofs.Registers.{Same}
 use Rattle.frame_lower.specs.Calls.{argument_registers, take_row}
 use Rattle.frame_lower.specs.Chain.{upward, Saved, Stored, IsWay, HasRoom, function_in, code_in, rest_in, starts_in, pushes_of, spans_of, IsOff, Chain}
-use Rattle.frame_lower.specs.Frames.{kept_bytes}
-use Rattle.frame_lower.specs.Rows.{Making, count_row}
+use Rattle.frame_lower.specs.Rows.{Making}
 use Rattle.frame_lower.specs.Suits.{Suits}
 use Rattle.frame_lower.proofs.Arguments.{AreSmall, AreHeld, StandAt, six_held, stand_same}
 use Rattle.frame_lower.proofs.Bodies.{block_stands}
 use Rattle.frame_lower.proofs.Chains.{chain_same, chain_moved, chain_high, reserved_low, moved_to}
-use Rattle.frame_lower.proofs.Counting.{counts_out}
 use Rattle.frame_lower.proofs.Entered.{planned}
 use Rattle.frame_lower.proofs.Facts.{function_shaped, frame_few}
-use Rattle.frame_lower.proofs.Front.{Begins, begins, stands0, rest, blocks}
-use Rattle.frame_lower.proofs.OwnMemory.{one_more, contains_made}
+use Rattle.frame_lower.proofs.Front.{Begins, begins}
+use Rattle.frame_lower.proofs.OwnMemory.{contains_made}
 use Rattle.frame_lower.proofs.PlainStep.{stack_same, Turned}
-use Rattle.frame_lower.proofs.Returning.{home_rsp}
 use Rattle.frame_lower.proofs.TooDeep.{too_deep}
+use Rattle.frame_lower.proofs.Waiting.{stored_of, beside_new}
 use Rattle.frame_lower.proofs.Stage.{most_steps, state_of, flat_in, globals, last, Whole, Stage, A, B}
 
 module _ (o : Object) (sel : Sel) (plan : Plan) (contents : List Content) (by : ℕ → Making) (live : ℕ → ℕ → ℕ → ℕ → Type 0) (suits : Suits o sel plan contents by live) (input : List ℕ) where
@@ -231,11 +226,9 @@ module _ (o : Object) (sel : Sel) (plan : Plan) (contents : List Content) (by : 
 
       -- the words of the function that waits
       stored : (h : Spot) (n : ℕ) → IsHome x.words h → Keeps w1 ss1 h n → Stored ts y.order (pushes_of o sel by globals_ live last_ new) (pushes_of o sel by globals_ live last_ new + 48) h n
-      stored (Own r) n is keeps = subst (λ m. Saved ts (upward y.order) (lower + y.room) r m) (home_rsp w1 (f.base - 8) r is ∙ keeps) (beginning.saved r is)
-      stored (Frame j) n is keeps =
+      stored =
           let e = base_is in
-          let at : w1.rsp + 8 * j ≡ lower + y.room + 48 + 8 * j = let a = tied1.at_base in omega (arith, a, e) in
-          range_same ts ss1 8 (lower + y.room + 48 + 8 * j) (λ q from to. beginning.outside q (inr (omega (arith, from))) ∙ pushed.outside q (inr (omega (arith, from, e)))) ∙ ap (λ a. range_at ss1 a 8) (sym at) ∙ keeps
+          stored_of x.words y.order (lower + y.room) (f.base - 8) w1 ss1 ts (tied1.at_base ∙ e) beginning.saved (λ q le. beginning.outside q (inr (omega (arith, le))) ∙ pushed.outside q (inr (omega (arith, le, e))))
 
       waits : Chain o sel by globals_ live last_ ts new d (z ∷ callers)
       waits =
@@ -269,23 +262,10 @@ module _ (o : Object) (sel : Sel) (plan : Plan) (contents : List Content) (by : 
           )
 
       off2 : IsOff o sel by globals_ live last_ new (z ∷ callers)
-      off2 p i =
-          let e = base_is in
+      off2 =
           let r = room2 in
           let rs = rooms in
-          elim (one_more (lower + 8 * y.words) callee.frame (spans_of o sel by globals_ live last_ (f ∷ callers)) p 1 i) [
-            | inl c ↦
-                let lo = c.low in
-                let hi = c.high in
-                (λ l m. absurd (omega (arith, lo, m)), λ u. let low = reserved_low o sel by globals_ live last_ (z ∷ callers) ts new d p waits u in absurd (omega (arith, hi, low, rs)))
-            | inr j ↦ (
-              λ l m. (whole.off p j).0 l (omega (arith, m, e, rs)),
-              λ u. elim u [
-                | inl v ↦ let v0 = v.0 in let v1 = v.1 in (whole.off p j).0 (omega (arith, v0, r)) (omega (arith, v1, e))
-                | inr v ↦ (whole.off p j).1 v
-              ],
-            )
-          ]
+          beside_new o sel by globals_ live last_ new f callers f.block (f.next + 1) callee.frame f.registers refl (omega (arith, rs)) base_is (omega (arith, r)) (λ q u. reserved_low o sel by globals_ live last_ (z ∷ callers) ts new d q waits u) whole.off
 
       whole2 : Tells new d (z ∷ callers) (live g 0 0) bytes2 beginning.words ts
       whole2 =

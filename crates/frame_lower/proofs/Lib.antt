@@ -59,6 +59,7 @@ pub mod LastStep
 pub mod EndStep
 pub mod Front
 pub mod TooDeep
+pub mod Waiting
 pub mod Calling
 pub mod Jumping
 pub mod Entered

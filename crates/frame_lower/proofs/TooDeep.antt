@@ -1,7 +1,7 @@
 -- A call of one function too many: it stops the run where the function counts its calls.
-use Rattle.std.proofs.Common.{◌≡◌, ℕ, zero, suc, ◌+◌, ◌-◌, ◌*◌, ◌<◌, ◌≤◌, true, false, nat_le, if◌then◌else◌, List, ◌∷◌, ◌++◌, length, drop, Option, Some, Ok, Err, refl, sym, ◌∙◌, ap, subst, inl, inr, ◌⊎◌, arith}
+use Rattle.std.proofs.Common.{◌≡◌, ℕ, suc, ◌+◌, true, nat_le, if◌then◌else◌, List, ◌∷◌, length, drop, Option, Some, Ok, Err, refl, sym, ◌∙◌, ap, subst, inr, arith}
 use Rattle.std.specs.Prelude.{slice_get, get_or}
-use Rattle.std.proofs.lemmas.Bool.{le-leb, lt-leb, cases_lt}
+use Rattle.std.proofs.lemmas.Bool.{le-leb}
 use Rattle.std.proofs.lemmas.Option.{slice_get-get_or}
 use Rattle.behavior.specs.Ending as ending
 use Rattle.behavior.specs.Simulation.{Comes}
@@ -10,55 +10,32 @@ use Rattle.behavior.proofs.Stretch.{comes_join, comes_wider, met_by}
 use Rattle.ir_core.specs.declared.TheConstants.{MAX_CALLS}
 use Rattle.ir_core.specs.State.{Nothing}
 use Rattle.ir_core.specs.Stops.{Answer, Depth}
-use Rattle.rd_num.specs.Number.{le_bytes}
 use Rattle.x86_core.specs.declared.flags.Flags.{Flags}
 use Rattle.x86_core.specs.declared.image.Segment.{Segment}
-use Rattle.x86_core.specs.Data.{stack_start, stack_end}
 use Rattle.x86_core.specs.Step.{State, moment_of}
-use Rattle.x86_rows.specs.Addresses.{byte_at, range_at, SameShape, Written}
-use Rattle.x86_rows.specs.Saving.{IsStack}
-use Rattle.x86_rows.specs.Straight.{Core}
-use Rattle.x86_rows.proofs.Covers.{range_same}
-use Rattle.x86_rows.proofs.Shapes.{shape_trans}
 use Rattle.low_core.specs.declared.sel.SelBlock.{SelBlock}
 use Rattle.low_core.specs.declared.sel.SelFun.{SelFun}
-use Rattle.low_core.specs.declared.sel.SelOp.{SelOp}
 use Rattle.low_core.specs.declared.sel.Sel.{Sel}
-use Rattle.low_core.specs.Flat.{Span, Bytes, is_inside, forgotten}
-use Rattle.low_core.specs.Plan.{FramePlan, Plan, Content}
-use Rattle.low_core.specs.SelParts.{assigns_of}
+use Rattle.low_core.specs.Flat.{Span, Bytes, forgotten}
+use Rattle.low_core.specs.Plan.{Plan, Content}
 use Rattle.low_core.specs.SelState.{SelFrame, SelState, SelTurn, sel_turned, first_sel_frame}
 use Rattle.low_core.specs.SelStep as sel_step
 use Rattle.obj_core.specs.declared.object.Object.{Object}
 use Rattle.obj_core.specs.declared.object.Place.{Place}
-use Rattle.obj_core.specs.Slots.{slot_start}
 use Rattle.obj_core.specs.SymbolicMachine.{symbolic_step}
-use Rattle.obj_rows.specs.Marked.{all_unlinked, row_size, Stands}
+use Rattle.obj_rows.specs.Marked.{all_unlinked, Stands}
 use Rattle.obj_rows.specs.Standing.{Outside, standing, shown}
 use Rattle.obj_rows.proofs.Rows.{stands_first}
 use Rattle.obj_rows.proofs.Runs.{row_stops}
-use Rattle.obj_rows.proofs.Words.{back_lands, slot_below}
-use Rattle.frame_rows.specs.declared.spot.Spot.{Spot}
-use Rattle.frame_rows.specs.declared.spot.Spot.TheVariants.{Own, Frame}
-use Rattle.frame_rows.specs.Steps.{IsAllocated}
-use Rattle.frame_rows.specs.Ties.{IsHome, Keeps, Tied}
 use Rattle.frame_rows.specs.Words.{Words, core_of}
-use Rattle.frame_rows.proofs.Registers.{Same}
-use Rattle.frame_lower.specs.Calls.{argument_registers, take_row}
-use Rattle.frame_lower.specs.Chain.{upward, Saved, Stored, IsWay, HasRoom, function_in, code_in, rest_in, starts_in, pushes_of, spans_of, IsOff, Chain}
-use Rattle.frame_lower.specs.Frames.{kept_bytes}
+use Rattle.frame_lower.specs.Chain.{function_in, code_in, rest_in}
 use Rattle.frame_lower.specs.Rows.{Making, count_row}
 use Rattle.frame_lower.specs.Suits.{Suits}
-use Rattle.frame_lower.proofs.Arguments.{AreSmall, AreHeld, StandAt, six_held, stand_same}
-use Rattle.frame_lower.proofs.Bodies.{block_stands}
-use Rattle.frame_lower.proofs.Chains.{chain_same, chain_moved, chain_high, reserved_low, moved_to}
 use Rattle.frame_lower.proofs.Counting.{counts_out}
 use Rattle.frame_lower.proofs.Entered.{planned}
-use Rattle.frame_lower.proofs.Facts.{function_shaped, frame_few}
-use Rattle.frame_lower.proofs.Front.{Begins, begins, stands0, rest, blocks}
-use Rattle.frame_lower.proofs.OwnMemory.{one_more, contains_made}
-use Rattle.frame_lower.proofs.PlainStep.{stack_same, Turned}
-use Rattle.frame_lower.proofs.Returning.{home_rsp}
+use Rattle.frame_lower.proofs.Facts.{function_shaped}
+use Rattle.frame_lower.proofs.Front.{stands0}
+use Rattle.frame_lower.proofs.PlainStep.{Turned}
 use Rattle.frame_lower.proofs.Stage.{most_steps, state_of, flat_in, globals, last, Whole, Stage, A, B}
 
 module _ (o : Object) (sel : Sel) (plan : Plan) (contents : List Content) (by : ℕ → Making) (live : ℕ → ℕ → ℕ → ℕ → Type 0) (suits : Suits o sel plan contents by live) (input : List ℕ) where
