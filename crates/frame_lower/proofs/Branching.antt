@@ -43,7 +43,8 @@ use Rattle.frame_lower.proofs.Displacements.{leads}
 use Rattle.frame_lower.proofs.Facts.{block_shaped}
 use Rattle.frame_lower.proofs.PlainStep.{Turned, stops_at}
 use Rattle.frame_lower.proofs.Rests.{end_stands}
-use Rattle.frame_lower.proofs.Stage.{most_steps, state_of, flat_in, globals, last, Whole, Stage, A, B}
+use Rattle.frame_lower.specs.Meaning.{most_steps}
+use Rattle.frame_lower.proofs.Stage.{state_of, flat_in, globals, last, Whole, Stage, A, B}
 
 -- a part of a row ends inside of it
 pub within : (row : List Marked) (off : ℕ) (part : List Marked) → Stands row off part → off + row_size part ≤ row_size row

@@ -40,7 +40,8 @@ use Rattle.frame_lower.proofs.Bits.{low_bit, bit_law}
 use Rattle.frame_lower.proofs.Branching.{arrives, end_here, jumps_to, low, low_start}
 use Rattle.frame_lower.proofs.Displacements.{leads}
 use Rattle.frame_lower.proofs.PlainStep.{Turned}
-use Rattle.frame_lower.proofs.Stage.{most_steps, state_of, flat_in, Whole, Stage, A, B}
+use Rattle.frame_lower.specs.Meaning.{most_steps}
+use Rattle.frame_lower.proofs.Stage.{state_of, flat_in, Whole, Stage, A, B}
 
 module _ (o : Object) (sel : Sel) (plan : Plan) (contents : List Content) (by : ℕ → Making) (live : ℕ → ℕ → ℕ → ℕ → Type 0) (suits : Suits o sel plan contents by live) (input : List ℕ) where
   abbrev A_ : System SelState

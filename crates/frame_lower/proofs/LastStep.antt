@@ -29,7 +29,8 @@ use Rattle.frame_lower.specs.Suits.{Suits}
 use Rattle.frame_lower.proofs.Leaving.{Leaves, leaves}
 use Rattle.frame_lower.proofs.PlainStep.{Turned}
 use Rattle.frame_lower.proofs.Returning.{return_comes}
-use Rattle.frame_lower.proofs.Stage.{most_steps, state_of, last, Whole, Stage, A, B}
+use Rattle.frame_lower.specs.Meaning.{most_steps}
+use Rattle.frame_lower.proofs.Stage.{state_of, last, Whole, Stage, A, B}
 
 module _ (o : Object) (sel : Sel) (plan : Plan) (contents : List Content) (by : ℕ → Making) (live : ℕ → ℕ → ℕ → ℕ → Type 0) (suits : Suits o sel plan contents by live) (input : List ℕ) where
   abbrev last_ : Place

@@ -53,7 +53,8 @@ use Rattle.frame_lower.proofs.OutsideMet.{Called, is_called, routine_met}
 use Rattle.frame_lower.proofs.OutsideMet as met
 use Rattle.frame_lower.proofs.PlainStep.{Turned, stops_at}
 use Rattle.frame_lower.proofs.Rests.{op_stands}
-use Rattle.frame_lower.proofs.Stage.{most_steps, state_of, flat_in, Whole, Stage, A, B}
+use Rattle.frame_lower.specs.Meaning.{most_steps}
+use Rattle.frame_lower.proofs.Stage.{state_of, flat_in, Whole, Stage, A, B}
 
 -- the byte that is next, and the others
 next_there : (xs : List ℕ) (n b : ℕ) → slice_get xs n ≡ Some b → drop n xs ≡ b ∷ drop (n + 1) xs

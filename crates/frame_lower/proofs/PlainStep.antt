@@ -47,7 +47,8 @@ use Rattle.frame_lower.specs.Suits.{Suits}
 use Rattle.frame_lower.proofs.Chains.{chain_same, chain_moved, chain_high, reserved_low, moved_to}
 use Rattle.frame_lower.proofs.Facts.{op_ready}
 use Rattle.frame_lower.proofs.Rests.{op_stands}
-use Rattle.frame_lower.proofs.Stage.{most_steps, state_of, last, globals, flat_in, Whole, Stage, A, B, Meets_}
+use Rattle.frame_lower.specs.Meaning.{most_steps}
+use Rattle.frame_lower.proofs.Stage.{state_of, last, globals, flat_in, Whole, Stage, A, B, Meets_}
 
 -- the stack may be used after any write
 pub stack_same : (low high : ℕ) (ss ts : List Segment) → SameShape ss ts → IsStack low high ss → IsStack low high ts

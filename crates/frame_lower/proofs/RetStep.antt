@@ -40,7 +40,8 @@ use Rattle.frame_lower.proofs.Leaving.{Leaves, leaves}
 use Rattle.frame_lower.proofs.OwnMemory.{contains_gone}
 use Rattle.frame_lower.proofs.PlainStep.{stack_same, Turned}
 use Rattle.frame_lower.proofs.Returning.{home_rsp, return_comes}
-use Rattle.frame_lower.proofs.Stage.{most_steps, state_of, flat_in, globals, last, Whole, Stage, A, B}
+use Rattle.frame_lower.specs.Meaning.{most_steps}
+use Rattle.frame_lower.proofs.Stage.{state_of, flat_in, globals, last, Whole, Stage, A, B}
 use Rattle.frame_lower.proofs.Taking.{LiveBeside, takes}
 
 -- the words of a frame in the stack

@@ -30,6 +30,7 @@ use Rattle.obj_rows.specs.Standing.{standing}
 use Rattle.frame_rows.specs.Words.{Words, core_of}
 use Rattle.frame_rows.specs.Ties.{Tied}
 use Rattle.frame_lower.specs.Chain.{HasRoom, no_function, function_in, code_in, rest_in, spans_of, own_of, IsOff, Chain}
+use Rattle.frame_lower.specs.Meaning.{most_steps}
 use Rattle.frame_lower.specs.Rows.{Making}
 use Rattle.frame_lower.specs.Suits.{Suits}
 
@@ -45,10 +46,6 @@ sel_system sel plan contents input = record {
 -- an object's machine as a system
 abbrev pub object_system : Object → System (State Place)
 object_system o = machine_system (λ _. symbolic_fetch o) (symbolic_land o)
-
--- the most steps that meet one step: those of the routine over the most bytes
-abbrev pub most_steps : ℕ
-most_steps = 2 ^ 65
 
 -- a state of a run that goes on in the first of its calls
 abbrev pub state_of : SelFrame → List SelFrame → Bytes → List ℕ → ℕ → SelState

@@ -40,7 +40,8 @@ use Rattle.frame_lower.proofs.Globals.{globals_off}
 use Rattle.frame_lower.proofs.OwnMemory.{one_more, contains_made}
 use Rattle.frame_lower.proofs.PlainStep.{stack_same}
 use Rattle.frame_lower.proofs.Sixteen.{words_of, words_again}
-use Rattle.frame_lower.proofs.Stage.{most_steps, state_of, flat_in, globals, last, function_is, Whole, Stage, A, B}
+use Rattle.frame_lower.specs.Meaning.{most_steps}
+use Rattle.frame_lower.proofs.Stage.{state_of, flat_in, globals, last, function_is, Whole, Stage, A, B}
 
 -- the words of the two arguments of the first function, where it has parameters
 record Given (params : List ℕ) (w : Words) : Type 0 where

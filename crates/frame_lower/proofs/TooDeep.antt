@@ -36,7 +36,8 @@ use Rattle.frame_lower.proofs.Entered.{planned}
 use Rattle.frame_lower.proofs.Facts.{function_shaped}
 use Rattle.frame_lower.proofs.Front.{stands0}
 use Rattle.frame_lower.proofs.PlainStep.{Turned}
-use Rattle.frame_lower.proofs.Stage.{most_steps, state_of, flat_in, globals, last, Whole, Stage, A, B}
+use Rattle.frame_lower.specs.Meaning.{most_steps}
+use Rattle.frame_lower.proofs.Stage.{state_of, flat_in, globals, last, Whole, Stage, A, B}
 
 module _ (o : Object) (sel : Sel) (plan : Plan) (contents : List Content) (by : ℕ → Making) (live : ℕ → ℕ → ℕ → ℕ → Type 0) (suits : Suits o sel plan contents by live) (input : List ℕ) where
   abbrev Tells : SelFrame → ℕ → List SelFrame → (ℕ → Type 0) → Bytes → Words → List Segment → Type 0
