@@ -184,4 +184,4 @@ module _ (o : Object) (sel : Sel) (plan : Plan) (contents : List Content) (by : 
     trap_step is =
         let stops : exec (Ud2 ∷ []) (core_of w fl ss) ≡ Stopped ending.Invalid = ap (λ r. and_on r (exec [])) (ud2 (core_of w fl ss)) in
         stops_at o sel plan contents by live suits input f callers bytes printed taken depth w fl ss off b is_function is_block stands whole (Ud2 ∷ []) [] stop.Trap ending.Invalid (end_here end.Trap is) stops (omega arith)
-            (omega arith) refl refl
+        (omega arith) refl refl

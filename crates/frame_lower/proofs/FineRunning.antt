@@ -28,7 +28,7 @@ use Rattle.frame_rows.specs.Words.{Words, core_of}
 use Rattle.frame_lower.specs.Chain.{function_in, code_in, rest_in}
 use Rattle.frame_lower.specs.Rows.{Making}
 use Rattle.frame_lower.specs.Suits.{Suits}
-use Rattle.frame_lower.proofs.ByteMemory.{HoldBytes, IsFine, steps_fine, met_fine, start_bytes}
+use Rattle.frame_lower.proofs.ByteMemory.{IsFine, steps_fine, met_fine, start_bytes}
 use Rattle.frame_lower.proofs.EndStep.{end_step}
 use Rattle.frame_lower.proofs.OpStep.{op_step}
 use Rattle.frame_lower.proofs.OutsideStep.{outside_step}

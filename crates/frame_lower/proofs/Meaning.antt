@@ -1,11 +1,10 @@
 -- An object that is put together of a program's functions, with a word of the frame for each register, means what the program means.
-use Rattle.std.proofs.Common.{◌≡◌, ℕ, ◌+◌, ◌<◌, ◌≤◌, List, [], ◌∷◌, length}
+use Rattle.std.proofs.Common.{ℕ, ◌+◌, ◌≤◌, List, [], ◌∷◌, length}
 use Rattle.behavior.specs.Moment.{AreBytes}
 use Rattle.behavior.specs.Preserves.{Preserves, ReachesWithin}
 use Rattle.ir_core.specs.declared.TheConstants.{MAX_CALLS}
-use Rattle.x86_core.specs.Data.{stack_end}
 use Rattle.low_core.specs.declared.sel.Sel.{Sel}
-use Rattle.low_core.specs.Plan.{Content, PlanFits, global_spans, first_bytes}
+use Rattle.low_core.specs.Plan.{Content, PlanFits}
 use Rattle.low_core.specs.SelRun.{sel_run}
 use Rattle.obj_core.specs.declared.object.Func.{Func}
 use Rattle.obj_core.specs.declared.object.Object.{Object}
@@ -14,8 +13,6 @@ use Rattle.obj_core.specs.SymbolicMachine.{symbolic_behavior}
 use Rattle.obj_core.specs.WellFormed.{most_data}
 use Rattle.obj_rows.specs.Assembled.{IsAssembled}
 use Rattle.obj_rows.specs.Routines.{AreRoutines}
-use Rattle.obj_rows.specs.Standing.{first_core}
-use Rattle.frame_rows.specs.Ties.{Contains}
 use Rattle.frame_lower.specs.Functions.{Choices, lowered}
 use Rattle.frame_lower.specs.Given.{AreChosen}
 use Rattle.frame_lower.specs.Meaning.{IsHeld, most_steps}

@@ -1,5 +1,5 @@
 -- The run of a program of registers and that of its object, side by side.
-use Rattle.std.proofs.Common.{◌≡◌, ℕ, zero, suc, ◌+◌, ◌^◌, List, [], ◌∷◌, length, drop, Option, Some, ◌∙◌, ap}
+use Rattle.std.proofs.Common.{◌≡◌, ℕ, zero, suc, ◌+◌, List, [], ◌∷◌, length, drop, Option, Some, ◌∙◌, ap}
 use Rattle.std.specs.Prelude.{get_or, slice_get}
 use Rattle.behavior.specs.Ending.{Going}
 use Rattle.behavior.specs.System.{System}
@@ -119,7 +119,7 @@ module _ (o : Object) (sel : Sel) (plan : Plan) (contents : List Content) (by : 
       let s = state_of f callers bytes printed taken in
       let flat = flat_in (f ∷ callers) bytes in
       ap (λ x. sel_turned s (and_then (found_or Malformed x) (λ (g : SelFun). and_then (found_or Malformed (slice_get g.blocks f.block)) (λ (c : SelBlock). sel_turn_at sel plan flat input s f callers c (slice_get c.ops f.next)))))
-          is_function ∙
+      is_function ∙
       ap (λ x. sel_turned s (and_then (found_or Malformed x) (λ (c : SelBlock). sel_turn_at sel plan flat input s f callers c (slice_get c.ops f.next)))) is_block ∙
       ap (λ x. sel_turned s (sel_turn_at sel plan flat input s f callers b x)) there
 
