@@ -1,20 +1,18 @@
 -- A step that calls a function outside of the program: the object's routine does the same.
-use Rattle.std.proofs.Common.{◌≡◌, ◌≢◌, ℕ, zero, suc, ◌+◌, ◌-◌, ◌*◌, ◌%◌, ◌^◌, ◌<◌, ◌≤◌, true, List, [], ◌∷◌, ◌++◌, length, drop, Option, Some, None, Ok, Err, replicate, refl, sym, ◌∙◌, ap, subst, inl, inr, ◌⊎◌, arith}
+use Rattle.std.proofs.Common.{◌≡◌, ℕ, zero, suc, ◌+◌, ◌-◌, ◌%◌, ◌^◌, ◌<◌, ◌≤◌, true, List, [], ◌∷◌, ◌++◌, length, drop, Option, Some, None, Ok, Err, replicate, refl, sym, ◌∙◌, ap, subst, inl, inr, ◌⊎◌, arith}
 use Rattle.std.specs.Prelude.{slice_get}
 use Rattle.behavior.specs.Ending as ending
 use Rattle.behavior.specs.Moment.{IsLeft, AreBytes}
-use Rattle.behavior.specs.Simulation.{Comes}
 use Rattle.behavior.proofs.Stretch.{comes_join, comes_wider, met_by}
 use Rattle.ir_core.specs.declared.memory.Reason.{Reason}
 use Rattle.ir_core.specs.declared.memory.Reason.TheVariants.{Unset}
 use Rattle.ir_core.specs.Stops.{Left, Ended, Answer, and_then}
 use Rattle.ir_core.specs.Stops as stop
-use Rattle.ir_core.specs.State.{Nothing, Print, Take}
+use Rattle.ir_core.specs.State.{Print}
 use Rattle.x86_core.specs.declared.flags.Flags.{Flags}
 use Rattle.x86_core.specs.declared.image.Segment.{Segment}
 use Rattle.x86_core.specs.declared.instr.Instr.TheVariants.{Ud2}
 use Rattle.x86_core.specs.Memory.{writes}
-use Rattle.x86_core.specs.Step.{State}
 use Rattle.x86_rows.specs.Addresses.{range_at}
 use Rattle.x86_rows.specs.Straight.{Core, and_on, exec}
 use Rattle.x86_rows.proofs.Covers.{range_length}
@@ -30,24 +28,23 @@ use Rattle.low_core.specs.Plan.{Plan, Content}
 use Rattle.low_core.specs.SelShaped.{arity, HasResult}
 use Rattle.low_core.specs.SelState.{SelFrame, SelState, SelTurn, sel_moment, sel_turned, words_in}
 use Rattle.low_core.specs.SelStep.{gives_word, puts_bytes, takes_byte, outside_turn, op_turn}
-use Rattle.slot_plan.specs.Slots.{routine_place}
 use Rattle.obj_core.specs.declared.object.Object.{Object}
 use Rattle.obj_core.specs.declared.object.Place.{Place}
 use Rattle.obj_core.specs.SymbolicMachine.{symbolic_step}
 use Rattle.obj_rows.specs.Marked.{row_size, unlinked, Stands}
-use Rattle.obj_rows.specs.Routines.{IsCalled, ComesBack, IsLent, MayCopy, few_steps, range_steps, taking, taken_word}
+use Rattle.obj_rows.specs.Routines.{IsCalled, IsLent, MayCopy, few_steps, range_steps, taking, taken_word}
 use Rattle.obj_rows.specs.Standing.{standing}
 use Rattle.obj_rows.specs.Standing as world
 use Rattle.frame_rows.specs.Words.{Words, core_of}
-use Rattle.frame_lower.specs.Chain.{function_in, slot_behind, code_in, rest_in}
+use Rattle.frame_lower.specs.Chain.{function_in, code_in, rest_in}
 use Rattle.frame_lower.specs.Rows.{Making}
 use Rattle.frame_lower.specs.Suits.{Suits}
-use Rattle.frame_lower.proofs.Arguments.{Told, HaveWords, words_cases, have_long, have_small}
+use Rattle.frame_lower.proofs.Arguments.{HaveWords, words_cases, have_long, have_small}
 use Rattle.frame_lower.proofs.ByteMemory.{HoldBytes}
 use Rattle.frame_lower.proofs.Copying.{Copies, LeavesMeaning, copy_cases, fill_cases, fill_changes}
 use Rattle.frame_lower.proofs.Facts.{op_shaped}
 use Rattle.frame_lower.proofs.OutsideBack.{Changed, unchanged}
-use Rattle.frame_lower.proofs.OutsideCall.{IsRoutine, shaped, routine_called}
+use Rattle.frame_lower.proofs.OutsideCall.{routine_called}
 use Rattle.frame_lower.proofs.OutsideLent.{none_changed, lent_writes, may_copy, copied_changes}
 use Rattle.frame_lower.proofs.OutsideMet.{Called, is_called, routine_met}
 use Rattle.frame_lower.proofs.OutsideMet as met
@@ -109,8 +106,10 @@ module _ (o : Object) (sel : Sel) (plan : Plan) (contents : List Content) (by : 
         let c = routine_called o sel plan contents by live suits input f callers bytes printed taken depth w fl ss off b is_function is_block stands whole Putchar into args there tt (n ∷ []) have in
         let back = suits.routines.putchar (core_ h into (n ∷ []) c) out (Place.Slot c.slot 5) (called_is h into (n ∷ []) c) in
         let is = c.held.0 in
-        inr (routine_met o sel plan contents by live suits input f callers bytes printed taken depth w fl ss off b is_function is_block h into (n ∷ []) c (Outside Putchar into args) there refl bytes (printed ++ (n % 256) ∷ []) taken _
-        (ap (λ m. let r : world.Outside = record { left = drop taken input; printed = printed ++ (m % 256) ∷ []; taken = taken } in r) is) 0 [] (unchanged spans bytes) few_steps (omega arith) _ back (n % 256) (λ r e. (back.answers ∙ ap (λ m. m % 256) is, omega arith)))
+        inr (routine_met o sel plan contents by live suits input f callers bytes printed taken depth w fl ss off b is_function is_block h into (n ∷ []) c (Outside Putchar into args) there refl
+        bytes (printed ++ (n % 256) ∷ []) taken _
+        (ap (λ m. let r : world.Outside = record { left = drop taken input; printed = printed ++ (m % 256) ∷ []; taken = taken } in r) is)
+        0 [] (unchanged spans bytes) few_steps (omega arith) _ back (n % 256) (λ r e. (back.answers ∙ ap (λ m. m % 256) is, omega arith)))
 
     -- a byte is taken, or there is none
     takes : (into : Option ℕ) (args : List ℕ) → slice_get b.ops f.next ≡ Some (Outside Getchar into args) → HaveWords f.registers args [] → (q : Option ℕ) → slice_get input taken ≡ q → Turned_ (takes_byte s f callers into q)
@@ -139,7 +138,8 @@ module _ (o : Object) (sel : Sel) (plan : Plan) (contents : List Content) (by : 
         let t0 = standing out (Place.Code f.function off) (core_of w fl ss) in
         let t1 = standing out (Place.Code h 0) (core_ h into (n ∷ []) c) in
         let same : ending.Ended (c.words.rdi % 256) ≡ ending.Ended (n % 256) = ap (λ m. ending.Ended (m % 256)) c.held.0 in
-        inr (met_by (A o sel plan contents by live suits input) (B o sel plan contents by live suits input) (Stage o sel plan contents by live suits input) (λ _. 0) most_steps s (record s { ending = ending.Ended (n % 256) }) t0 ends.state
+        inr (met_by (A o sel plan contents by live suits input) (B o sel plan contents by live suits input) (Stage o sel plan contents by live suits input) (λ _. 0) most_steps
+        s (record s { ending = ending.Ended (n % 256) }) t0 ends.state
         (comes_wider (symbolic_step o) (1 + 1) (200 + few_steps) 1 most_steps t0 ends.state (omega arith) (omega arith) (comes_join (symbolic_step o) 1 200 1 few_steps t0 t1 ends.state c.comes ends.comes))
         (inr (refl, record {
           printed = ap (λ m. m.printed) (sym ends.shown_there);
@@ -150,7 +150,8 @@ module _ (o : Object) (sel : Sel) (plan : Plan) (contents : List Content) (by : 
     -- a trap
     traps : (into : Option ℕ) (args : List ℕ) → slice_get b.ops f.next ≡ Some (Outside outer.Trap into args) → Turned_ (Err stop.Trap)
     traps into args there =
-        stops_at o sel plan contents by live suits input f callers bytes printed taken depth w fl ss off b is_function is_block stands whole (Ud2 ∷ []) (rest_in sel by f.function (off + row_size (unlinked Ud2 ∷ [])) f.block (f.next + 1) b) stop.Trap ending.Invalid
+        stops_at o sel plan contents by live suits input f callers bytes printed taken depth w fl ss off b is_function is_block stands whole
+        (Ud2 ∷ []) (rest_in sel by f.function (off + row_size (unlinked Ud2 ∷ [])) f.block (f.next + 1) b) stop.Trap ending.Invalid
         (op_stands sel by f.function f.block f.next b (code_in sel by f.function) off stands (Outside outer.Trap into args) there) (ap (λ r. and_on r (exec [])) (ud2 (core_of w fl ss))) (omega arith) (omega arith) refl refl
 
     -- bytes are copied
@@ -171,14 +172,19 @@ module _ (o : Object) (sel : Sel) (plan : Plan) (contents : List Content) (by : 
             let rdx : n ≡ c.words.rdx = sym held.1.1.0 in
             let few : c.words.rdx < 2 ^ 64 = subst (λ m. m < 2 ^ 64) rdx small in
             let may2 : 1 ≤ c.words.rdx → MayCopy (core_ (length sel.functions + 4) None (to ∷ from ∷ n ∷ []) c) c.words.rdi c.words.rsi c.words.rdx =
-                subst (λ m. 1 ≤ m → MayCopy (core_ (length sel.functions + 4) None (to ∷ from ∷ n ∷ []) c) c.words.rdi c.words.rsi m) rdx (subst (λ q. 1 ≤ n → MayCopy (core_ (length sel.functions + 4) None (to ∷ from ∷ n ∷ []) c) c.words.rdi q n) rsi (subst (λ p. 1 ≤ n → MayCopy (core_ (length sel.functions + 4) None (to ∷ from ∷ n ∷ []) c) p from n) rdi may)) in
+                subst (λ m. 1 ≤ m → MayCopy (core_ (length sel.functions + 4) None (to ∷ from ∷ n ∷ []) c) c.words.rdi c.words.rsi m) rdx
+                (subst (λ q. 1 ≤ n → MayCopy (core_ (length sel.functions + 4) None (to ∷ from ∷ n ∷ []) c) c.words.rdi q n) rsi
+                (subst (λ p. 1 ≤ n → MayCopy (core_ (length sel.functions + 4) None (to ∷ from ∷ n ∷ []) c) p from n) rdi may)) in
             let changed2 : Changed spans bytes bytes2 c.words.rdi (range_at c.segments c.words.rsi c.words.rdx) =
-                subst (λ m. Changed spans bytes bytes2 c.words.rdi (range_at c.segments c.words.rsi m)) rdx (subst (λ q. Changed spans bytes bytes2 c.words.rdi (range_at c.segments q n)) rsi (subst (λ p. Changed spans bytes bytes2 p (range_at c.segments from n)) rdi changed)) in
+                subst (λ m. Changed spans bytes bytes2 c.words.rdi (range_at c.segments c.words.rsi m)) rdx
+                (subst (λ q. Changed spans bytes bytes2 c.words.rdi (range_at c.segments q n)) rsi (subst (λ p. Changed spans bytes bytes2 p (range_at c.segments from n)) rdi changed)) in
             let back = suits.routines.memcpy (core_ (length sel.functions + 4) None (to ∷ from ∷ n ∷ []) c) out (Place.Slot c.slot 5) (called_is (length sel.functions + 4) None (to ∷ from ∷ n ∷ []) c) may2 in
-            inr (routine_met o sel plan contents by live suits input f callers bytes printed taken depth w fl ss off b is_function is_block (length sel.functions + 4) None (to ∷ from ∷ n ∷ []) c (Outside Memcpy None args) there refl bytes2 printed taken _ refl
+            inr (routine_met o sel plan contents by live suits input f callers bytes printed taken depth w fl ss off b is_function is_block (length sel.functions + 4) None (to ∷ from ∷ n ∷ []) c
+            (Outside Memcpy None args) there refl bytes2 printed taken _ refl
             c.words.rdi _ changed2 (range_steps c.words.rdx) (omega (arith, few)) _ back 0 (λ r e. absurd (cc)))
 
-        by_cases : ((n ≡ 0) × (copied flat to from n ≡ Ok bytes)) ⊎ (Copies spans to from n × (copied flat to from n ≡ Ok (with_bytes bytes to (bytes_from bytes from n)))) ⊎ LeavesMeaning (copied flat to from n) → Turned_ (puts_bytes f callers (copied flat to from n))
+        by_cases : ((n ≡ 0) × (copied flat to from n ≡ Ok bytes)) ⊎
+            (Copies spans to from n × (copied flat to from n ≡ Ok (with_bytes bytes to (bytes_from bytes from n)))) ⊎ LeavesMeaning (copied flat to from n) → Turned_ (puts_bytes f callers (copied flat to from n))
         by_cases (inl p) =
             let none = p.0 in
             let l = range_length c.segments from n in
@@ -206,14 +212,20 @@ module _ (o : Object) (sel : Sel) (plan : Plan) (contents : List Content) (by : 
             let rsi : m ≡ c.words.rsi = sym held.1.0 in
             let rdx : n ≡ c.words.rdx = sym held.1.1.0 in
             let few : c.words.rdx < 2 ^ 64 = subst (λ k. k < 2 ^ 64) rdx small in
-            let may2 : 1 ≤ c.words.rdx → IsLent writes (core_ (length sel.functions + 5) None (to ∷ m ∷ n ∷ []) c) c.words.rdi c.words.rdx = subst (λ k. 1 ≤ k → IsLent writes (core_ (length sel.functions + 5) None (to ∷ m ∷ n ∷ []) c) c.words.rdi k) rdx (subst (λ p. 1 ≤ n → IsLent writes (core_ (length sel.functions + 5) None (to ∷ m ∷ n ∷ []) c) p n) rdi may) in
+            let may2 : 1 ≤ c.words.rdx → IsLent writes (core_ (length sel.functions + 5) None (to ∷ m ∷ n ∷ []) c) c.words.rdi c.words.rdx =
+                subst (λ k. 1 ≤ k → IsLent writes (core_ (length sel.functions + 5) None (to ∷ m ∷ n ∷ []) c) c.words.rdi k) rdx
+                (subst (λ p. 1 ≤ n → IsLent writes (core_ (length sel.functions + 5) None (to ∷ m ∷ n ∷ []) c) p n) rdi may) in
             let changed2 : Changed spans bytes bytes2 c.words.rdi (replicate c.words.rdx (c.words.rsi % 256)) =
-                subst (λ k. Changed spans bytes bytes2 c.words.rdi (replicate k (c.words.rsi % 256))) rdx (subst (λ q. Changed spans bytes bytes2 c.words.rdi (replicate n (q % 256))) rsi (subst (λ p. Changed spans bytes bytes2 p (replicate n (m % 256))) rdi changed)) in
+                subst (λ k. Changed spans bytes bytes2 c.words.rdi (replicate k (c.words.rsi % 256))) rdx
+                (subst (λ q. Changed spans bytes bytes2 c.words.rdi (replicate n (q % 256))) rsi (subst (λ p. Changed spans bytes bytes2 p (replicate n (m % 256))) rdi changed)) in
             let back = suits.routines.memset (core_ (length sel.functions + 5) None (to ∷ m ∷ n ∷ []) c) out (Place.Slot c.slot 5) (called_is (length sel.functions + 5) None (to ∷ m ∷ n ∷ []) c) may2 in
-            inr (routine_met o sel plan contents by live suits input f callers bytes printed taken depth w fl ss off b is_function is_block (length sel.functions + 5) None (to ∷ m ∷ n ∷ []) c (Outside Memset None args) there refl bytes2 printed taken _ refl
+            inr (routine_met o sel plan contents by live suits input f callers bytes printed taken depth w fl ss off b is_function is_block (length sel.functions + 5) None (to ∷ m ∷ n ∷ []) c
+            (Outside Memset None args) there refl bytes2 printed taken _ refl
             c.words.rdi _ changed2 (range_steps c.words.rdx) (omega (arith, few)) _ back 0 (λ r e. absurd (cc)))
 
-        by_cases : ((n ≡ 0) × (filled flat to (m % 256) n ≡ Ok bytes)) ⊎ ((is_writable to n spans ≡ true) × (filled flat to (m % 256) n ≡ Ok (with_bytes bytes to (replicate n (Some (m % 256)))))) ⊎ LeavesMeaning (filled flat to (m % 256) n) → Turned_ (puts_bytes f callers (filled flat to (m % 256) n))
+        by_cases : ((n ≡ 0) × (filled flat to (m % 256) n ≡ Ok bytes)) ⊎
+            ((is_writable to n spans ≡ true) × (filled flat to (m % 256) n ≡ Ok (with_bytes bytes to (replicate n (Some (m % 256)))))) ⊎
+            LeavesMeaning (filled flat to (m % 256) n) → Turned_ (puts_bytes f callers (filled flat to (m % 256) n))
         by_cases (inl p) =
             let none = p.0 in
             subst (λ q. Turned_ (puts_bytes f callers q)) (sym p.1) (by_back bytes (λ some. absurd (omega (arith, none, some))) (none_changed spans bytes to (replicate n (m % 256)) (ap (λ k. length (replicate k (m % 256))) none)))
