@@ -36,13 +36,12 @@ use Rattle.obj_rows.specs.Marked.{all_unlinked, row_size, Stands}
 use Rattle.obj_rows.specs.Standing.{Outside, standing}
 use Rattle.obj_rows.proofs.Words.{back_lands, slot_below}
 use Rattle.frame_rows.specs.declared.spot.Spot.{Spot}
-use Rattle.frame_rows.specs.declared.spot.Spot.TheVariants.{Own, Frame}
 use Rattle.frame_rows.specs.Steps.{IsAllocated}
 use Rattle.frame_rows.specs.Ties.{IsHome, Keeps, Tied}
 use Rattle.frame_rows.specs.Words.{Words, core_of}
 use Rattle.frame_rows.proofs.Registers.{Same}
 use Rattle.frame_lower.specs.Calls.{argument_registers, take_row}
-use Rattle.frame_lower.specs.Chain.{upward, Saved, Stored, IsWay, HasRoom, function_in, code_in, rest_in, starts_in, pushes_of, spans_of, IsOff, Chain}
+use Rattle.frame_lower.specs.Chain.{Stored, IsWay, HasRoom, function_in, code_in, rest_in, starts_in, pushes_of, spans_of, IsOff, Chain}
 use Rattle.frame_lower.specs.Rows.{Making}
 use Rattle.frame_lower.specs.Suits.{Suits}
 use Rattle.frame_lower.proofs.Arguments.{AreSmall, AreHeld, StandAt, six_held, stand_same}
