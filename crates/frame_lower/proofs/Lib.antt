@@ -70,3 +70,6 @@ pub mod StartStep
 pub mod OpStep
 pub mod OutsideCall
 pub mod Spanned
+pub mod OutsideLent
+pub mod OutsideStep
+pub mod FineRunning
