@@ -1,11 +1,10 @@
--- A call, from the start of the function that is called: it begins, or one call too many is active.
+-- A call, from the start of the function that is called.
 use Rattle.std.proofs.Common.{◌≡◌, ℕ, zero, suc, ◌+◌, ◌-◌, ◌*◌, ◌<◌, ◌≤◌, true, false, nat_le, if◌then◌else◌, List, ◌∷◌, ◌++◌, length, drop, Option, Some, Ok, Err, refl, sym, ◌∙◌, ap, subst, inl, inr, ◌⊎◌, arith}
 use Rattle.std.specs.Prelude.{slice_get, get_or}
-use Rattle.std.proofs.lemmas.Bool.{le-leb, lt-leb, cases_lt}
+use Rattle.std.proofs.lemmas.Bool.{lt-leb, cases_lt}
 use Rattle.std.proofs.lemmas.Option.{slice_get-get_or}
-use Rattle.behavior.specs.Ending as ending
 use Rattle.behavior.specs.Simulation.{Comes}
-use Rattle.behavior.specs.System.{System, iter}
+use Rattle.behavior.specs.System.{System}
 use Rattle.behavior.proofs.Stretch.{comes_join, comes_wider, met_by}
 use Rattle.ir_core.specs.declared.TheConstants.{MAX_CALLS}
 use Rattle.ir_core.specs.State.{Nothing}
@@ -14,7 +13,7 @@ use Rattle.rd_num.specs.Number.{le_bytes}
 use Rattle.x86_core.specs.declared.flags.Flags.{Flags}
 use Rattle.x86_core.specs.declared.image.Segment.{Segment}
 use Rattle.x86_core.specs.Data.{stack_start, stack_end}
-use Rattle.x86_core.specs.Step.{State, moment_of}
+use Rattle.x86_core.specs.Step.{State}
 use Rattle.x86_rows.specs.Addresses.{byte_at, range_at, SameShape, Written}
 use Rattle.x86_rows.specs.Saving.{IsStack}
 use Rattle.x86_rows.specs.Straight.{Core}
@@ -25,7 +24,7 @@ use Rattle.low_core.specs.declared.sel.SelFun.{SelFun}
 use Rattle.low_core.specs.declared.sel.SelOp.{SelOp}
 use Rattle.low_core.specs.declared.sel.Sel.{Sel}
 use Rattle.low_core.specs.Flat.{Span, Bytes, is_inside, forgotten}
-use Rattle.low_core.specs.Plan.{FramePlan, Plan, Content}
+use Rattle.low_core.specs.Plan.{Plan, Content}
 use Rattle.low_core.specs.SelParts.{assigns_of}
 use Rattle.low_core.specs.SelState.{SelFrame, SelState, SelTurn, sel_turned, first_sel_frame}
 use Rattle.low_core.specs.SelStep as sel_step
@@ -34,30 +33,27 @@ use Rattle.obj_core.specs.declared.object.Place.{Place}
 use Rattle.obj_core.specs.Slots.{slot_start}
 use Rattle.obj_core.specs.SymbolicMachine.{symbolic_step}
 use Rattle.obj_rows.specs.Marked.{all_unlinked, row_size, Stands}
-use Rattle.obj_rows.specs.Standing.{Outside, standing, shown}
-use Rattle.obj_rows.proofs.Rows.{stands_first}
-use Rattle.obj_rows.proofs.Runs.{row_stops}
+use Rattle.obj_rows.specs.Standing.{Outside, standing}
 use Rattle.obj_rows.proofs.Words.{back_lands, slot_below}
 use Rattle.frame_rows.specs.declared.spot.Spot.{Spot}
-use Rattle.frame_rows.specs.declared.spot.Spot.TheVariants.{Own, Frame}
 use Rattle.frame_rows.specs.Steps.{IsAllocated}
 use Rattle.frame_rows.specs.Ties.{IsHome, Keeps, Tied}
 use Rattle.frame_rows.specs.Words.{Words, core_of}
 use Rattle.frame_rows.proofs.Registers.{Same}
 use Rattle.frame_lower.specs.Calls.{argument_registers, take_row}
-use Rattle.frame_lower.specs.Chain.{upward, Saved, Stored, IsWay, HasRoom, function_in, code_in, rest_in, starts_in, pushes_of, spans_of, IsOff, Chain}
-use Rattle.frame_lower.specs.Frames.{kept_bytes}
-use Rattle.frame_lower.specs.Rows.{Making, count_row}
+use Rattle.frame_lower.specs.Chain.{Stored, IsWay, HasRoom, function_in, code_in, rest_in, starts_in, pushes_of, spans_of, IsOff, Chain}
+use Rattle.frame_lower.specs.Rows.{Making}
 use Rattle.frame_lower.specs.Suits.{Suits}
 use Rattle.frame_lower.proofs.Arguments.{AreSmall, AreHeld, StandAt, six_held, stand_same}
 use Rattle.frame_lower.proofs.Bodies.{block_stands}
 use Rattle.frame_lower.proofs.Chains.{chain_same, chain_moved, chain_high, reserved_low, moved_to}
-use Rattle.frame_lower.proofs.Counting.{counts_out}
+use Rattle.frame_lower.proofs.Entered.{planned}
 use Rattle.frame_lower.proofs.Facts.{function_shaped, frame_few}
-use Rattle.frame_lower.proofs.Front.{Begins, begins, stands0, rest, blocks}
-use Rattle.frame_lower.proofs.OwnMemory.{one_more, contains_made}
+use Rattle.frame_lower.proofs.Front.{Begins, begins}
+use Rattle.frame_lower.proofs.OwnMemory.{contains_made}
 use Rattle.frame_lower.proofs.PlainStep.{stack_same, Turned}
-use Rattle.frame_lower.proofs.Returning.{home_rsp}
+use Rattle.frame_lower.proofs.TooDeep.{too_deep}
+use Rattle.frame_lower.proofs.Waiting.{stored_of, beside_new}
 use Rattle.frame_lower.proofs.Stage.{most_steps, state_of, flat_in, globals, last, Whole, Stage, A, B}
 
 module _ (o : Object) (sel : Sel) (plan : Plan) (contents : List Content) (by : ℕ → Making) (live : ℕ → ℕ → ℕ → ℕ → Type 0) (suits : Suits o sel plan contents by live) (input : List ℕ) where
@@ -117,12 +113,9 @@ module _ (o : Object) (sel : Sel) (plan : Plan) (contents : List Content) (by : 
     abbrev callee : SelFun
     callee = function_in sel g
 
-    -- the frame that begins, as it is planned
-    abbrev pub planned : FramePlan
-    planned = record { bytes = y.room + kept_bytes; allocas = 8 * y.words }
-
+    -- the frame that begins
     abbrev pub new : SelFrame
-    new = first_sel_frame g callee planned f.base ns into
+    new = first_sel_frame g callee (planned o sel plan contents by live suits g) f.base ns into
 
     abbrev pub turn : Answer SelTurn
     turn = sel_step.begins s f callers new
@@ -143,28 +136,6 @@ module _ (o : Object) (sel : Sel) (plan : Plan) (contents : List Content) (by : 
     first_block =
         let some = (function_shaped o sel plan contents by live suits g callee is_callee).some_block in
         (get_or callee.blocks 0 b, slice_get-get_or callee.blocks 0 b some)
-
-    -- no call more
-    pub too_deep : depth ≡ 0 → Turned_ turn
-    too_deep e =
-        let active = whole.active in
-        let full : nat_le MAX_CALLS (suc (length callers)) ≡ true = le-leb MAX_CALLS (suc (length callers)) (omega (arith, active, e)) in
-        let fewer : w2.r15 ≡ 0 = same.r15 ∙ whole.counter ∙ e in
-        let c = counts_out w2 fl1 ss2 fewer in
-        let code = code_in sel by g in
-        let part = all_unlinked count_row in
-        let others = all_unlinked (rest o sel plan contents by live suits g 0 0 out ns (live g 0 0) (flat_in o sel plan contents by live suits input (f ∷ callers) bytes) w fl ss first_block.0 is_callee first_block.1) ++ blocks o sel
-            plan contents by live suits g 0 0 out ns (live g 0 0) (flat_in o sel plan contents by live suits input (f ∷ callers) bytes) w fl ss first_block.0 is_callee first_block.1 in
-        let u = iter step 3 t1 in
-        let m : moment_of u ≡ shown out ending.Breakpoint =
-            row_stops o g code (suits.codes g callee is_callee) out part 0 (core_of w2 fl1 ss2) ending.Breakpoint
-            (stands_first code 0 part others (stands0 o sel plan contents by live suits g 0 0 out ns (live g 0 0) (flat_in o sel plan contents by live suits input (f ∷ callers) bytes) w fl ss first_block.0 is_callee first_block.1))
-                c.stops in
-        let stop : Comes step 3 3 t1 u = record { count = 3; low = omega arith; high = omega arith; arrives = refl } in
-        subst (λ q. Turned_ (if q then Err Depth else Ok (record { frames = new ∷ sel_step.past_op f ∷ callers; bytes = forgotten bytes new.own.start new.own.size; exchange = Nothing }))) (sym full)
-        (inr (met_by A_ B_ Stage_ (λ _. 0) most_steps s (sel_turned s (Err Depth)) t0 u
-        (comes_wider step (1 + 3) (200 + 3) 1 most_steps t0 u (omega arith) (omega arith) (comes_join step 1 200 3 3 t0 t1 u comes stop))
-        (inr (refl, record { printed = ap (λ q. q.printed) (sym m); taken = ap (λ q. q.taken) (sym m); ending = ap (λ q. ending.common q.ending) (sym m) }))))
 
     -- one call more
     module _ (d : ℕ) (deep : depth ≡ suc d) where
@@ -254,11 +225,9 @@ module _ (o : Object) (sel : Sel) (plan : Plan) (contents : List Content) (by : 
 
       -- the words of the function that waits
       stored : (h : Spot) (n : ℕ) → IsHome x.words h → Keeps w1 ss1 h n → Stored ts y.order (pushes_of o sel by globals_ live last_ new) (pushes_of o sel by globals_ live last_ new + 48) h n
-      stored (Own r) n is keeps = subst (λ m. Saved ts (upward y.order) (lower + y.room) r m) (home_rsp w1 (f.base - 8) r is ∙ keeps) (beginning.saved r is)
-      stored (Frame j) n is keeps =
+      stored =
           let e = base_is in
-          let at : w1.rsp + 8 * j ≡ lower + y.room + 48 + 8 * j = let a = tied1.at_base in omega (arith, a, e) in
-          range_same ts ss1 8 (lower + y.room + 48 + 8 * j) (λ q from to. beginning.outside q (inr (omega (arith, from))) ∙ pushed.outside q (inr (omega (arith, from, e)))) ∙ ap (λ a. range_at ss1 a 8) (sym at) ∙ keeps
+          stored_of x.words y.order (lower + y.room) (f.base - 8) w1 ss1 ts (tied1.at_base ∙ e) beginning.saved (λ q le. beginning.outside q (inr (omega (arith, le))) ∙ pushed.outside q (inr (omega (arith, le, e))))
 
       waits : Chain o sel by globals_ live last_ ts new d (z ∷ callers)
       waits =
@@ -292,23 +261,10 @@ module _ (o : Object) (sel : Sel) (plan : Plan) (contents : List Content) (by : 
           )
 
       off2 : IsOff o sel by globals_ live last_ new (z ∷ callers)
-      off2 p i =
-          let e = base_is in
+      off2 =
           let r = room2 in
           let rs = rooms in
-          elim (one_more (lower + 8 * y.words) callee.frame (spans_of o sel by globals_ live last_ (f ∷ callers)) p 1 i) [
-            | inl c ↦
-                let lo = c.low in
-                let hi = c.high in
-                (λ l m. absurd (omega (arith, lo, m)), λ u. let low = reserved_low o sel by globals_ live last_ (z ∷ callers) ts new d p waits u in absurd (omega (arith, hi, low, rs)))
-            | inr j ↦ (
-              λ l m. (whole.off p j).0 l (omega (arith, m, e, rs)),
-              λ u. elim u [
-                | inl v ↦ let v0 = v.0 in let v1 = v.1 in (whole.off p j).0 (omega (arith, v0, r)) (omega (arith, v1, e))
-                | inr v ↦ (whole.off p j).1 v
-              ],
-            )
-          ]
+          beside_new o sel by globals_ live last_ new f callers f.block (f.next + 1) callee.frame f.registers refl (omega (arith, rs)) base_is (omega (arith, r)) (λ q u. reserved_low o sel by globals_ live last_ (z ∷ callers) ts new d q waits u) whole.off
 
       whole2 : Tells new d (z ∷ callers) (live g 0 0) bytes2 beginning.words ts
       whole2 =
@@ -358,5 +314,5 @@ module _ (o : Object) (sel : Sel) (plan : Plan) (contents : List Content) (by : 
     called = by_depth depth refl
       where
         by_depth : (m : ℕ) → depth ≡ m → Turned_ turn
-        by_depth zero e = too_deep e
+        by_depth zero e = too_deep o sel plan contents by live suits input f callers bytes printed taken depth w fl ss off b is_function is_block stands whole into g is_callee ns w2 fl1 ss2 same.r15 comes e
         by_depth (suc d) e = begun d e

@@ -58,6 +58,8 @@ pub mod RetStep
 pub mod LastStep
 pub mod EndStep
 pub mod Front
+pub mod TooDeep
+pub mod Waiting
 pub mod Calling
 pub mod Jumping
 pub mod Entered
