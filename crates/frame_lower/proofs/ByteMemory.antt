@@ -1,10 +1,10 @@
 -- Memory and input that hold bytes hold bytes after each step of a machine.
-use Rattle.std.proofs.Common.{◌≡◌, ℕ, zero, suc, ◌+◌, ◌-◌, ◌/◌, ◌<◌, Bool, true, false, ◌&&◌, if◌then◌else◌, List, [], ◌∷◌, ◌++◌, length, get_or, take, drop, Option, Some, None, replicate, inl, inr, lit≤, arith}
+use Rattle.std.proofs.Common.{ℕ, zero, suc, ◌+◌, ◌-◌, ◌/◌, ◌<◌, Bool, true, false, ◌&&◌, if◌then◌else◌, List, [], ◌∷◌, ◌++◌, length, get_or, take, drop, Option, Some, None, replicate, inl, inr, lit≤, arith}
 use Rattle.rd_num.specs.Number.{le_bytes, le_number}
 use Rattle.behavior.specs.Ending.{Ending, Going}
 use Rattle.behavior.specs.Moment.{AreBytes}
 use Rattle.behavior.specs.System.{System, iter}
-use Rattle.behavior.specs.Simulation.{Lands, Met}
+use Rattle.behavior.specs.Simulation.{Met}
 use Rattle.x86_core.specs.declared.flags.Flags.{Flags}
 use Rattle.x86_core.specs.declared.image.Segment.{Segment}
 use Rattle.x86_core.specs.declared.effect.Access.{Access}

@@ -1,5 +1,5 @@
 -- What copying and filling do to the flat memory.
-use Rattle.std.proofs.Common.{◌≡◌, ◌≢◌, ℕ, zero, suc, ◌+◌, ◌-◌, ◌*◌, ◌<◌, ◌≤◌, Bool, true, false, ◌&&◌, nat_eq, nat_lt, if◌then◌else◌, List, [], ◌∷◌, length, get_or, replicate, Option, Some, None, Ok, Err, refl, sym, ◌∙◌, ap, subst, inl, inr, ◌⊎◌, arith}
+use Rattle.std.proofs.Common.{◌≡◌, ℕ, zero, suc, ◌+◌, ◌<◌, ◌≤◌, true, false, ◌&&◌, nat_eq, nat_lt, if◌then◌else◌, List, [], ◌∷◌, length, get_or, replicate, Option, Some, None, Ok, Err, refl, sym, ◌∙◌, ap, subst, inl, inr, ◌⊎◌, arith}
 use Rattle.std.specs.Prelude.{not}
 use Rattle.std.proofs.lemmas.Bool.{cases_Bool, cases_eq, cases_lt, eq-eqb, ne_eqb, lt-ltb, and_from, both_ways}
 use Rattle.ir_core.specs.declared.memory.Reason.{Reason}
@@ -8,7 +8,7 @@ use Rattle.ir_core.specs.Stops.{Left, Answer}
 use Rattle.x86_core.specs.declared.image.Segment.{Segment}
 use Rattle.x86_rows.specs.Addresses.{byte_at, range_at}
 use Rattle.x86_rows.proofs.Covers.{chosen, passed_over, range_length}
-use Rattle.low_core.specs.Flat.{Span, Bytes, Flat, is_inside, is_writable, with_byte, with_bytes, bytes_from, ranges_overlap, copied, filled, if_inside, if_writable}
+use Rattle.low_core.specs.Flat.{Span, Bytes, Flat, is_inside, is_writable, with_byte, with_bytes, bytes_from, ranges_overlap, copied, filled}
 use Rattle.frame_rows.specs.Ties.{Contains}
 use Rattle.frame_rows.proofs.Accesses.{inside_part, writable_inside}
 use Rattle.frame_lower.proofs.OutsideBack.{Changed, range_byte}

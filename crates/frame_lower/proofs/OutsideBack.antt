@@ -9,7 +9,6 @@ use Rattle.x86_core.specs.declared.reg.Reg.TheVariants.{Rbx, Rbp, R12, R13, R14,
 use Rattle.x86_core.specs.Data.{stack_start, stack_end}
 use Rattle.x86_core.specs.Memory.{reads, writes}
 use Rattle.x86_rows.specs.Addresses.{byte_at, range_at, SameShape}
-use Rattle.x86_rows.specs.Straight.{Core}
 use Rattle.x86_rows.proofs.Covers.{range_same}
 use Rattle.x86_rows.proofs.Saving.{stack_same}
 use Rattle.x86_rows.proofs.Shapes.{one_same, shape_trans}
@@ -24,7 +23,7 @@ use Rattle.obj_rows.specs.Routines.{ComesBack}
 use Rattle.obj_rows.specs.Standing.{Outside}
 use Rattle.frame_rows.specs.declared.spot.Spot.{Spot}
 use Rattle.frame_rows.specs.declared.spot.Spot.TheVariants.{Own, Frame}
-use Rattle.frame_rows.specs.Ties.{IsHome, Keeps, Contains}
+use Rattle.frame_rows.specs.Ties.{IsHome, Keeps}
 use Rattle.frame_rows.specs.Words.{Words, core_of}
 use Rattle.frame_rows.proofs.Registers.{Same, home_same}
 use Rattle.frame_rows.proofs.Homes.{room_same}

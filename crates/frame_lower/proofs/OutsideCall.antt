@@ -1,17 +1,15 @@
 -- The way to a routine from outside: its arguments in registers, by its slot to its start.
-use Rattle.std.proofs.Common.{◌≡◌, ℕ, ◌+◌, ◌-◌, ◌*◌, ◌^◌, ◌<◌, ◌≤◌, List, [], ◌∷◌, ◌++◌, length, drop, take, Option, Some, refl, sym, ◌∙◌, ap, inl, inr, ◌⊎◌, arith, lit≤}
+use Rattle.std.proofs.Common.{◌≡◌, ℕ, ◌+◌, ◌-◌, ◌<◌, ◌≤◌, List, [], ◌∷◌, length, drop, Option, Some, refl, ◌∙◌, ap, inl, inr, arith, lit≤}
 use Rattle.std.specs.Prelude.{negsuc, slice_get}
 use Rattle.std.proofs.lemmas.Bool.{cases_lt}
 use Rattle.std.proofs.lemmas.List.{length-drop}
-use Rattle.behavior.specs.Simulation.{Comes}
 use Rattle.behavior.proofs.Stretch.{comes_one, comes_join, comes_wider}
 use Rattle.rd_num.specs.Number.{le_bytes}
 use Rattle.x86_core.specs.declared.flags.Flags.{Flags}
 use Rattle.x86_core.specs.declared.image.Segment.{Segment}
 use Rattle.x86_core.specs.Arithmetic.{moved}
 use Rattle.x86_core.specs.Data.{stack_start, stack_end}
-use Rattle.x86_core.specs.Step.{State}
-use Rattle.x86_rows.specs.Addresses.{byte_at, Written}
+use Rattle.x86_rows.specs.Addresses.{Written}
 use Rattle.x86_rows.proofs.Writing.{write_range}
 use Rattle.low_core.specs.declared.sel.Which.{Which}
 use Rattle.low_core.specs.declared.sel.Which.TheVariants.{Putchar, Getchar, Exit, Memcpy, Memset}
@@ -33,7 +31,6 @@ use Rattle.obj_rows.specs.Marked.{Stands}
 use Rattle.obj_rows.specs.Standing.{standing}
 use Rattle.obj_rows.proofs.Slots.{call_goes, call_returns}
 use Rattle.obj_rows.proofs.Words.{back_lands, slot_below, found_within}
-use Rattle.frame_rows.specs.declared.spot.Spot.{Spot}
 use Rattle.frame_rows.specs.Words.{Words, core_of}
 use Rattle.frame_lower.specs.Calls.{call_row}
 use Rattle.frame_lower.specs.Chain.{function_in, code_in, rest_in}

@@ -1,5 +1,5 @@
 -- What routines over ranges ask of memory is there: ranges of the flat memory may be used, and hold bytes.
-use Rattle.std.proofs.Common.{◌≡◌, ℕ, ◌+◌, ◌*◌, ◌^◌, ◌<◌, ◌≤◌, Bool, true, List, [], ◌∷◌, length, drop, Option, Some, sym, ◌∙◌, subst, inl, inr, ◌⊎◌, arith}
+use Rattle.std.proofs.Common.{◌≡◌, ℕ, ◌+◌, ◌<◌, ◌≤◌, Bool, true, List, length, Option, Some, sym, ◌∙◌, subst, inl, inr, ◌⊎◌, arith}
 use Rattle.std.specs.Prelude.{slice_get}
 use Rattle.std.proofs.lemmas.Bool.{cases_lt}
 use Rattle.x86_core.specs.declared.flags.Flags.{Flags}
@@ -17,7 +17,7 @@ use Rattle.low_core.specs.Plan.{Plan, Content}
 use Rattle.low_core.specs.SelState.{SelFrame}
 use Rattle.obj_core.specs.declared.object.Object.{Object}
 use Rattle.obj_rows.specs.Routines.{IsLent, MayCopy}
-use Rattle.frame_rows.specs.Words.{Words, core_of}
+use Rattle.frame_rows.specs.Words.{Words}
 use Rattle.frame_rows.proofs.Accesses.{writable_inside}
 use Rattle.frame_lower.specs.Chain.{function_in}
 use Rattle.frame_lower.specs.Rows.{Making}

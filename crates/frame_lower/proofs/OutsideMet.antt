@@ -1,5 +1,5 @@
 -- A call of a routine from outside is met by its steps: to the routine, through it, back, and its result home.
-use Rattle.std.proofs.Common.{◌≡◌, ◌≢◌, ℕ, ◌+◌, ◌*◌, ◌^◌, ◌<◌, ◌≤◌, List, [], ◌∷◌, ◌++◌, length, drop, take, Option, Some, refl, sym, ◌∙◌, ap, subst, inl, inr, ◌⊎◌, arith}
+use Rattle.std.proofs.Common.{◌≡◌, ℕ, ◌+◌, ◌^◌, ◌<◌, ◌≤◌, List, ◌∷◌, ◌++◌, length, drop, Option, Some, refl, sym, ◌∙◌, ap, inl, ◌⊎◌, arith}
 use Rattle.std.specs.Prelude.{slice_get}
 use Rattle.behavior.specs.System.{System}
 use Rattle.behavior.specs.Simulation.{Comes}
@@ -28,7 +28,7 @@ use Rattle.obj_rows.specs.Standing.{Outside, standing}
 use Rattle.obj_rows.proofs.Rows.{instrs_of-unlinked, length-unlinked, stands_first, stands_behind}
 use Rattle.obj_rows.proofs.Runs.{row_comes}
 use Rattle.frame_rows.specs.Steps.{Leads}
-use Rattle.frame_rows.specs.Words.{Words, in_order, core_of}
+use Rattle.frame_rows.specs.Words.{Words, core_of}
 use Rattle.frame_rows.proofs.Kept.{tied_fewer}
 use Rattle.frame_lower.specs.Calls.{argument_registers, take_row}
 use Rattle.frame_lower.specs.Chain.{IsWay, function_in, code_in, rest_in, spans_of}
@@ -40,7 +40,8 @@ use Rattle.frame_lower.proofs.Counts.{take_count}
 use Rattle.frame_lower.proofs.OutsideBack.{Changed, whole_back}
 use Rattle.frame_lower.proofs.PlainStep.{whole_op}
 use Rattle.frame_lower.proofs.Sixteen.{words_of, words_again}
-use Rattle.frame_lower.proofs.Stage.{most_steps, state_of, flat_in, globals, last, Whole, Stage, A, B, Meets_}
+use Rattle.frame_lower.specs.Meaning.{most_steps}
+use Rattle.frame_lower.proofs.Stage.{state_of, flat_in, globals, last, Whole, Stage, A, B, Meets_}
 use Rattle.frame_lower.proofs.Taking.{LiveBeside, takes}
 
 module _ (o : Object) (sel : Sel) (plan : Plan) (contents : List Content) (by : ℕ → Making) (live : ℕ → ℕ → ℕ → ℕ → Type 0) (suits : Suits o sel plan contents by live) (input : List ℕ) where

@@ -1,20 +1,18 @@
 -- A step that calls a function outside of the program: the object's routine does the same.
-use Rattle.std.proofs.Common.{◌≡◌, ◌≢◌, ℕ, zero, suc, ◌+◌, ◌-◌, ◌*◌, ◌%◌, ◌^◌, ◌<◌, ◌≤◌, true, List, [], ◌∷◌, ◌++◌, length, drop, Option, Some, None, Ok, Err, replicate, refl, sym, ◌∙◌, ap, subst, inl, inr, ◌⊎◌, arith}
+use Rattle.std.proofs.Common.{◌≡◌, ℕ, zero, suc, ◌+◌, ◌-◌, ◌%◌, ◌^◌, ◌<◌, ◌≤◌, true, List, [], ◌∷◌, ◌++◌, length, drop, Option, Some, None, Ok, Err, replicate, refl, sym, ◌∙◌, ap, subst, inl, inr, ◌⊎◌, arith}
 use Rattle.std.specs.Prelude.{slice_get}
 use Rattle.behavior.specs.Ending as ending
 use Rattle.behavior.specs.Moment.{IsLeft, AreBytes}
-use Rattle.behavior.specs.Simulation.{Comes}
 use Rattle.behavior.proofs.Stretch.{comes_join, comes_wider, met_by}
 use Rattle.ir_core.specs.declared.memory.Reason.{Reason}
 use Rattle.ir_core.specs.declared.memory.Reason.TheVariants.{Unset}
 use Rattle.ir_core.specs.Stops.{Left, Ended, Answer, and_then}
 use Rattle.ir_core.specs.Stops as stop
-use Rattle.ir_core.specs.State.{Nothing, Print, Take}
+use Rattle.ir_core.specs.State.{Print}
 use Rattle.x86_core.specs.declared.flags.Flags.{Flags}
 use Rattle.x86_core.specs.declared.image.Segment.{Segment}
 use Rattle.x86_core.specs.declared.instr.Instr.TheVariants.{Ud2}
 use Rattle.x86_core.specs.Memory.{writes}
-use Rattle.x86_core.specs.Step.{State}
 use Rattle.x86_rows.specs.Addresses.{range_at}
 use Rattle.x86_rows.specs.Straight.{Core, and_on, exec}
 use Rattle.x86_rows.proofs.Covers.{range_length}
@@ -30,30 +28,30 @@ use Rattle.low_core.specs.Plan.{Plan, Content}
 use Rattle.low_core.specs.SelShaped.{arity, HasResult}
 use Rattle.low_core.specs.SelState.{SelFrame, SelState, SelTurn, sel_moment, sel_turned, words_in}
 use Rattle.low_core.specs.SelStep.{gives_word, puts_bytes, takes_byte, outside_turn, op_turn}
-use Rattle.slot_plan.specs.Slots.{routine_place}
 use Rattle.obj_core.specs.declared.object.Object.{Object}
 use Rattle.obj_core.specs.declared.object.Place.{Place}
 use Rattle.obj_core.specs.SymbolicMachine.{symbolic_step}
 use Rattle.obj_rows.specs.Marked.{row_size, unlinked, Stands}
-use Rattle.obj_rows.specs.Routines.{IsCalled, ComesBack, IsLent, MayCopy, few_steps, range_steps, taking, taken_word}
+use Rattle.obj_rows.specs.Routines.{IsCalled, IsLent, MayCopy, few_steps, range_steps, taking, taken_word}
 use Rattle.obj_rows.specs.Standing.{standing}
 use Rattle.obj_rows.specs.Standing as world
 use Rattle.frame_rows.specs.Words.{Words, core_of}
-use Rattle.frame_lower.specs.Chain.{function_in, slot_behind, code_in, rest_in}
+use Rattle.frame_lower.specs.Chain.{function_in, code_in, rest_in}
 use Rattle.frame_lower.specs.Rows.{Making}
 use Rattle.frame_lower.specs.Suits.{Suits}
-use Rattle.frame_lower.proofs.Arguments.{Told, HaveWords, words_cases, have_long, have_small}
+use Rattle.frame_lower.proofs.Arguments.{HaveWords, words_cases, have_long, have_small}
 use Rattle.frame_lower.proofs.ByteMemory.{HoldBytes}
 use Rattle.frame_lower.proofs.Copying.{Copies, LeavesMeaning, copy_cases, fill_cases, fill_changes}
 use Rattle.frame_lower.proofs.Facts.{op_shaped}
 use Rattle.frame_lower.proofs.OutsideBack.{Changed, unchanged}
-use Rattle.frame_lower.proofs.OutsideCall.{IsRoutine, shaped, routine_called}
+use Rattle.frame_lower.proofs.OutsideCall.{routine_called}
 use Rattle.frame_lower.proofs.OutsideLent.{none_changed, lent_writes, may_copy, copied_changes}
 use Rattle.frame_lower.proofs.OutsideMet.{Called, is_called, routine_met}
 use Rattle.frame_lower.proofs.OutsideMet as met
 use Rattle.frame_lower.proofs.PlainStep.{Turned, stops_at}
 use Rattle.frame_lower.proofs.Rests.{op_stands}
-use Rattle.frame_lower.proofs.Stage.{most_steps, state_of, flat_in, Whole, Stage, A, B}
+use Rattle.frame_lower.specs.Meaning.{most_steps}
+use Rattle.frame_lower.proofs.Stage.{state_of, flat_in, Whole, Stage, A, B}
 
 -- the byte that is next, and the others
 next_there : (xs : List ℕ) (n b : ℕ) → slice_get xs n ≡ Some b → drop n xs ≡ b ∷ drop (n + 1) xs
@@ -141,11 +139,14 @@ module _ (o : Object) (sel : Sel) (plan : Plan) (contents : List Content) (by : 
         let same : ending.Ended (c.words.rdi % 256) ≡ ending.Ended (n % 256) = ap (λ m. ending.Ended (m % 256)) c.held.0 in
         inr (met_by (A o sel plan contents by live suits input) (B o sel plan contents by live suits input) (Stage o sel plan contents by live suits input) (λ _. 0) most_steps s (record s { ending = ending.Ended (n % 256) }) t0 ends.state
         (comes_wider (symbolic_step o) (1 + 1) (200 + few_steps) 1 most_steps t0 ends.state (omega arith) (omega arith) (comes_join (symbolic_step o) 1 200 1 few_steps t0 t1 ends.state c.comes ends.comes))
-        (inr (refl, record {
-          printed = ap (λ m. m.printed) (sym ends.shown_there);
-          taken = ap (λ m. m.taken) (sym ends.shown_there);
-          ending = ap ending.common (sym same) ∙ ap (λ m. ending.common m.ending) (sym ends.shown_there);
-        })))
+        (inr (
+          refl,
+          record {
+            printed = ap (λ m. m.printed) (sym ends.shown_there);
+            taken = ap (λ m. m.taken) (sym ends.shown_there);
+            ending = ap ending.common (sym same) ∙ ap (λ m. ending.common m.ending) (sym ends.shown_there);
+          },
+        )))
 
     -- a trap
     traps : (into : Option ℕ) (args : List ℕ) → slice_get b.ops f.next ≡ Some (Outside outer.Trap into args) → Turned_ (Err stop.Trap)
@@ -171,9 +172,9 @@ module _ (o : Object) (sel : Sel) (plan : Plan) (contents : List Content) (by : 
             let rdx : n ≡ c.words.rdx = sym held.1.1.0 in
             let few : c.words.rdx < 2 ^ 64 = subst (λ m. m < 2 ^ 64) rdx small in
             let may2 : 1 ≤ c.words.rdx → MayCopy (core_ (length sel.functions + 4) None (to ∷ from ∷ n ∷ []) c) c.words.rdi c.words.rsi c.words.rdx =
-                subst (λ m. 1 ≤ m → MayCopy (core_ (length sel.functions + 4) None (to ∷ from ∷ n ∷ []) c) c.words.rdi c.words.rsi m) rdx (subst (λ q. 1 ≤ n → MayCopy (core_ (length sel.functions + 4) None (to ∷ from ∷ n ∷ []) c) c.words.rdi q n) rsi (subst (λ p. 1 ≤ n → MayCopy (core_ (length sel.functions + 4) None (to ∷ from ∷ n ∷ []) c) p from n) rdi may)) in
+            subst (λ m. 1 ≤ m → MayCopy (core_ (length sel.functions + 4) None (to ∷ from ∷ n ∷ []) c) c.words.rdi c.words.rsi m) rdx (subst (λ q. 1 ≤ n → MayCopy (core_ (length sel.functions + 4) None (to ∷ from ∷ n ∷ []) c) c.words.rdi q n) rsi (subst (λ p. 1 ≤ n → MayCopy (core_ (length sel.functions + 4) None (to ∷ from ∷ n ∷ []) c) p from n) rdi may)) in
             let changed2 : Changed spans bytes bytes2 c.words.rdi (range_at c.segments c.words.rsi c.words.rdx) =
-                subst (λ m. Changed spans bytes bytes2 c.words.rdi (range_at c.segments c.words.rsi m)) rdx (subst (λ q. Changed spans bytes bytes2 c.words.rdi (range_at c.segments q n)) rsi (subst (λ p. Changed spans bytes bytes2 p (range_at c.segments from n)) rdi changed)) in
+            subst (λ m. Changed spans bytes bytes2 c.words.rdi (range_at c.segments c.words.rsi m)) rdx (subst (λ q. Changed spans bytes bytes2 c.words.rdi (range_at c.segments q n)) rsi (subst (λ p. Changed spans bytes bytes2 p (range_at c.segments from n)) rdi changed)) in
             let back = suits.routines.memcpy (core_ (length sel.functions + 4) None (to ∷ from ∷ n ∷ []) c) out (Place.Slot c.slot 5) (called_is (length sel.functions + 4) None (to ∷ from ∷ n ∷ []) c) may2 in
             inr (routine_met o sel plan contents by live suits input f callers bytes printed taken depth w fl ss off b is_function is_block (length sel.functions + 4) None (to ∷ from ∷ n ∷ []) c (Outside Memcpy None args) there refl bytes2 printed taken _ refl
             c.words.rdi _ changed2 (range_steps c.words.rdx) (omega (arith, few)) _ back 0 (λ r e. absurd (cc)))
@@ -208,7 +209,7 @@ module _ (o : Object) (sel : Sel) (plan : Plan) (contents : List Content) (by : 
             let few : c.words.rdx < 2 ^ 64 = subst (λ k. k < 2 ^ 64) rdx small in
             let may2 : 1 ≤ c.words.rdx → IsLent writes (core_ (length sel.functions + 5) None (to ∷ m ∷ n ∷ []) c) c.words.rdi c.words.rdx = subst (λ k. 1 ≤ k → IsLent writes (core_ (length sel.functions + 5) None (to ∷ m ∷ n ∷ []) c) c.words.rdi k) rdx (subst (λ p. 1 ≤ n → IsLent writes (core_ (length sel.functions + 5) None (to ∷ m ∷ n ∷ []) c) p n) rdi may) in
             let changed2 : Changed spans bytes bytes2 c.words.rdi (replicate c.words.rdx (c.words.rsi % 256)) =
-                subst (λ k. Changed spans bytes bytes2 c.words.rdi (replicate k (c.words.rsi % 256))) rdx (subst (λ q. Changed spans bytes bytes2 c.words.rdi (replicate n (q % 256))) rsi (subst (λ p. Changed spans bytes bytes2 p (replicate n (m % 256))) rdi changed)) in
+            subst (λ k. Changed spans bytes bytes2 c.words.rdi (replicate k (c.words.rsi % 256))) rdx (subst (λ q. Changed spans bytes bytes2 c.words.rdi (replicate n (q % 256))) rsi (subst (λ p. Changed spans bytes bytes2 p (replicate n (m % 256))) rdi changed)) in
             let back = suits.routines.memset (core_ (length sel.functions + 5) None (to ∷ m ∷ n ∷ []) c) out (Place.Slot c.slot 5) (called_is (length sel.functions + 5) None (to ∷ m ∷ n ∷ []) c) may2 in
             inr (routine_met o sel plan contents by live suits input f callers bytes printed taken depth w fl ss off b is_function is_block (length sel.functions + 5) None (to ∷ m ∷ n ∷ []) c (Outside Memset None args) there refl bytes2 printed taken _ refl
             c.words.rdi _ changed2 (range_steps c.words.rdx) (omega (arith, few)) _ back 0 (λ r e. absurd (cc)))
