@@ -43,7 +43,8 @@ use Rattle.frame_lower.proofs.Displacements.{leads}
 use Rattle.frame_lower.proofs.Facts.{block_shaped}
 use Rattle.frame_lower.proofs.PlainStep.{Turned, stops_at}
 use Rattle.frame_lower.proofs.Rests.{end_stands}
-use Rattle.frame_lower.proofs.Stage.{most_steps, state_of, flat_in, globals, last, Whole, Stage, A, B}
+use Rattle.frame_lower.specs.Meaning.{most_steps}
+use Rattle.frame_lower.proofs.Stage.{state_of, flat_in, globals, last, Whole, Stage, A, B}
 
 -- a part of a row ends inside of it
 pub within : (row : List Marked) (off : ℕ) (part : List Marked) → Stands row off part → off + row_size part ≤ row_size row
@@ -183,4 +184,4 @@ module _ (o : Object) (sel : Sel) (plan : Plan) (contents : List Content) (by : 
     trap_step is =
         let stops : exec (Ud2 ∷ []) (core_of w fl ss) ≡ Stopped ending.Invalid = ap (λ r. and_on r (exec [])) (ud2 (core_of w fl ss)) in
         stops_at o sel plan contents by live suits input f callers bytes printed taken depth w fl ss off b is_function is_block stands whole (Ud2 ∷ []) [] stop.Trap ending.Invalid (end_here end.Trap is) stops (omega arith)
-            (omega arith) refl refl
+        (omega arith) refl refl

@@ -136,15 +136,15 @@ module _ (o : Object) (sel : Sel) (plan : Plan) (contents : List Content) (by : 
             let fit = passed_fit o sel plan contents by live suits f off b is_function is_block stands op there args refl in
             let longer : length (drop 6 t.words) ≤ x.words = (let f0 = fit.0 in let d = length-drop 6 t.words in let e = length-drop 6 args in omega (arith, f0, d, e, long)) in
             let comes : Comes step 1 200 t0 t2 =
-                comes_wider step (1 + 1) (70 + 1) 1 200 t0 t2 (omega arith) (omega arith)
-                (comes_join step 1 70 1 1 t0 t1 t2 (to_slot o sel plan contents by live suits f off b is_function is_block stands op there [] into args refl few (omega arith) out w w1 fl fl ss p.segments (p.runs []))
-                (comes_one step t1 t2 (call_goes o out k c1 g back.back (f.base - 8) back.is_slot (down w1 at) pushed))) in
+            comes_wider step (1 + 1) (70 + 1) 1 200 t0 t2 (omega arith) (omega arith)
+            (comes_join step 1 70 1 1 t0 t1 t2 (to_slot o sel plan contents by live suits f off b is_function is_block stands op there [] into args refl few (omega arith) out w w1 fl fl ss p.segments (p.runs []))
+            (comes_one step t1 t2 (call_goes o out k c1 g back.back (f.base - 8) back.is_slot (down w1 at) pushed))) in
             subst Turned_ (sym (enters_is o sel plan contents by live suits s f callers into t.words g is_callee Malformed params))
             (called o sel plan contents by live suits input f callers bytes printed taken depth w fl ss off b is_function is_block stands whole op there into refl g is_callee t.words (sym params)
-                (have_small f.registers args t.words whole.tied.small t.have) longer
+            (have_small f.registers args t.words whole.tied.small t.have) longer
             w1 fl p.segments p.same p.tied p.held p.stand p.shape p.outside k (found_within o.slots k _ back.is_slot) pushed comes
             (jump_at o sel plan contents by live suits f off b is_function is_block stands op there [] into args refl few (omega arith) + 5)
-                (λ out2 core. call_returns o out2 k core g back.back back.is_slot ∙ ap (λ q. standing out2 q core) back.is_place)
+            (λ out2 core. call_returns o out2 k core g back.back back.is_slot ∙ ap (λ q. standing out2 q core) back.is_place)
             (back_stands o sel plan contents by live suits f off b is_function is_block stands op there [] into args refl few (omega arith)))
 
     -- a call by address
@@ -182,18 +182,23 @@ module _ (o : Object) (sel : Sel) (plan : Plan) (contents : List Content) (by : 
             let t2 = standing out (Place.Code g 0) (core_of (record w1 { rsp = f.base - 8 }) fl pushed.segments) in
             let fit = passed_fit o sel plan contents by live suits f off b is_function is_block stands op there args refl in
             let longer : length (drop 6 t.words) ≤ x.words = (let f0 = fit.0 in let d = length-drop 6 t.words in let e = length-drop 6 args in omega (arith, f0, d, e, long)) in
-            let four : Comes step 4 4 t1 t2 = record { count = 4; low = omega arith; high = omega arith; arrives =
-                pointer_goes o out k c1 back.back (f.base - 8) pointer.slot g back.is_slot pointer.is_slot (p.pointer ∙ pointer.address) (down w1 at_base) pushed } in
+            let four : Comes step 4 4 t1 t2 = record {
+              count = 4;
+              low = omega arith;
+              high = omega arith;
+              arrives =
+                  pointer_goes o out k c1 back.back (f.base - 8) pointer.slot g back.is_slot pointer.is_slot (p.pointer ∙ pointer.address) (down w1 at_base) pushed;
+            } in
             let ready : exec (pass_row x.homes args ++ wanted) (core_of w fl ss) ≡ Through c1 = ap (λ r. exec r (core_of w fl ss)) (sym (append-nil (pass_row x.homes args ++ wanted))) ∙ p.runs [] in
             let comes : Comes step 1 200 t0 t2 =
-                comes_wider step (1 + 4) (70 + 4) 1 200 t0 t2 (omega arith) (omega arith)
-                (comes_join step 1 70 4 4 t0 t1 t2 (to_slot o sel plan contents by live suits f off b is_function is_block stands op there wanted into args refl few (omega arith) out w w1 fl fl ss p.segments ready) four) in
+            comes_wider step (1 + 4) (70 + 4) 1 200 t0 t2 (omega arith) (omega arith)
+            (comes_join step 1 70 4 4 t0 t1 t2 (to_slot o sel plan contents by live suits f off b is_function is_block stands op there wanted into args refl few (omega arith) out w w1 fl fl ss p.segments ready) four) in
             subst Turned_ (sym (enters_is o sel plan contents by live suits s f callers into t.words g is_callee (Left Bounds) params))
             (called o sel plan contents by live suits input f callers bytes printed taken depth w fl ss off b is_function is_block stands whole op there into refl g is_callee t.words (sym params)
-                (have_small f.registers args t.words whole.tied.small t.have) longer
+            (have_small f.registers args t.words whole.tied.small t.have) longer
             w1 fl p.segments p.same p.tied p.held p.stand p.shape p.outside k (found_within o.slots k _ back.is_slot) pushed comes
             (jump_at o sel plan contents by live suits f off b is_function is_block stands op there wanted into args refl few (omega arith) + 5)
-                (λ out2 core. indirect_returns o out2 k core back.back back.is_slot ∙ ap (λ q. standing out2 q core) back.is_place)
+            (λ out2 core. indirect_returns o out2 k core back.back back.is_slot ∙ ap (λ q. standing out2 q core) back.is_place)
             (back_stands o sel plan contents by live suits f off b is_function is_block stands op there wanted into args refl few (omega arith)))
 
         by_address : (at : ℕ) → word_in f.registers a ≡ Ok at → (t : Told f.registers args) (q : Option ℕ) → function_at at sel.taken plan.functions ≡ q →

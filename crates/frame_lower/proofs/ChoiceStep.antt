@@ -40,7 +40,8 @@ use Rattle.frame_lower.proofs.Bits.{low_bit, bit_law}
 use Rattle.frame_lower.proofs.Branching.{arrives, end_here, jumps_to, low, low_start}
 use Rattle.frame_lower.proofs.Displacements.{leads}
 use Rattle.frame_lower.proofs.PlainStep.{Turned}
-use Rattle.frame_lower.proofs.Stage.{most_steps, state_of, flat_in, Whole, Stage, A, B}
+use Rattle.frame_lower.specs.Meaning.{most_steps}
+use Rattle.frame_lower.proofs.Stage.{state_of, flat_in, Whole, Stage, A, B}
 
 module _ (o : Object) (sel : Sel) (plan : Plan) (contents : List Content) (by : ℕ → Making) (live : ℕ → ℕ → ℕ → ℕ → Type 0) (suits : Suits o sel plan contents by live) (input : List ℕ) where
   abbrev A_ : System SelState
@@ -58,7 +59,7 @@ module _ (o : Object) (sel : Sel) (plan : Plan) (contents : List Content) (by : 
   module _ (f : SelFrame) (callers : List SelFrame) (bytes : Bytes) (printed : List ℕ) (taken depth : ℕ) (w : Words) (fl : Flags) (ss : List Segment) (off : ℕ) (b : SelBlock)
       (is_function : slice_get sel.functions f.function ≡ Some (function_in sel f.function)) (is_block : slice_get (function_in sel f.function).blocks f.block ≡ Some b)
       (stands : Stands (code_in sel by f.function) off (rest_in sel by f.function off f.block f.next b)) (whole : Whole o sel plan contents by live suits input f depth callers (live f.function f.block f.next) bytes w ss)
-          (none : slice_get b.ops f.next ≡ None) where
+      (none : slice_get b.ops f.next ≡ None) where
     abbrev s : SelState
     s = state_of f callers bytes printed taken
 
@@ -94,7 +95,7 @@ module _ (o : Object) (sel : Sel) (plan : Plan) (contents : List Content) (by : 
         let jcc : Marked = unlinked (Jcc Cond.Ne (between (back + 6) (start d))) in
         let jmp : Marked = unlinked (Jmp (between (back + 11) (start e))) in
         let h0 : Stands row off (unlinked i ∷ unlinked low_bit ∷ jcc ∷ jmp ∷ []) =
-            end_here o sel plan contents by live suits input f callers bytes printed taken depth w fl ss off b is_function is_block stands whole none (end.If c d e) is in
+        end_here o sel plan contents by live suits input f callers bytes printed taken depth w fl ss off b is_function is_block stands whole none (end.If c d e) is in
         let h1 : Stands row p1 (unlinked low_bit ∷ jcc ∷ jmp ∷ []) = stands_next row off (unlinked i) (unlinked low_bit ∷ jcc ∷ jmp ∷ []) h0 in
         let h2 : Stands row p2 (jcc ∷ jmp ∷ []) = stands_next row p1 (unlinked low_bit) (jcc ∷ jmp ∷ []) h1 in
         let h3 : Stands row p3 (jmp ∷ []) = stands_next row p2 jcc (jmp ∷ []) h2 in
@@ -108,18 +109,18 @@ module _ (o : Object) (sel : Sel) (plan : Plan) (contents : List Content) (by : 
         let to_e : IsOneOf e (leads_to b.end) = subst (λ x. IsOneOf e (leads_to x)) (sym is) (inr (inl refl)) in
         let alive = (suits.allotted f.function _ is_function).end_reads f.block f.next c b is_block none (subst (λ x. IsOneOf c (end_reads x)) (sym is) (inl refl)) in
         let s0 : step (at off w fl) ≡ at p1 w1 fl = step_through o f.function row (suits.codes f.function _ is_function) out off (unlinked i) (core_of w fl ss) (core_of w1 fl ss)
-            (stands_one row off (unlinked i) (unlinked low_bit ∷ jcc ∷ jmp ∷ []) h0)
-            (reads_one (by f.function).homes f.base (by f.function).words (live f.function f.block f.next) f.registers (flat_in o sel plan contents by live suits input (f ∷ callers) bytes) w fl ss whole.tied c v Rax alive told) in
+        (stands_one row off (unlinked i) (unlinked low_bit ∷ jcc ∷ jmp ∷ []) h0)
+        (reads_one (by f.function).homes f.base (by f.function).words (live f.function f.block f.next) f.registers (flat_in o sel plan contents by live suits input (f ∷ callers) bytes) w fl ss whole.tied c v Rax alive told) in
         let s1 : step (at p1 w1 fl) ≡ at p2 w2 bit.flags = step_through o f.function row (suits.codes f.function _ is_function) out p1 (unlinked low_bit) (core_of w1 fl ss) (core_of w2 bit.flags ss)
-            (stands_one row p1 (unlinked low_bit) (jcc ∷ jmp ∷ []) h1) bit.runs in
+        (stands_one row p1 (unlinked low_bit) (jcc ∷ jmp ∷ []) h1) bit.runs in
         let j2 : Stands row p2 (unlinked (Jcc Cond.Ne (between (p2 + 6) (start d))) ∷ []) = subst (λ q. Stands row p2 (unlinked (Jcc Cond.Ne (between (q + 6) (start d))) ∷ [])) same (stands_one row p2 jcc (jmp ∷ []) h2) in
         let j3 : Stands row p3 (unlinked (Jmp (between (p3 + 5) (start e))) ∷ []) = subst (λ q. Stands row p3 (unlinked (Jmp (between q (start e))) ∷ [])) last h3 in
         let low_d = low_start o sel plan contents by live suits input f callers bytes printed taken depth w fl ss off b is_function is_block stands whole none d to_d in
         let low_e = low_start o sel plan contents by live suits input f callers bytes printed taken depth w fl ss off b is_function is_block stands whole none e to_e in
         let s2 : (q : Bool) → not (nat_eq (v % 2) 0) ≡ q → step (at p2 w2 bit.flags) ≡ (if q then at (start d) w2 bit.flags else at p3 w2 bit.flags) =
-            λ q eq. tests p2 (start d) q w2 bit.flags low_d (omega (arith, near)) (bit.tells ∙ ap Some eq) j2 in
+        λ q eq. tests p2 (start d) q w2 bit.flags low_d (omega (arith, near)) (bit.tells ∙ ap Some eq) j2 in
         let s3 : step (at p3 w2 bit.flags) ≡ at (start e) w2 bit.flags =
-            jumps_to o sel plan contents by live suits input f callers bytes printed taken depth w fl ss off b is_function is_block stands whole none p3 (start e) w2 bit.flags low_e (omega (arith, near)) j3 in
+        jumps_to o sel plan contents by live suits input f callers bytes printed taken depth w fl ss off b is_function is_block stands whole none p3 (start e) w2 bit.flags low_e (omega (arith, near)) j3 in
         let kept : Same w w2 = record { rbx = refl; rbp = refl; rsp = refl; r12 = refl; r13 = refl; r14 = refl; r15 = refl } in
         by_test (nat_eq (v % 2) 0) refl
         (λ eq. inr (met_by A_ B_ Stage_ (λ _. 0) most_steps s (sel_turned s (to_block s f callers d)) (at off w fl) (at (start d) w2 bit.flags)

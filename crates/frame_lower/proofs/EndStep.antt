@@ -39,7 +39,7 @@ module _ (o : Object) (sel : Sel) (plan : Plan) (contents : List Content) (by : 
   module _ (f : SelFrame) (callers : List SelFrame) (bytes : Bytes) (printed : List ℕ) (taken depth : ℕ) (w : Words) (fl : Flags) (ss : List Segment) (off : ℕ) (b : SelBlock)
       (is_function : slice_get sel.functions f.function ≡ Some (function_in sel f.function)) (is_block : slice_get (function_in sel f.function).blocks f.block ≡ Some b)
       (stands : Stands (code_in sel by f.function) off (rest_in sel by f.function off f.block f.next b)) (whole : Whole o sel plan contents by live suits input f depth callers (live f.function f.block f.next) bytes w ss)
-          (none : slice_get b.ops f.next ≡ None) where
+      (none : slice_get b.ops f.next ≡ None) where
     abbrev s : SelState
     s = state_of f callers bytes printed taken
 
@@ -54,12 +54,12 @@ module _ (o : Object) (sel : Sel) (plan : Plan) (contents : List Content) (by : 
         let w1 : Words = record w { rax = n } in
         let alive = (suits.allotted f.function _ is_function).end_reads f.block f.next r b is_block none (subst (λ e. IsOneOf r (end_reads e)) (sym is) (inl refl)) in
         let runs : exec (i ∷ []) (core_of w fl ss) ≡ Through (core_of w1 fl ss) =
-            exec-first i [] (core_of w fl ss) (core_of w1 fl ss) (reads_one x.homes f.base x.words (live f.function f.block f.next) f.registers (flat_in o sel plan contents by live suits input (f ∷ callers) bytes) w fl ss whole.tied
-                r n Rax alive told) in
+        exec-first i [] (core_of w fl ss) (core_of w1 fl ss) (reads_one x.homes f.base x.words (live f.function f.block f.next) f.registers (flat_in o sel plan contents by live suits input (f ∷ callers) bytes) w fl ss whole.tied
+        r n Rax alive told) in
         let same : Same w w1 = record { rbx = refl; rbp = refl; rsp = refl; r12 = refl; r13 = refl; r14 = refl; r15 = refl } in
         let closes : Stands (code_in sel by f.function) off (all_unlinked (i ∷ leave_row x)) =
-            stands_first (code_in sel by f.function) off (all_unlinked (i ∷ leave_row x)) []
-                (end_here o sel plan contents by live suits input f callers bytes printed taken depth w fl ss off b is_function is_block stands whole none (Ret (Some r)) is) in
+        stands_first (code_in sel by f.function) off (all_unlinked (i ∷ leave_row x)) []
+        (end_here o sel plan contents by live suits input f callers bytes printed taken depth w fl ss off b is_function is_block stands whole none (Ret (Some r)) is) in
         by_callers callers whole runs same closes (whole.tied.small r n told)
       where
         by_callers : (xs : List SelFrame) (whole2 : Whole o sel plan contents by live suits input f depth xs (live f.function f.block f.next) bytes w ss) →
@@ -68,12 +68,12 @@ module _ (o : Object) (sel : Sel) (plan : Plan) (contents : List Content) (by : 
             Turned o sel plan contents by live suits input f xs bytes printed taken depth w fl ss off b is_function is_block stands whole2 (returns_with (state_of f xs bytes printed taken) f xs (Some n))
         by_callers [] whole2 runs same closes small =
             ended o sel plan contents by live suits input f bytes printed taken depth w fl ss off b is_function is_block stands whole2 (home_read ((by f.function).homes r) Rax ∷ []) (record w { rax = n }) runs (omega arith) same
-                closes n refl
+            closes n refl
         by_callers (z ∷ zs) whole2 runs same closes small =
             let s2 = state_of f (z ∷ zs) bytes printed taken in
             subst (λ q. Turned o sel plan contents by live suits input f (z ∷ zs) bytes printed taken depth w fl ss off b is_function is_block stands whole2 (and_then q (λ h. goes s2 (h ∷ zs)))) (sym (delivers f.into z))
             (returned o sel plan contents by live suits input f z zs bytes printed taken depth w fl ss off b is_function is_block stands whole2 (home_read ((by f.function).homes r) Rax ∷ []) (record w { rax = n }) runs (omega arith)
-                same closes n (λ q e. (refl, small)))
+            same closes n (λ q e. (refl, small)))
           where
             delivers : (into : Option ℕ) (z : SelFrame) → delivered into (Some n) z ≡ Ok (record z { registers = with_result into n z.registers })
             delivers (Some r) z = refl
@@ -85,8 +85,8 @@ module _ (o : Object) (sel : Sel) (plan : Plan) (contents : List Content) (by : 
         let x = by f.function in
         let same : Same w w = record { rbx = refl; rbp = refl; rsp = refl; r12 = refl; r13 = refl; r14 = refl; r15 = refl } in
         let closes : Stands (code_in sel by f.function) off (all_unlinked (leave_row x)) =
-            stands_first (code_in sel by f.function) off (all_unlinked (leave_row x)) []
-                (end_here o sel plan contents by live suits input f callers bytes printed taken depth w fl ss off b is_function is_block stands whole none (Ret None) is) in
+        stands_first (code_in sel by f.function) off (all_unlinked (leave_row x)) []
+        (end_here o sel plan contents by live suits input f callers bytes printed taken depth w fl ss off b is_function is_block stands whole none (Ret None) is) in
         by_callers callers whole same closes
       where
         by_callers : (xs : List SelFrame) (whole2 : Whole o sel plan contents by live suits input f depth xs (live f.function f.block f.next) bytes w ss) → Same w w →
@@ -104,9 +104,9 @@ module _ (o : Object) (sel : Sel) (plan : Plan) (contents : List Content) (by : 
                 (and_then (delivered q None z) (λ h. goes (state_of f (z ∷ zs) bytes printed taken) (h ∷ zs)))) (sym e) (inl refl)
             by_into None e =
                 subst (λ q. Turned o sel plan contents by live suits input f (z ∷ zs) bytes printed taken depth w fl ss off b is_function is_block stands whole2
-                    (and_then (delivered q None z) (λ h. goes (state_of f (z ∷ zs) bytes printed taken) (h ∷ zs)))) (sym e)
+                (and_then (delivered q None z) (λ h. goes (state_of f (z ∷ zs) bytes printed taken) (h ∷ zs)))) (sym e)
                 (subst (λ q. Turned o sel plan contents by live suits input f (z ∷ zs) bytes printed taken depth w fl ss off b is_function is_block stands whole2
-                    (goes (state_of f (z ∷ zs) bytes printed taken) (record z { registers = with_result q 0 z.registers } ∷ zs))) e
+                (goes (state_of f (z ∷ zs) bytes printed taken) (record z { registers = with_result q 0 z.registers } ∷ zs))) e
                 (returned o sel plan contents by live suits input f z zs bytes printed taken depth w fl ss off b is_function is_block stands whole2 [] w refl (omega arith) same closes 0 (λ r g. absurd (no_result r g e))))
 
     -- by the end's kind

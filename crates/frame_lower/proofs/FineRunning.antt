@@ -33,7 +33,8 @@ use Rattle.frame_lower.proofs.EndStep.{end_step}
 use Rattle.frame_lower.proofs.OpStep.{op_step}
 use Rattle.frame_lower.proofs.OutsideStep.{outside_step}
 use Rattle.frame_lower.proofs.PlainStep.{Turned}
-use Rattle.frame_lower.proofs.Stage.{most_steps, state_of, flat_in, Whole, Stage, A, B, Meets_, sel_system, object_system, step_is}
+use Rattle.frame_lower.specs.Meaning.{most_steps}
+use Rattle.frame_lower.proofs.Stage.{state_of, flat_in, Whole, Stage, A, B, Meets_, sel_system, object_system, step_is}
 use Rattle.frame_lower.proofs.StartStep.{starts}
 
 module _ (o : Object) (sel : Sel) (plan : Plan) (contents : List Content) (by : ℕ → Making) (live : ℕ → ℕ → ℕ → ℕ → Type 0) (suits : Suits o sel plan contents by live) where

@@ -102,7 +102,7 @@ module _ (o : Object) (sel : Sel) (plan : Plan) (contents : List Content) (by : 
     stands1 =
         let e : 0 + size_of one_fewer ≡ size_of one_fewer = omega arith in
         subst (λ p. Stands code p (unlinked (Jcc Cond.Ae (pos 1)) ∷ unlinked Int3 ∷ (all_unlinked rest ++ blocks))) e
-            (stands_next code 0 (unlinked one_fewer) (unlinked (Jcc Cond.Ae (pos 1)) ∷ unlinked Int3 ∷ (all_unlinked rest ++ blocks)) stands0)
+        (stands_next code 0 (unlinked one_fewer) (unlinked (Jcc Cond.Ae (pos 1)) ∷ unlinked Int3 ∷ (all_unlinked rest ++ blocks)) stands0)
 
     stands2 : Stands code 14 (all_unlinked rest ++ blocks)
     stands2 = stands_next code 13 (unlinked Int3) (all_unlinked rest ++ blocks) (stands_next code 7 (unlinked (Jcc Cond.Ae (pos 1))) (unlinked Int3 ∷ (all_unlinked rest ++ blocks)) stands1)
@@ -121,10 +121,10 @@ module _ (o : Object) (sel : Sel) (plan : Plan) (contents : List Content) (by : 
         let stack2 = stack_same stack_start stack_end ss e.segments e.shape stack in
         let outer : (q : ℕ) → (q < lower) ⊎ (lower + x.room + 40 ≤ q) → byte_at e.segments q ≡ byte_at ss q = λ q c. e.outside q (elim c [ inl lt ↦ inl (omega (arith, lt)) | inr le ↦ inr (omega (arith, le, five)) ]) in
         let r = receives x.homes lower x.words (suits.homes g) stack_start stack_end x.room fn.params ns fn.registers alive flat w4 e.flags e.segments
-            (homes_apart x.homes fn.params shaped.params_apart (suits.allotted g fn is_function).params) long small stack2 (omega (arith, low)) high (omega (arith, rooms))
-            (six_held w w4 ns (record { rdi = refl; rsi = refl; rdx = refl; rcx = refl; r8 = refl; r9 = refl }) held)
-            (stand_same ss e.segments (drop 6 ns) (lower + x.room + 48) (λ q from to. outer q (inr (omega (arith, from)))) stand)
-            (room_in lower x.words e.segments stack2 low (omega (arith, high, rooms))) refl (memory e.segments e.shape outer) in
+        (homes_apart x.homes fn.params shaped.params_apart (suits.allotted g fn is_function).params) long small stack2 (omega (arith, low)) high (omega (arith, rooms))
+        (six_held w w4 ns (record { rdi = refl; rsi = refl; rdx = refl; rcx = refl; r8 = refl; r9 = refl }) held)
+        (stand_same ss e.segments (drop 6 ns) (lower + x.room + 48) (λ q from to. outer q (inr (omega (arith, from)))) stand)
+        (room_in lower x.words e.segments stack2 low (omega (arith, high, rooms))) refl (memory e.segments e.shape outer) in
         let marked = all_unlinked rest in
         let n = length marked in
         let t0 = standing out (Place.Code g 0) (core_of w fl ss) in
@@ -148,13 +148,13 @@ module _ (o : Object) (sel : Sel) (plan : Plan) (contents : List Content) (by : 
               comes_wider (symbolic_step o) (1 + (1 + n)) (1 + (1 + n)) 1 100 t0 t3 (omega arith) (omega (arith, pushes, homes, most, all, same, five))
               (comes_join (symbolic_step o) 1 1 (1 + n) (1 + n) t0 t1 t3
               (row_comes o g code (suits.codes g fn is_function) out (unlinked one_fewer ∷ []) 0 (core_of w fl ss) (core_of w3 count.flags ss)
-                  (stands_one code 0 (unlinked one_fewer) (unlinked (Jcc Cond.Ae (pos 1)) ∷ unlinked Int3 ∷ (marked ++ blocks)) stands0) count.runs)
+              (stands_one code 0 (unlinked one_fewer) (unlinked (Jcc Cond.Ae (pos 1)) ∷ unlinked Int3 ∷ (marked ++ blocks)) stands0) count.runs)
               (comes_join (symbolic_step o) 1 1 n n t1 t2 t3
               (comes_one (symbolic_step o) t1 t2 (branches o g code (suits.codes g fn is_function) out 7 (core_of w3 count.flags ss) Cond.Ae None (pos 1)
-                  (stands_one code 7 (unlinked (Jcc Cond.Ae (pos 1))) (unlinked Int3 ∷ (marked ++ blocks)) stands1) count.taken))
+              (stands_one code 7 (unlinked (Jcc Cond.Ae (pos 1))) (unlinked Int3 ∷ (marked ++ blocks)) stands1) count.taken))
               (subst (λ p. Comes (symbolic_step o) n n t2 (standing out (Place.Code g p) (core_of r.after e.flags r.segments))) place
               (row_comes o g code (suits.codes g fn is_function) out marked 14 (core_of w3 count.flags ss) (core_of r.after e.flags r.segments) (stands_first code 14 marked blocks stands2)
-                  (ap (λ q. exec q (core_of w3 count.flags ss)) (instrs_of-unlinked rest) ∙ run)))));
+              (ap (λ q. exec q (core_of w3 count.flags ss)) (instrs_of-unlinked rest) ∙ run)))));
           tied = r.tied;
           counter = r.depth;
           saved = λ q is.

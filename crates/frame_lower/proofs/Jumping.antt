@@ -115,7 +115,7 @@ module _ (o : Object) (sel : Sel) (plan : Plan) (contents : List Content) (by : 
           comes_wider (symbolic_step o) (n + 1) (n + 1) 1 70 t0 t2 (omega arith) (omega (arith, long, both, count, few, one))
           (comes_join (symbolic_step o) n n 1 1 t0 t1 t2
           (row_comes o f.function code is out marked off (core_of w fl ss) (core_of w1 fl1 ss1) (stands_first code off marked (jump ∷ (taking ++ rest_from (jump_at + 5 + row_size taking))) whole_row)
-              (ap (λ r. exec r (core_of w fl ss)) (instrs_of-unlinked ready) ∙ runs))
+          (ap (λ r. exec r (core_of w fl ss)) (instrs_of-unlinked ready) ∙ runs))
           (comes_one (symbolic_step o) t1 t2 (jumps o f.function code is out jump_at (core_of w1 fl1 ss1) (Some slot) (pos 0) (stands_one code jump_at jump (taking ++ rest_from (jump_at + 5 + row_size taking)) jump_stands))))
 
     -- the words that it passes are in the frame

@@ -29,7 +29,8 @@ use Rattle.frame_lower.specs.Suits.{Suits}
 use Rattle.frame_lower.proofs.Leaving.{Leaves, leaves}
 use Rattle.frame_lower.proofs.PlainStep.{Turned}
 use Rattle.frame_lower.proofs.Returning.{return_comes}
-use Rattle.frame_lower.proofs.Stage.{most_steps, state_of, last, Whole, Stage, A, B}
+use Rattle.frame_lower.specs.Meaning.{most_steps}
+use Rattle.frame_lower.proofs.Stage.{state_of, last, Whole, Stage, A, B}
 
 module _ (o : Object) (sel : Sel) (plan : Plan) (contents : List Content) (by : ℕ → Making) (live : ℕ → ℕ → ℕ → ℕ → Type 0) (suits : Suits o sel plan contents by live) (input : List ℕ) where
   abbrev last_ : Place
@@ -42,7 +43,7 @@ module _ (o : Object) (sel : Sel) (plan : Plan) (contents : List Content) (by : 
       (is_function : slice_get sel.functions f.function ≡ Some (function_in sel f.function)) (is_block : slice_get (function_in sel f.function).blocks f.block ≡ Some b)
       (stands : Stands (code_in sel by f.function) off (rest_in sel by f.function off f.block f.next b)) (whole : Whole o sel plan contents by live suits input f depth [] (live f.function f.block f.next) bytes w ss)
       (first : List Instr) (w1 : Words) (runs : exec first (core_of w fl ss) ≡ Through (core_of w1 fl ss)) (few : length first ≤ 1) (same : Same w w1)
-          (closes : Stands (code_in sel by f.function) off (all_unlinked (first ++ leave_row (by f.function))))
+      (closes : Stands (code_in sel by f.function) off (all_unlinked (first ++ leave_row (by f.function))))
       (n : ℕ) (result : w1.rax ≡ n) where
     abbrev out : Outside
     out = record { left = drop taken input; printed = printed; taken = taken }
@@ -81,6 +82,6 @@ module _ (o : Object) (sel : Sel) (plan : Plan) (contents : List Content) (by : 
         (comes_wider step (1 + 1) (20 + few_steps) 1 most_steps t0 ends.state (omega arith) (omega arith)
         (comes_join step 1 20 1 few_steps t0 t1 ends.state
         (return_comes o f.function (code_in sel by f.function) (suits.codes f.function _ is_function) out x (suits.five f.function) first off f.base w w1 fl ss last_ closes few runs whole.stack (same.rsp ∙ whole.tied.at_base) l
-            whole.chain.0 few_calls whole.chain.1 left)
+        whole.chain.0 few_calls whole.chain.1 left)
         ends.comes))
         (inr (refl, record { printed = ap (λ q. q.printed) (sym m); taken = ap (λ q. q.taken) (sym m); ending = ap (λ q. ending.common q.ending) (sym m) })))

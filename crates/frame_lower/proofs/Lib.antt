@@ -64,7 +64,6 @@ pub mod Calling
 pub mod Jumping
 pub mod Entered
 pub mod CallStep
-pub mod Running
 pub mod Globals
 pub mod StartStep
 pub mod OpStep
@@ -73,3 +72,4 @@ pub mod Spanned
 pub mod OutsideLent
 pub mod OutsideStep
 pub mod FineRunning
+pub mod Meaning

@@ -40,7 +40,8 @@ use Rattle.frame_lower.proofs.Counts.{take_count}
 use Rattle.frame_lower.proofs.OutsideBack.{Changed, whole_back}
 use Rattle.frame_lower.proofs.PlainStep.{whole_op}
 use Rattle.frame_lower.proofs.Sixteen.{words_of, words_again}
-use Rattle.frame_lower.proofs.Stage.{most_steps, state_of, flat_in, globals, last, Whole, Stage, A, B, Meets_}
+use Rattle.frame_lower.specs.Meaning.{most_steps}
+use Rattle.frame_lower.proofs.Stage.{state_of, flat_in, globals, last, Whole, Stage, A, B, Meets_}
 use Rattle.frame_lower.proofs.Taking.{LiveBeside, takes}
 
 module _ (o : Object) (sel : Sel) (plan : Plan) (contents : List Content) (by : ℕ → Making) (live : ℕ → ℕ → ℕ → ℕ → Type 0) (suits : Suits o sel plan contents by live) (input : List ℕ) where

@@ -47,7 +47,8 @@ use Rattle.frame_lower.specs.Suits.{Suits}
 use Rattle.frame_lower.proofs.Chains.{chain_same, chain_moved, chain_high, reserved_low, moved_to}
 use Rattle.frame_lower.proofs.Facts.{op_ready}
 use Rattle.frame_lower.proofs.Rests.{op_stands}
-use Rattle.frame_lower.proofs.Stage.{most_steps, state_of, last, globals, flat_in, Whole, Stage, A, B, Meets_}
+use Rattle.frame_lower.specs.Meaning.{most_steps}
+use Rattle.frame_lower.proofs.Stage.{state_of, last, globals, flat_in, Whole, Stage, A, B, Meets_}
 
 -- the stack may be used after any write
 pub stack_same : (low high : ℕ) (ss ts : List Segment) → SameShape ss ts → IsStack low high ss → IsStack low high ts
@@ -157,14 +158,14 @@ module _ (o : Object) (sel : Sel) (plan : Plan) (contents : List Content) (by : 
     -- the row of an operation that is passed leads to the next one
     pub goes_on : (op : SelOp) → slice_get b.ops f.next ≡ Some op → IsNoCall op → (registers : List (Option ℕ)) (bytes2 : Bytes) →
         Leads by_.homes f.base by_.words (op_row by_.homes by_.plan (8 * by_.words) op) w fl ss (live f.function f.block (f.next + 1)) registers (flat_in o sel plan contents by live suits input (f ∷ callers) bytes2) →
-            Turned (turn_to f callers registers bytes2)
+        Turned (turn_to f callers registers bytes2)
     goes_on op there plain registers bytes2 x =
         let first = op_row by_.homes by_.plan (8 * by_.words) op in
         let part = all_unlinked first in
         let off2 = off + row_size part in
         let stood : Stands row off (part ++ rest_in sel by f.function off2 f.block (f.next + 1) b) =
-            subst (λ m. Stands row off (m ++ rest_in sel by f.function (off + row_size m) f.block (f.next + 1) b)) (plain_row by_ (slot_behind sel f.function f.block (take f.next b.ops)) op plain)
-                (op_stands sel by f.function f.block f.next b row off stands op there) in
+        subst (λ m. Stands row off (m ++ rest_in sel by f.function (off + row_size m) f.block (f.next + 1) b)) (plain_row by_ (slot_behind sel f.function f.block (take f.next b.ops)) op plain)
+        (op_stands sel by f.function f.block f.next b row off stands op there) in
         let u = standing out (Place.Code f.function off2) (core_of x.after x.flags x.segments) in
         let g = moved_to o sel by globals_ live last_ f f.block (f.next + 1) registers in
         let sized = op_sized by_.homes by_.plan (8 * by_.words) op plain in
@@ -203,7 +204,7 @@ module _ (o : Object) (sel : Sel) (plan : Plan) (contents : List Content) (by : 
         let long = length-unlinked part in
         let u = iter (symbolic_step o) (length marked) t in
         let m : moment_of u ≡ shown out e = row_stops o f.function row (suits.codes f.function _ is_function) out marked off (core_of w fl ss) e (stands_first row off marked rest stood)
-            (ap (λ is. exec is (core_of w fl ss)) (instrs_of-unlinked part) ∙ stops) in
+        (ap (λ is. exec is (core_of w fl ss)) (instrs_of-unlinked part) ∙ stops) in
         inr (record {
           count = length marked;
           within = omega (arith, long, few);
@@ -218,9 +219,9 @@ module _ (o : Object) (sel : Sel) (plan : Plan) (contents : List Content) (by : 
         let own = whole.own in
         let at_own : f.own.start ≡ f.base + 8 * by_.words = ap (λ (x : Span). x.start) own in
         let rows : op_row by_.homes plan (8 * by_.words) op ≡ op_row by_.homes by_.plan (8 * by_.words) op =
-            sym (ap (λ p. op_row by_.homes p (8 * by_.words) op) (suits.addresses f.function) ∙ row_plan by_.homes plan (8 * by_.words) op) in
+        sym (ap (λ p. op_row by_.homes p (8 * by_.words) op) (suits.addresses f.function) ∙ row_plan by_.homes plan (8 * by_.words) op) in
         by_meeting _ (subst (λ is. Meets by_.homes f.base by_.words is w fl ss (live f.function f.block (f.next + 1)) f callers (spans_of o sel by globals_ live last_ (f ∷ callers))
-            (op_turn sel plan (flat_in o sel plan contents by live suits input (f ∷ callers) bytes) input s f callers op)) rows
+        (op_turn sel plan (flat_in o sel plan contents by live suits input (f ∷ callers) bytes) input s f callers op)) rows
         (op_law by_.homes f.base by_.words (8 * by_.words) plan (live f.function f.block f.next) (live f.function f.block (f.next + 1)) sel input s f callers (spans_of o sel by globals_ live last_ (f ∷ callers)) w fl ss whole.tied at_own op
         (op_ready o sel plan contents by live suits f.function f.block f.next f.base _ b op is_function is_block there (omega (arith, high)) plain) ((suits.allotted f.function _ is_function).ops f.block f.next b op is_block there)))
       where
@@ -234,6 +235,6 @@ module _ (o : Object) (sel : Sel) (plan : Plan) (contents : List Content) (by : 
             let some = sized.some in
             let few = sized.count in
             let stood : Stands row off (all_unlinked first ++ rest_in sel by f.function (off + row_size (all_unlinked first)) f.block (f.next + 1) b) =
-                subst (λ m. Stands row off (m ++ rest_in sel by f.function (off + row_size m) f.block (f.next + 1) b)) (plain_row by_ (slot_behind sel f.function f.block (take f.next b.ops)) op plain)
-                    (op_stands sel by f.function f.block f.next b row off stands op there) in
+            subst (λ m. Stands row off (m ++ rest_in sel by f.function (off + row_size m) f.block (f.next + 1) b)) (plain_row by_ (slot_behind sel f.function f.block (take f.next b.ops)) op plain)
+            (op_stands sel by f.function f.block f.next b row off stands op there) in
             subst Turned (sym e) (stops_at first (rest_in sel by f.function (off + row_size (all_unlinked first)) f.block (f.next + 1) b) Divide ending.Divide stood stops (omega (arith, few)) some refl refl)

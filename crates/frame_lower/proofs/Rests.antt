@@ -64,9 +64,9 @@ module _ (sel : Sel) (by : ℕ → Making) (g k n : ℕ) (b : SelBlock) (row : L
       let slot = slot_behind sel g k (take n b.ops) in
       let first = marked_op (by g) slot op in
       let split : rest_in sel by g at k n b ≡ first ++ rest_in sel by g (at + row_size first) k (n + 1) b =
-          ap (λ ops. rest_row (by g) (starts_in sel by g) at slot ops b.end) (drop_there b.ops n op there) ∙
-          rest_more (by g) (starts_in sel by g) at slot op (drop (n + 1) b.ops) b.end ∙
-          ap (λ s. first ++ rest_row (by g) (starts_in sel by g) (at + row_size first) s (drop (n + 1) b.ops) b.end) (slot_more sel g k n b op there) in
+      ap (λ ops. rest_row (by g) (starts_in sel by g) at slot ops b.end) (drop_there b.ops n op there) ∙
+      rest_more (by g) (starts_in sel by g) at slot op (drop (n + 1) b.ops) b.end ∙
+      ap (λ s. first ++ rest_row (by g) (starts_in sel by g) (at + row_size first) s (drop (n + 1) b.ops) b.end) (slot_more sel g k n b op there) in
       subst (Stands row at) split stands
 
   -- past the last one the end stands here

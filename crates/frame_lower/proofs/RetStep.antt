@@ -40,7 +40,8 @@ use Rattle.frame_lower.proofs.Leaving.{Leaves, leaves}
 use Rattle.frame_lower.proofs.OwnMemory.{contains_gone}
 use Rattle.frame_lower.proofs.PlainStep.{stack_same, Turned}
 use Rattle.frame_lower.proofs.Returning.{home_rsp, return_comes}
-use Rattle.frame_lower.proofs.Stage.{most_steps, state_of, flat_in, globals, last, Whole, Stage, A, B}
+use Rattle.frame_lower.specs.Meaning.{most_steps}
+use Rattle.frame_lower.proofs.Stage.{state_of, flat_in, globals, last, Whole, Stage, A, B}
 use Rattle.frame_lower.proofs.Taking.{LiveBeside, takes}
 
 -- the words of a frame in the stack
@@ -81,7 +82,7 @@ module _ (o : Object) (sel : Sel) (plan : Plan) (contents : List Content) (by : 
       (is_function : slice_get sel.functions f.function ≡ Some (function_in sel f.function)) (is_block : slice_get (function_in sel f.function).blocks f.block ≡ Some b)
       (stands : Stands (code_in sel by f.function) off (rest_in sel by f.function off f.block f.next b)) (whole : Tells f depth (z ∷ zs) (live f.function f.block f.next) bytes w ss)
       (first : List Instr) (w1 : Words) (runs : exec first (core_of w fl ss) ≡ Through (core_of w1 fl ss)) (few : length first ≤ 1) (same : Same w w1)
-          (closes : Stands (code_in sel by f.function) off (all_unlinked (first ++ leave_row (by f.function))))
+      (closes : Stands (code_in sel by f.function) off (all_unlinked (first ++ leave_row (by f.function))))
       (n : ℕ) (result : (r : ℕ) → f.into ≡ Some r → (w1.rax ≡ n) × (n < 2 ^ 64)) where
     abbrev s : SelState
     s = state_of f (z ∷ zs) bytes printed taken
@@ -199,7 +200,7 @@ module _ (o : Object) (sel : Sel) (plan : Plan) (contents : List Content) (by : 
         (comes_wider step (1 + (1 + m)) (20 + (1 + m)) 1 most_steps t0 t3 (omega arith) (omega (arith, some, long))
         (comes_join step 1 20 (1 + m) (1 + m) t0 t1 t3
         (return_comes o f.function (code_in sel by f.function) (suits.codes f.function _ is_function) out x (suits.five f.function) first off f.base w w1 fl ss entry.back closes few runs whole.stack (same.rsp ∙ whole.tied.at_base) l
-            h few_calls entry.way left)
+        h few_calls entry.way left)
         (comes_join step 1 1 m m t1 t2 t3 (comes_one step t1 t2 (entry.returns out (core_of w5 left.flags ss)))
         (subst (λ p. Comes step m m t2 (standing out (Place.Code z.function p) (core_of taking.after taking.flags taking.segments))) (sym here)
         (row_comes o z.function code (suits.codes z.function _ entry.is_function) out marked entry.offset (core_of w5 left.flags ss) (core_of taking.after taking.flags taking.segments)

@@ -90,5 +90,5 @@ module _ (o : Object) (g : ℕ) (row : List Marked) (is : IsFunction o g row) (o
       (row_comes o g row is out marked off (core_of w f ss) c1 (stands_first row off marked (unlinked Ret ∷ []) split) (ap (λ r. exec r (core_of w f ss)) (instrs_of-unlinked part) ∙ passed))
       (comes_one (symbolic_step o) t1 t2
       (returns o g row is out off1 c1 None (base + by.room + 40) way.word place (stands_behind row off marked (unlinked Ret ∷ []) split) there stack.disjoint
-          (stack.readable (base + by.room + 40) 8 (omega (arith, low)) (omega (arith, high)) (omega arith)) way.there way.small way.lands ∙
+      (stack.readable (base + by.room + 40) 8 (omega (arith, low)) (omega (arith, high)) (omega arith)) way.there way.small way.lands ∙
       ap (λ p. standing out place (core_of (record x.after { rsp = p }) x.flags ss)) up)))

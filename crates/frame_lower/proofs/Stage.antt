@@ -1,5 +1,5 @@
 -- The run of a program of registers and that of its object, side by side.
-use Rattle.std.proofs.Common.{◌≡◌, ℕ, zero, suc, ◌+◌, ◌^◌, List, [], ◌∷◌, length, drop, Option, Some, ◌∙◌, ap}
+use Rattle.std.proofs.Common.{◌≡◌, ℕ, zero, suc, ◌+◌, List, [], ◌∷◌, length, drop, Option, Some, ◌∙◌, ap}
 use Rattle.std.specs.Prelude.{get_or, slice_get}
 use Rattle.behavior.specs.Ending.{Going}
 use Rattle.behavior.specs.System.{System}
@@ -30,6 +30,7 @@ use Rattle.obj_rows.specs.Standing.{standing}
 use Rattle.frame_rows.specs.Words.{Words, core_of}
 use Rattle.frame_rows.specs.Ties.{Tied}
 use Rattle.frame_lower.specs.Chain.{HasRoom, no_function, function_in, code_in, rest_in, spans_of, own_of, IsOff, Chain}
+use Rattle.frame_lower.specs.Meaning.{most_steps}
 use Rattle.frame_lower.specs.Rows.{Making}
 use Rattle.frame_lower.specs.Suits.{Suits}
 
@@ -45,10 +46,6 @@ sel_system sel plan contents input = record {
 -- an object's machine as a system
 abbrev pub object_system : Object → System (State Place)
 object_system o = machine_system (λ _. symbolic_fetch o) (symbolic_land o)
-
--- the most steps that meet one step: those of the routine over the most bytes
-abbrev pub most_steps : ℕ
-most_steps = 2 ^ 65
 
 -- a state of a run that goes on in the first of its calls
 abbrev pub state_of : SelFrame → List SelFrame → Bytes → List ℕ → ℕ → SelState
@@ -122,7 +119,7 @@ module _ (o : Object) (sel : Sel) (plan : Plan) (contents : List Content) (by : 
       let s = state_of f callers bytes printed taken in
       let flat = flat_in (f ∷ callers) bytes in
       ap (λ x. sel_turned s (and_then (found_or Malformed x) (λ (g : SelFun). and_then (found_or Malformed (slice_get g.blocks f.block)) (λ (c : SelBlock). sel_turn_at sel plan flat input s f callers c (slice_get c.ops f.next)))))
-          is_function ∙
+      is_function ∙
       ap (λ x. sel_turned s (and_then (found_or Malformed x) (λ (c : SelBlock). sel_turn_at sel plan flat input s f callers c (slice_get c.ops f.next)))) is_block ∙
       ap (λ x. sel_turned s (sel_turn_at sel plan flat input s f callers b x)) there
 

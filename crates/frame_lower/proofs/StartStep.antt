@@ -40,7 +40,8 @@ use Rattle.frame_lower.proofs.Globals.{globals_off}
 use Rattle.frame_lower.proofs.OwnMemory.{one_more, contains_made}
 use Rattle.frame_lower.proofs.PlainStep.{stack_same}
 use Rattle.frame_lower.proofs.Sixteen.{words_of, words_again}
-use Rattle.frame_lower.proofs.Stage.{most_steps, state_of, flat_in, globals, last, function_is, Whole, Stage, A, B}
+use Rattle.frame_lower.specs.Meaning.{most_steps}
+use Rattle.frame_lower.proofs.Stage.{state_of, flat_in, globals, last, function_is, Whole, Stage, A, B}
 
 -- the words of the two arguments of the first function, where it has parameters
 record Given (params : List ℕ) (w : Words) : Type 0 where
@@ -151,13 +152,13 @@ module _ (o : Object) (sel : Sel) (plan : Plan) (contents : List Content) (by : 
       start.calls_left (omega arith) (omega (arith, top, e)) stack (omega (arith, m)) (omega (arith, e, none)) arguments.long arguments.small arguments.held
       (subst (λ vs. StandAt ss (lower + y.room + 48) vs) (sym arguments.none) tt)
       (λ ts shape outer.
-          contains_made stack_end 0 lower y.words (lower + 8 * y.words) callee.frame stack_end globals_ bytes0 (first_core o).segments ts (stack_same stack_start stack_end ss ts shape stack)
-              (shape_trans (first_core o).segments ss ts start.shape shape)
-          (omega (arith, m)) (omega arith) (omega (arith, e, rs)) (omega arith) (λ p i lo hi. elim (globals_off sel plan contents suits.fits p i) [ inl lt ↦ omega (arith, lt, lo) | inr le ↦ omega (arith, le, hi) ])
-          (λ p i. elim (globals_off sel plan contents suits.fits p i) [
-            | inl lt ↦ outer p (inl (omega (arith, lt, m))) ∙ start.others p (inl (omega (arith, lt)))
-            | inr le ↦ outer p (inr (omega (arith, le, e))) ∙ start.others p (inr le)
-          ]) suits.globals)
+      contains_made stack_end 0 lower y.words (lower + 8 * y.words) callee.frame stack_end globals_ bytes0 (first_core o).segments ts (stack_same stack_start stack_end ss ts shape stack)
+      (shape_trans (first_core o).segments ss ts start.shape shape)
+      (omega (arith, m)) (omega arith) (omega (arith, e, rs)) (omega arith) (λ p i lo hi. elim (globals_off sel plan contents suits.fits p i) [ inl lt ↦ omega (arith, lt, lo) | inr le ↦ omega (arith, le, hi) ])
+      (λ p i. elim (globals_off sel plan contents suits.fits p i) [
+        | inl lt ↦ outer p (inl (omega (arith, lt, m))) ∙ start.others p (inl (omega (arith, lt)))
+        | inr le ↦ outer p (inr (omega (arith, le, e))) ∙ start.others p (inr le)
+      ]) suits.globals)
 
   abbrev ts : List Segment
   ts = beginning.segments
@@ -167,8 +168,7 @@ module _ (o : Object) (sel : Sel) (plan : Plan) (contents : List Content) (by : 
       let e = base_is in
       let top = start.top in
       let p : w.rsp ≡ pushes_of o sel by globals_ live last_ new + 40 = omega (arith, e, top) in
-      let lands = start.lands in
-      (
+      let lands = start.lands in (
         omega (arith, e),
         record {
           word = lands.landing;
@@ -213,7 +213,7 @@ module _ (o : Object) (sel : Sel) (plan : Plan) (contents : List Content) (by : 
       let first : Comes step 1 few_steps t0 t2 = subst (λ c. Comes step 1 few_steps t0 (standing out (Place.Code g 0) c)) again start.comes in
       subst (λ a. Starts (A o sel plan contents by live suits input) (B o sel plan contents by live suits input) (Stage o sel plan contents by live suits input) most_steps a t0) (sym starts_at)
       (starts_by (A o sel plan contents by live suits input) (B o sel plan contents by live suits input) (Stage o sel plan contents by live suits input) (λ _. 0) most_steps most_steps (state_of new [] bytes2 [] 0) t0 t3
-          (record { printed = refl; taken = refl; ending = refl })
+      (record { printed = refl; taken = refl; ending = refl })
       (comes_wider step (1 + 1) (few_steps + 100) 0 most_steps t0 t3 (omega arith) (omega arith) (comes_join step 1 few_steps 1 100 t0 t2 t3 first beginning.comes))
       (inl (record {
         frame = new;

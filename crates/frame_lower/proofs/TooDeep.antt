@@ -36,7 +36,8 @@ use Rattle.frame_lower.proofs.Entered.{planned}
 use Rattle.frame_lower.proofs.Facts.{function_shaped}
 use Rattle.frame_lower.proofs.Front.{stands0}
 use Rattle.frame_lower.proofs.PlainStep.{Turned}
-use Rattle.frame_lower.proofs.Stage.{most_steps, state_of, flat_in, globals, last, Whole, Stage, A, B}
+use Rattle.frame_lower.specs.Meaning.{most_steps}
+use Rattle.frame_lower.proofs.Stage.{state_of, flat_in, globals, last, Whole, Stage, A, B}
 
 module _ (o : Object) (sel : Sel) (plan : Plan) (contents : List Content) (by : ℕ → Making) (live : ℕ → ℕ → ℕ → ℕ → Type 0) (suits : Suits o sel plan contents by live) (input : List ℕ) where
   abbrev Tells : SelFrame → ℕ → List SelFrame → (ℕ → Type 0) → Bytes → Words → List Segment → Type 0
@@ -65,7 +66,7 @@ module _ (o : Object) (sel : Sel) (plan : Plan) (contents : List Content) (by : 
       (stands : Stands (code_in sel by f.function) off (rest_in sel by f.function off f.block f.next b)) (whole : Tells f depth callers (live f.function f.block f.next) bytes w ss)
       (into : Option ℕ) (g : ℕ) (is_callee : slice_get sel.functions g ≡ Some (function_in sel g)) (ns : List ℕ) (w2 : Words) (fl1 : Flags) (ss2 : List Segment) (same : w2.r15 ≡ w.r15)
       (comes : Comes step 1 200 (standing (record { left = drop taken input; printed = printed; taken = taken }) (Place.Code f.function off) (core_of w fl ss))
-          (standing (record { left = drop taken input; printed = printed; taken = taken }) (Place.Code g 0) (core_of w2 fl1 ss2))) where
+      (standing (record { left = drop taken input; printed = printed; taken = taken }) (Place.Code g 0) (core_of w2 fl1 ss2))) where
     abbrev s : SelState
     s = state_of f callers bytes printed taken
 
@@ -103,8 +104,8 @@ module _ (o : Object) (sel : Sel) (plan : Plan) (contents : List Content) (by : 
         let part = all_unlinked count_row in
         let u = iter step 3 t1 in
         let m : moment_of u ≡ shown out ending.Breakpoint =
-            row_stops o g code (suits.codes g callee is_callee) out part 0 (core_of w2 fl1 ss2) ending.Breakpoint
-            (stands_first code 0 part _ (stands0 o sel plan contents by live suits g 0 0 out ns (live g 0 0) (flat_in o sel plan contents by live suits input (f ∷ callers) bytes) w fl ss first_block.0 is_callee first_block.1)) c.stops in
+        row_stops o g code (suits.codes g callee is_callee) out part 0 (core_of w2 fl1 ss2) ending.Breakpoint
+        (stands_first code 0 part _ (stands0 o sel plan contents by live suits g 0 0 out ns (live g 0 0) (flat_in o sel plan contents by live suits input (f ∷ callers) bytes) w fl ss first_block.0 is_callee first_block.1)) c.stops in
         let stop : Comes step 3 3 t1 u = record { count = 3; low = omega arith; high = omega arith; arrives = refl } in
         subst (λ q. Turned_ (if q then Err Depth else Ok (record { frames = new ∷ sel_step.past_op f ∷ callers; bytes = forgotten bytes new.own.start new.own.size; exchange = Nothing }))) (sym full)
         (inr (met_by A_ B_ Stage_ (λ _. 0) most_steps s (sel_turned s (Err Depth)) t0 u
