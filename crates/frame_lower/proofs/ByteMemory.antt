@@ -19,7 +19,8 @@ use Rattle.x86_core.specs.Data.{stack_bytes, data_segments, unless_empty, segmen
 use Rattle.x86_core.specs.Effect.{effect_of}
 use Rattle.x86_core.specs.Registers.{word}
 use Rattle.x86_core.specs.Memory.{writes, covers, read_at, write_at, with_bytes, behind}
-use Rattle.x86_core.specs.Step.{State, Fetched, Stops, Plain, Goes, Tests, Calls, Returns, Follows, CallsWord, Systems, size_bytes, after_read, after_write, by_access, by_change, tested, landed, returned, below, called, called_word, after_print, after_take, next_byte, Request, Exits, Idles, Prints, Takes, Unknowns, request_of, served, act, step_of}
+use Rattle.x86_core.specs.Step.{State, Fetched, Stops, Plain, Goes, Tests, Calls, Returns, Follows, CallsWord, Systems, Request, Exits, Idles, Prints, Takes, Unknowns}
+use Rattle.x86_core.specs.Step.{size_bytes, after_read, after_write, by_access, by_change, tested, landed, returned, below, called, called_word, after_print, after_take, next_byte, request_of, served, act, step_of}
 use Rattle.x86_rows.specs.Addresses.{byte_at}
 
 -- parts of bytes are bytes
@@ -71,7 +72,8 @@ behind_bytes : (s : Segment) (x : Option (List Segment)) → AreBytes s.bytes �
 behind_bytes s None h k = tt
 behind_bytes s (Some ss) h k = (h, k)
 
-write_by : (s : Segment) (ss : List Segment) (at : ℕ) (bs : List ℕ) (t : Bool) (rest : Option (List Segment)) → AreBytes s.bytes → HoldBytes ss → AreBytes bs → StillBytes rest → StillBytes (if t then Some (with_bytes s at bs ∷ ss) else rest)
+write_by : (s : Segment) (ss : List Segment) (at : ℕ) (bs : List ℕ) (t : Bool) (rest : Option (List Segment)) → AreBytes s.bytes → HoldBytes ss → AreBytes bs → StillBytes rest →
+    StillBytes (if t then Some (with_bytes s at bs ∷ ss) else rest)
 write_by s ss at bs true rest h k g r = (append_bytes _ _ (take_bytes (at - s.start) s.bytes h) (append_bytes bs _ g (drop_bytes (at - s.start + length bs) s.bytes h)), k)
 write_by s ss at bs false rest h k g r = r
 
@@ -173,7 +175,8 @@ module _ {P : Type 0} where
     steps_fine (suc count) s h = steps_fine count (step_of fetch land s) (step_fine s h)
 
 -- a step that is met from a fine state comes to a fine state
-pub met_fine : {S P : Type 0} (A : System S) (B : System (State P)) (R : S → State P → Type 0) (weight : S → ℕ) (cost : ℕ) → ((count : ℕ) (s : State P) → IsFine s → IsFine (iter B.step count s)) → (a a2 : S) (b : State P) → IsFine b → Met A B R weight cost a a2 b →
+pub met_fine : {S P : Type 0} (A : System S) (B : System (State P)) (R : S → State P → Type 0) (weight : S → ℕ) (cost : ℕ) →
+    ((count : ℕ) (s : State P) → IsFine s → IsFine (iter B.step count s)) → (a a2 : S) (b : State P) → IsFine b → Met A B R weight cost a a2 b →
     Met A B (λ s t. R s t × IsFine t) weight cost a a2 b
 met_fine A B R weight cost fine a a2 b h m = record { count = m.count; within = m.within; moves = m.moves; lands = elim m.lands [ inl r ↦ inl (r, fine m.count b h) | inr stopped ↦ inr stopped ] }
 

@@ -113,7 +113,8 @@ pub record LeavesMeaning {T : Type 0} (answer : Answer T) : Type 0 where
   pub reason : Reason
   pub is : answer ≡ Err (Left reason)
 
-pub copy_cases : (flat : Flat) (to from n : ℕ) → ((n ≡ 0) × (copied flat to from n ≡ Ok flat.bytes)) ⊎ (Copies flat.spans to from n × (copied flat to from n ≡ Ok (with_bytes flat.bytes to (bytes_from flat.bytes from n)))) ⊎ LeavesMeaning (copied flat to from n)
+pub copy_cases : (flat : Flat) (to from n : ℕ) → ((n ≡ 0) × (copied flat to from n ≡ Ok flat.bytes)) ⊎
+    (Copies flat.spans to from n × (copied flat to from n ≡ Ok (with_bytes flat.bytes to (bytes_from flat.bytes from n)))) ⊎ LeavesMeaning (copied flat to from n)
 copy_cases flat to from n = elim (cases_eq n 0) [
   | inl none ↦ inl (none, chosen (nat_eq n 0) (Ok flat.bytes) tested (eq-eqb n 0 none))
   | inr some ↦
@@ -144,7 +145,8 @@ copy_cases flat to from n = elim (cases_eq n 0) [
     tested : Answer Bytes
     tested = if is_inside from n flat.spans then second else Err (Left Bounds)
 
-pub fill_cases : (flat : Flat) (to b n : ℕ) → ((n ≡ 0) × (filled flat to b n ≡ Ok flat.bytes)) ⊎ ((is_writable to n flat.spans ≡ true) × (filled flat to b n ≡ Ok (with_bytes flat.bytes to (replicate n (Some b))))) ⊎ LeavesMeaning (filled flat to b n)
+pub fill_cases : (flat : Flat) (to b n : ℕ) → ((n ≡ 0) × (filled flat to b n ≡ Ok flat.bytes)) ⊎
+    ((is_writable to n flat.spans ≡ true) × (filled flat to b n ≡ Ok (with_bytes flat.bytes to (replicate n (Some b))))) ⊎ LeavesMeaning (filled flat to b n)
 fill_cases flat to b n = elim (cases_eq n 0) [
   | inl none ↦ inl (none, chosen (nat_eq n 0) (Ok flat.bytes) tested (eq-eqb n 0 none))
   | inr some ↦

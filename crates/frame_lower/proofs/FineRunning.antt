@@ -87,7 +87,8 @@ module _ (o : Object) (sel : Sel) (plan : Plan) (contents : List Content) (by : 
         let from = state_of stage.frame stage.callers stage.bytes stage.printed stage.taken in
         subst (λ x. Follows_ x t) (sym stage.source)
         (subst (λ x. Follows_ from x) (sym stage.target)
-        (turns stage.frame stage.callers stage.bytes stage.printed stage.taken stage.depth stage.words stage.flags stage.segments stage.offset stage.here stage.is_function stage.is_block stage.stands stage.whole (subst IsFine stage.target both.1)))
+        (turns stage.frame stage.callers stage.bytes stage.printed stage.taken stage.depth stage.words stage.flags stage.segments stage.offset stage.here
+        stage.is_function stage.is_block stage.stands stage.whole (subst IsFine stage.target both.1)))
 
     shown_so : (a : SelState) (t : State Place) → Stage_ a t → Agrees (sel_moment a) (moment_of t)
     shown_so a t stage =
@@ -125,8 +126,12 @@ module _ (o : Object) (sel : Sel) (plan : Plan) (contents : List Content) (by : 
   module _ (ro : AreBytes o.ro) (rw : AreBytes o.rw) where
     pub keeps : Preserves (sel_run sel plan contents) (symbolic_behavior o)
     unfolding sel_run
-    keeps = simulates (sel_system sel plan contents) (λ input. object_system o) (λ _. sel_start sel plan contents) (symbolic_start o) FineStage (λ _ _. 0) most_steps most_steps (λ input are. fine_follows input) (λ input are. fine_starts input ro rw are)
+    keeps =
+        simulates (sel_system sel plan contents) (λ input. object_system o) (λ _. sel_start sel plan contents) (symbolic_start o) FineStage (λ _ _. 0) most_steps most_steps
+        (λ input are. fine_follows input) (λ input are. fine_starts input ro rw are)
 
     pub keeps_within : ReachesWithin most_steps most_steps (sel_run sel plan contents) (symbolic_behavior o)
     unfolding sel_run
-    keeps_within = simulates_within (sel_system sel plan contents) (λ input. object_system o) (λ _. sel_start sel plan contents) (symbolic_start o) FineStage (λ _ _. 0) most_steps most_steps (λ input are. fine_follows input) (λ input are. fine_starts input ro rw are)
+    keeps_within =
+        simulates_within (sel_system sel plan contents) (λ input. object_system o) (λ _. sel_start sel plan contents) (symbolic_start o) FineStage (λ _ _. 0) most_steps most_steps
+        (λ input are. fine_follows input) (λ input are. fine_starts input ro rw are)

@@ -66,7 +66,8 @@ routine_row by k Memcpy into args is = refl
 routine_row by k Memset into args is = refl
 routine_row by k outer.Trap into args is = absurd is
 
-routine_slot : (o : Object) (count k : ℕ) (place : Place) (which : Which) (into : Option ℕ) (args : List ℕ) → IsRoutine which → HasSlot o count k place (op.Outside which into args) → GoesBackTo o k (λ back. Slot.Call (count + routine_place which) back) place
+routine_slot : (o : Object) (count k : ℕ) (place : Place) (which : Which) (into : Option ℕ) (args : List ℕ) → IsRoutine which → HasSlot o count k place (op.Outside which into args) →
+    GoesBackTo o k (λ back. Slot.Call (count + routine_place which) back) place
 routine_slot o count k place Putchar into args is has = has
 routine_slot o count k place Getchar into args is has = has
 routine_slot o count k place Exit into args is has = has
@@ -99,7 +100,8 @@ module _ (o : Object) (sel : Sel) (plan : Plan) (contents : List Content) (by : 
     none : length (drop 6 args) ≡ 0
     none = let l = length-drop 6 args in omega (arith, l, few)
 
-    is_row : marked_op x (slot o sel plan contents by live suits f off b is_function is_block stands (op.Outside which into args) there) (op.Outside which into args) ≡ call_row x.homes [] (slot o sel plan contents by live suits f off b is_function is_block stands (op.Outside which into args) there) into args
+    is_row : marked_op x (slot o sel plan contents by live suits f off b is_function is_block stands (op.Outside which into args) there) (op.Outside which into args) ≡
+        call_row x.homes [] (slot o sel plan contents by live suits f off b is_function is_block stands (op.Outside which into args) there) into args
     is_row = routine_row x _ which into args is
 
     short : length args ≤ 32
@@ -113,14 +115,17 @@ module _ (o : Object) (sel : Sel) (plan : Plan) (contents : List Content) (by : 
     offset = jump_at o sel plan contents by live suits f off b is_function is_block stands (op.Outside which into args) there [] into args is_row short (lit≤ tt) + 5
 
     goes_back : GoesBackTo o k (λ back. Slot.Call h back) (Place.Code f.function offset)
-    goes_back = routine_slot o (length sel.functions) k (Place.Code f.function offset) which into args is (has_slot o sel plan contents by live suits f off b is_function is_block stands (op.Outside which into args) there [] into args is_row short (lit≤ tt))
+    goes_back =
+        routine_slot o (length sel.functions) k (Place.Code f.function offset) which into args is
+        (has_slot o sel plan contents by live suits f off b is_function is_block stands (op.Outside which into args) there [] into args is_row short (lit≤ tt))
 
     module _ (ns : List ℕ) (have : HaveWords f.registers args ns) where
       passed : Passes x.homes f.base x.words (live f.function f.block f.next) f.registers (flat_in o sel plan contents by live suits input (f ∷ callers) bytes) args ns w fl ss
       passed =
           let n = none in
           let a = (suits.allotted f.function _ is_function).ops f.block f.next b (op.Outside which into args) is_block there in
-          passes x.homes f.base x.words (live f.function f.block f.next) f.registers (flat_in o sel plan contents by live suits input (f ∷ callers) bytes) args ns w fl ss (omega (arith, n)) (λ z j l lt. absurd (omega (arith, n, lt))) a.reads have whole.tied
+          passes x.homes f.base x.words (live f.function f.block f.next) f.registers (flat_in o sel plan contents by live suits input (f ∷ callers) bytes) args ns w fl ss
+          (omega (arith, n)) (λ z j l lt. absurd (omega (arith, n, lt))) a.reads have whole.tied
 
       none_passed : length (drop 6 ns) ≡ 0
       none_passed = let l = length-drop 6 ns in let m = have_long f.registers args ns have in omega (arith, l, m, few)

@@ -124,7 +124,8 @@ module _ (o : Object) (sel : Sel) (plan : Plan) (contents : List Content) (by : 
           below_end = let a = c.above in let h = chain_high o sel by globals_ live last_ callers c.before f depth c.whole.chain in omega (arith, a, h)
 
       -- it came back, and what it did is what the operation does
-      module _ (op : SelOp) (there : slice_get b.ops f.next ≡ Some op) (is_into : assigns_of op ≡ into) (bytes2 : Bytes) (printed2 : List ℕ) (taken2 : ℕ) (out2 : Outside) (same : out2 ≡ record { left = drop taken2 input; printed = printed2; taken = taken2 })
+      module _ (op : SelOp) (there : slice_get b.ops f.next ≡ Some op) (is_into : assigns_of op ≡ into) (bytes2 : Bytes) (printed2 : List ℕ) (taken2 : ℕ)
+          (out2 : Outside) (same : out2 ≡ record { left = drop taken2 input; printed = printed2; taken = taken2 })
           (at : ℕ) (bs : List ℕ) (changed : Changed spans bytes bytes2 at bs) (most : ℕ) (few : most ≤ 2 ^ 64 + 64) (answer : Option ℕ) (back : ComesBack o h most core out out2 (Place.Slot c.slot 5) answer at bs)
           (n : ℕ) (result : (r : ℕ) → into ≡ Some r → ((words_of back.core.regs).rax ≡ n) × (n < 2 ^ 64)) where
         abbrev v : Words
@@ -146,14 +147,17 @@ module _ (o : Object) (sel : Sel) (plan : Plan) (contents : List Content) (by : 
         g = moved_to o sel by globals_ live last_ f f.block (f.next + 1) registers
 
         returned : Tells f depth callers alive bytes2 v ts
-        returned = whole_back o sel plan contents by live suits input f depth callers alive _ is_function bytes bytes2 c.words c.before c.whole c.top c.above c.flags c.segments c.shape c.outside at bs changed h most out out2 (Place.Slot c.slot 5) answer back
+        returned =
+            whole_back o sel plan contents by live suits input f depth callers alive _ is_function bytes bytes2 c.words c.before c.whole c.top c.above c.flags c.segments c.shape c.outside
+            at bs changed h most out out2 (Place.Slot c.slot 5) answer back
 
         -- the result goes home
         leads : Leads x.homes f.base x.words (take_row x.homes into) v back.core.flags ts after registers (flat_in o sel plan contents by live suits input (f ∷ callers) bytes2)
         leads =
             let a = (suits.allotted f.function _ is_function).ops f.block f.next b op is_block there in
             takes x.homes f.base x.words after into f.registers (flat_in o sel plan contents by live suits input (f ∷ callers) bytes2) v back.core.flags ts n (λ y r e l ne. a.apart y r (is_into ∙ e) l ne) result
-            (tied_fewer x.homes f.base x.words alive (LiveBeside x.homes f.base x.words after into) f.registers (flat_in o sel plan contents by live suits input (f ∷ callers) bytes2) v ts (λ y l. a.stays y l.0 (λ e. l.1 (sym is_into ∙ e))) returned.tied)
+            (tied_fewer x.homes f.base x.words alive (LiveBeside x.homes f.base x.words after into) f.registers (flat_in o sel plan contents by live suits input (f ∷ callers) bytes2) v ts
+            (λ y l. a.stays y l.0 (λ e. l.1 (sym is_into ∙ e))) returned.tied)
 
         abbrev part : List Marked
         part = all_unlinked (take_row x.homes into)
@@ -174,7 +178,8 @@ module _ (o : Object) (sel : Sel) (plan : Plan) (contents : List Content) (by : 
             let long = length-unlinked (take_row x.homes into) in
             let m = length part in
             let row = row_comes o f.function (code_in sel by f.function) (suits.codes f.function _ is_function) out2 part c.offset (core_of v back.core.flags ts) (core_of leads.after leads.flags leads.segments)
-            (stands_first (code_in sel by f.function) c.offset part (rest_in sel by f.function off2 f.block (f.next + 1) b) c.stands) (ap (λ is. exec is (core_of v back.core.flags ts)) (instrs_of-unlinked (take_row x.homes into)) ∙ leads.runs) in
+            (stands_first (code_in sel by f.function) c.offset part (rest_in sel by f.function off2 f.block (f.next + 1) b) c.stands)
+            (ap (λ is. exec is (core_of v back.core.flags ts)) (instrs_of-unlinked (take_row x.homes into)) ∙ leads.runs) in
             comes_wider step (1 + (1 + (1 + m))) (200 + (most + (1 + m))) 1 most_steps t0 u (omega arith) (omega (arith, few, count, long))
             (comes_join step 1 200 (1 + (1 + m)) (most + (1 + m)) t0 t1 u c.comes
             (comes_join step 1 most (1 + m) (1 + m) t1 t2 u back.comes

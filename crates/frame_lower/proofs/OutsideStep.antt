@@ -108,7 +108,8 @@ module _ (o : Object) (sel : Sel) (plan : Plan) (contents : List Content) (by : 
         let back = suits.routines.putchar (core_ h into (n ∷ []) c) out (Place.Slot c.slot 5) (called_is h into (n ∷ []) c) in
         let is = c.held.0 in
         inr (routine_met o sel plan contents by live suits input f callers bytes printed taken depth w fl ss off b is_function is_block h into (n ∷ []) c (Outside Putchar into args) there refl bytes (printed ++ (n % 256) ∷ []) taken _
-        (ap (λ m. let r : world.Outside = record { left = drop taken input; printed = printed ++ (m % 256) ∷ []; taken = taken } in r) is) 0 [] (unchanged spans bytes) few_steps (omega arith) _ back (n % 256) (λ r e. (back.answers ∙ ap (λ m. m % 256) is, omega arith)))
+        (ap (λ m. let r : world.Outside = record { left = drop taken input; printed = printed ++ (m % 256) ∷ []; taken = taken } in r) is)
+        0 [] (unchanged spans bytes) few_steps (omega arith) _ back (n % 256) (λ r e. (back.answers ∙ ap (λ m. m % 256) is, omega arith)))
 
     -- a byte is taken, or there is none
     takes : (into : Option ℕ) (args : List ℕ) → slice_get b.ops f.next ≡ Some (Outside Getchar into args) → HaveWords f.registers args [] → (q : Option ℕ) → slice_get input taken ≡ q → Turned_ (takes_byte s f callers into q)
@@ -151,7 +152,8 @@ module _ (o : Object) (sel : Sel) (plan : Plan) (contents : List Content) (by : 
     -- a trap
     traps : (into : Option ℕ) (args : List ℕ) → slice_get b.ops f.next ≡ Some (Outside outer.Trap into args) → Turned_ (Err stop.Trap)
     traps into args there =
-        stops_at o sel plan contents by live suits input f callers bytes printed taken depth w fl ss off b is_function is_block stands whole (Ud2 ∷ []) (rest_in sel by f.function (off + row_size (unlinked Ud2 ∷ [])) f.block (f.next + 1) b) stop.Trap ending.Invalid
+        stops_at o sel plan contents by live suits input f callers bytes printed taken depth w fl ss off b is_function is_block stands whole
+        (Ud2 ∷ []) (rest_in sel by f.function (off + row_size (unlinked Ud2 ∷ [])) f.block (f.next + 1) b) stop.Trap ending.Invalid
         (op_stands sel by f.function f.block f.next b (code_in sel by f.function) off stands (Outside outer.Trap into args) there) (ap (λ r. and_on r (exec [])) (ud2 (core_of w fl ss))) (omega arith) (omega arith) refl refl
 
     -- bytes are copied
@@ -172,14 +174,19 @@ module _ (o : Object) (sel : Sel) (plan : Plan) (contents : List Content) (by : 
             let rdx : n ≡ c.words.rdx = sym held.1.1.0 in
             let few : c.words.rdx < 2 ^ 64 = subst (λ m. m < 2 ^ 64) rdx small in
             let may2 : 1 ≤ c.words.rdx → MayCopy (core_ (length sel.functions + 4) None (to ∷ from ∷ n ∷ []) c) c.words.rdi c.words.rsi c.words.rdx =
-            subst (λ m. 1 ≤ m → MayCopy (core_ (length sel.functions + 4) None (to ∷ from ∷ n ∷ []) c) c.words.rdi c.words.rsi m) rdx (subst (λ q. 1 ≤ n → MayCopy (core_ (length sel.functions + 4) None (to ∷ from ∷ n ∷ []) c) c.words.rdi q n) rsi (subst (λ p. 1 ≤ n → MayCopy (core_ (length sel.functions + 4) None (to ∷ from ∷ n ∷ []) c) p from n) rdi may)) in
+            subst (λ m. 1 ≤ m → MayCopy (core_ (length sel.functions + 4) None (to ∷ from ∷ n ∷ []) c) c.words.rdi c.words.rsi m) rdx
+            (subst (λ q. 1 ≤ n → MayCopy (core_ (length sel.functions + 4) None (to ∷ from ∷ n ∷ []) c) c.words.rdi q n) rsi
+            (subst (λ p. 1 ≤ n → MayCopy (core_ (length sel.functions + 4) None (to ∷ from ∷ n ∷ []) c) p from n) rdi may)) in
             let changed2 : Changed spans bytes bytes2 c.words.rdi (range_at c.segments c.words.rsi c.words.rdx) =
-            subst (λ m. Changed spans bytes bytes2 c.words.rdi (range_at c.segments c.words.rsi m)) rdx (subst (λ q. Changed spans bytes bytes2 c.words.rdi (range_at c.segments q n)) rsi (subst (λ p. Changed spans bytes bytes2 p (range_at c.segments from n)) rdi changed)) in
+            subst (λ m. Changed spans bytes bytes2 c.words.rdi (range_at c.segments c.words.rsi m)) rdx
+            (subst (λ q. Changed spans bytes bytes2 c.words.rdi (range_at c.segments q n)) rsi (subst (λ p. Changed spans bytes bytes2 p (range_at c.segments from n)) rdi changed)) in
             let back = suits.routines.memcpy (core_ (length sel.functions + 4) None (to ∷ from ∷ n ∷ []) c) out (Place.Slot c.slot 5) (called_is (length sel.functions + 4) None (to ∷ from ∷ n ∷ []) c) may2 in
-            inr (routine_met o sel plan contents by live suits input f callers bytes printed taken depth w fl ss off b is_function is_block (length sel.functions + 4) None (to ∷ from ∷ n ∷ []) c (Outside Memcpy None args) there refl bytes2 printed taken _ refl
+            inr (routine_met o sel plan contents by live suits input f callers bytes printed taken depth w fl ss off b is_function is_block (length sel.functions + 4) None (to ∷ from ∷ n ∷ []) c
+            (Outside Memcpy None args) there refl bytes2 printed taken _ refl
             c.words.rdi _ changed2 (range_steps c.words.rdx) (omega (arith, few)) _ back 0 (λ r e. absurd (cc)))
 
-        by_cases : ((n ≡ 0) × (copied flat to from n ≡ Ok bytes)) ⊎ (Copies spans to from n × (copied flat to from n ≡ Ok (with_bytes bytes to (bytes_from bytes from n)))) ⊎ LeavesMeaning (copied flat to from n) → Turned_ (puts_bytes f callers (copied flat to from n))
+        by_cases : ((n ≡ 0) × (copied flat to from n ≡ Ok bytes)) ⊎
+            (Copies spans to from n × (copied flat to from n ≡ Ok (with_bytes bytes to (bytes_from bytes from n)))) ⊎ LeavesMeaning (copied flat to from n) → Turned_ (puts_bytes f callers (copied flat to from n))
         by_cases (inl p) =
             let none = p.0 in
             let l = range_length c.segments from n in
@@ -207,14 +214,20 @@ module _ (o : Object) (sel : Sel) (plan : Plan) (contents : List Content) (by : 
             let rsi : m ≡ c.words.rsi = sym held.1.0 in
             let rdx : n ≡ c.words.rdx = sym held.1.1.0 in
             let few : c.words.rdx < 2 ^ 64 = subst (λ k. k < 2 ^ 64) rdx small in
-            let may2 : 1 ≤ c.words.rdx → IsLent writes (core_ (length sel.functions + 5) None (to ∷ m ∷ n ∷ []) c) c.words.rdi c.words.rdx = subst (λ k. 1 ≤ k → IsLent writes (core_ (length sel.functions + 5) None (to ∷ m ∷ n ∷ []) c) c.words.rdi k) rdx (subst (λ p. 1 ≤ n → IsLent writes (core_ (length sel.functions + 5) None (to ∷ m ∷ n ∷ []) c) p n) rdi may) in
+            let may2 : 1 ≤ c.words.rdx → IsLent writes (core_ (length sel.functions + 5) None (to ∷ m ∷ n ∷ []) c) c.words.rdi c.words.rdx =
+            subst (λ k. 1 ≤ k → IsLent writes (core_ (length sel.functions + 5) None (to ∷ m ∷ n ∷ []) c) c.words.rdi k) rdx
+            (subst (λ p. 1 ≤ n → IsLent writes (core_ (length sel.functions + 5) None (to ∷ m ∷ n ∷ []) c) p n) rdi may) in
             let changed2 : Changed spans bytes bytes2 c.words.rdi (replicate c.words.rdx (c.words.rsi % 256)) =
-            subst (λ k. Changed spans bytes bytes2 c.words.rdi (replicate k (c.words.rsi % 256))) rdx (subst (λ q. Changed spans bytes bytes2 c.words.rdi (replicate n (q % 256))) rsi (subst (λ p. Changed spans bytes bytes2 p (replicate n (m % 256))) rdi changed)) in
+            subst (λ k. Changed spans bytes bytes2 c.words.rdi (replicate k (c.words.rsi % 256))) rdx
+            (subst (λ q. Changed spans bytes bytes2 c.words.rdi (replicate n (q % 256))) rsi (subst (λ p. Changed spans bytes bytes2 p (replicate n (m % 256))) rdi changed)) in
             let back = suits.routines.memset (core_ (length sel.functions + 5) None (to ∷ m ∷ n ∷ []) c) out (Place.Slot c.slot 5) (called_is (length sel.functions + 5) None (to ∷ m ∷ n ∷ []) c) may2 in
-            inr (routine_met o sel plan contents by live suits input f callers bytes printed taken depth w fl ss off b is_function is_block (length sel.functions + 5) None (to ∷ m ∷ n ∷ []) c (Outside Memset None args) there refl bytes2 printed taken _ refl
+            inr (routine_met o sel plan contents by live suits input f callers bytes printed taken depth w fl ss off b is_function is_block (length sel.functions + 5) None (to ∷ m ∷ n ∷ []) c
+            (Outside Memset None args) there refl bytes2 printed taken _ refl
             c.words.rdi _ changed2 (range_steps c.words.rdx) (omega (arith, few)) _ back 0 (λ r e. absurd (cc)))
 
-        by_cases : ((n ≡ 0) × (filled flat to (m % 256) n ≡ Ok bytes)) ⊎ ((is_writable to n spans ≡ true) × (filled flat to (m % 256) n ≡ Ok (with_bytes bytes to (replicate n (Some (m % 256)))))) ⊎ LeavesMeaning (filled flat to (m % 256) n) → Turned_ (puts_bytes f callers (filled flat to (m % 256) n))
+        by_cases : ((n ≡ 0) × (filled flat to (m % 256) n ≡ Ok bytes)) ⊎
+            ((is_writable to n spans ≡ true) × (filled flat to (m % 256) n ≡ Ok (with_bytes bytes to (replicate n (Some (m % 256)))))) ⊎
+            LeavesMeaning (filled flat to (m % 256) n) → Turned_ (puts_bytes f callers (filled flat to (m % 256) n))
         by_cases (inl p) =
             let none = p.0 in
             subst (λ q. Turned_ (puts_bytes f callers q)) (sym p.1) (by_back bytes (λ some. absurd (omega (arith, none, some))) (none_changed spans bytes to (replicate n (m % 256)) (ap (λ k. length (replicate k (m % 256))) none)))

@@ -86,8 +86,8 @@ module _ (homes : ℕ → Spot) (base words : ℕ) (live : ℕ → Type 0) (regi
     shape : SameShape ss segments
     outside : (p : ℕ) → (p < base + 8 * k) ⊎ (base + 8 * (k + length ns) ≤ p) → byte_at segments p ≡ byte_at ss p
 
-  stacks : (args ns : List ℕ) (k : ℕ) (w : Words) (f : Flags) (ss : List Segment) → k + length args ≤ words → ((x j : ℕ) → live x → j < k + length args → Differ (homes x) (Frame j)) → ((x : ℕ) → IsOneOf x args → live x) → HaveWords registers args ns →
-      Ties w ss → Stacked k args ns w f ss
+  stacks : (args ns : List ℕ) (k : ℕ) (w : Words) (f : Flags) (ss : List Segment) → k + length args ≤ words → ((x j : ℕ) → live x → j < k + length args → Differ (homes x) (Frame j)) →
+      ((x : ℕ) → IsOneOf x args → live x) → HaveWords registers args ns → Ties w ss → Stacked k args ns w f ss
   stacks [] [] k w f ss fit free used have tied = record { after = w; segments = ss; runs = λ behind. refl; tied = tied; same = same_refl w; stand = tt; shape = shape_refl ss; outside = λ p o. refl }
   stacks [] (n ∷ ns) k w f ss fit free used have tied = absurd have
   stacks (a ∷ args) [] k w f ss fit free used have tied = absurd have
@@ -105,7 +105,8 @@ module _ (homes : ℕ → Spot) (base words : ℕ) (live : ℕ → Type 0) (regi
         after = x.after;
         segments = x.segments;
         runs = λ behind.
-            exec-first (home_read (homes a) Rax) (home_write (Frame k) Rax ∷ (into_words homes (k + 1) args ++ behind)) (core_of w f ss) (core_of w1 f ss) (reads_one homes base words live registers flat w f ss tied a n Rax (used a (inl refl)) have.0) ∙
+            exec-first (home_read (homes a) Rax) (home_write (Frame k) Rax ∷ (into_words homes (k + 1) args ++ behind)) (core_of w f ss) (core_of w1 f ss)
+            (reads_one homes base words live registers flat w f ss tied a n Rax (used a (inl refl)) have.0) ∙
             exec-first (home_write (Frame k) Rax) (into_words homes (k + 1) args ++ behind) (core_of w1 f ss) (core_of w1 f y.segments) y.runs ∙ x.runs behind;
         tied = x.tied;
         same = same_trans w w1 x.after same1 x.same;
@@ -145,7 +146,8 @@ module _ (homes : ℕ → Spot) (base words : ℕ) (live : ℕ → Type 0) (regi
     pub shape : SameShape ss segments
     pub outside : (p : ℕ) → (p < base) ⊎ (base + 8 * length (drop 6 ns) ≤ p) → byte_at segments p ≡ byte_at ss p
 
-  pub passes : (args ns : List ℕ) (w : Words) (f : Flags) (ss : List Segment) → length (drop 6 args) ≤ words → ((x j : ℕ) → live x → j < length (drop 6 args) → Differ (homes x) (Frame j)) → ((x : ℕ) → IsOneOf x args → live x) → HaveWords registers args ns →
+  pub passes : (args ns : List ℕ) (w : Words) (f : Flags) (ss : List Segment) → length (drop 6 args) ≤ words → ((x j : ℕ) → live x → j < length (drop 6 args) → Differ (homes x) (Frame j)) →
+      ((x : ℕ) → IsOneOf x args → live x) → HaveWords registers args ns →
       Tied homes base words live registers flat w ss → Passes args ns w f ss
   passes args ns w f ss fit free used have tied =
       let extra = drop 6 args in

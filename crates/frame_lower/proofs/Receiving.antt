@@ -64,8 +64,8 @@ module _ (homes : ℕ → Spot) (base words : ℕ) (spots : (x : ℕ) → IsHome
   none_houses ns w f ss room at = record { after = w; segments = ss; runs = λ behind. refl; room = room; at_base = at; depth = refl; home = tt; others = λ g m is differ keeps. keeps; shape = shape_refl ss; outside = λ p o. refl }
 
   -- from registers
-  from_six : (ts : List Reg) (params ns : List ℕ) (w : Words) (f : Flags) (ss : List Segment) → AreScratch ts → HomesApart homes (firsts ts params) → length ns ≡ length params → AreSmall ns → AreHeld w ts ns → Room base words ss → w.rsp ≡ base →
-      Houses (from_registers homes ts params) (firsts ts params) (firsts ts ns) w f ss
+  from_six : (ts : List Reg) (params ns : List ℕ) (w : Words) (f : Flags) (ss : List Segment) → AreScratch ts → HomesApart homes (firsts ts params) → length ns ≡ length params → AreSmall ns → AreHeld w ts ns →
+      Room base words ss → w.rsp ≡ base → Houses (from_registers homes ts params) (firsts ts params) (firsts ts ns) w f ss
   from_six [] params ns w f ss are apart long small held room at = none_houses [] w f ss room at
   from_six (t ∷ ts) [] ns w f ss are apart long small held room at = none_houses (firsts (t ∷ ts) ns) w f ss room at
   from_six (t ∷ ts) (x ∷ params) [] w f ss are apart long small held room at = absurd (omega (arith, long))
@@ -86,8 +86,8 @@ module _ (homes : ℕ → Spot) (base words : ℕ) (spots : (x : ℕ) → IsHome
       }
 
   -- from the caller's words
-  from_caller : (low high : ℕ) (params ns : List ℕ) (at : ℕ) (w : Words) (f : Flags) (ss : List Segment) → HomesApart homes params → length ns ≡ length params → AreSmall ns → IsStack low high ss → low ≤ base + at → base + at + 8 * length ns ≤ high → 8 * words ≤ at →
-      StandAt ss (base + at) ns → Room base words ss → w.rsp ≡ base → Houses (from_words homes at params) params ns w f ss
+  from_caller : (low high : ℕ) (params ns : List ℕ) (at : ℕ) (w : Words) (f : Flags) (ss : List Segment) → HomesApart homes params → length ns ≡ length params → AreSmall ns → IsStack low high ss → low ≤ base + at →
+      base + at + 8 * length ns ≤ high → 8 * words ≤ at → StandAt ss (base + at) ns → Room base words ss → w.rsp ≡ base → Houses (from_words homes at params) params ns w f ss
   from_caller low high [] ns at w f ss apart long small stack from to beyond stand room is = none_houses ns w f ss room is
   from_caller low high (x ∷ params) [] at w f ss apart long small stack from to beyond stand room is = absurd (omega (arith, long))
   from_caller low high (x ∷ params) (n ∷ ns) at w f ss apart long small stack from to beyond stand room is =
@@ -97,7 +97,8 @@ module _ (homes : ℕ → Spot) (base words : ℕ) (spots : (x : ℕ) → IsHome
       let y = home_write_law base words w1 f ss (homes x) Rax n room is small.0 (spots x) refl in
       let next : base + at + 8 ≡ base + (at + 8) = omega arith in
       let others : StandAt y.segments (base + (at + 8)) ns = subst (λ q. StandAt y.segments q ns) next (stand_same ss y.segments ns (base + at + 8) (λ p lo hi. y.outside p (inr (omega (arith, lo, beyond)))) stand.1) in
-      let z = from_caller low high params ns (at + 8) y.after f y.segments apart.1 (omega (arith, long)) small.1 (stack_same low high ss y.segments y.shape stack) (omega (arith, from)) (omega (arith, to)) (omega (arith, beyond)) others (room_same base words ss y.segments y.shape room) y.at_base in
+      let z = from_caller low high params ns (at + 8) y.after f y.segments apart.1 (omega (arith, long)) small.1 (stack_same low high ss y.segments y.shape stack)
+      (omega (arith, from)) (omega (arith, to)) (omega (arith, beyond)) others (room_same base words ss y.segments y.shape room) y.at_base in
       record {
         after = z.after;
         segments = z.segments;
@@ -123,7 +124,8 @@ module _ (homes : ℕ → Spot) (base words : ℕ) (spots : (x : ℕ) → IsHome
     pub shape : SameShape ss segments
     pub outside : (p : ℕ) → (p < base) ⊎ (base + 8 * words ≤ p) → byte_at segments p ≡ byte_at ss p
 
-  pub receives : (low high room : ℕ) (params ns : List ℕ) (count : ℕ) (live : ℕ → Type 0) (flat : Flat) (w : Words) (f : Flags) (ss : List Segment) → HomesApart homes params → length ns ≡ length params → AreSmall ns → IsStack low high ss → low ≤ base + room + 48 →
+  pub receives : (low high room : ℕ) (params ns : List ℕ) (count : ℕ) (live : ℕ → Type 0) (flat : Flat) (w : Words) (f : Flags) (ss : List Segment) →
+      HomesApart homes params → length ns ≡ length params → AreSmall ns → IsStack low high ss → low ≤ base + room + 48 →
       base + room + 48 + 8 * length (drop 6 ns) ≤ high → 8 * words ≤ room → AreHeld w argument_registers ns → StandAt ss (base + room + 48) (drop 6 ns) → Room base words ss → w.rsp ≡ base → Contains base words flat ss →
       Receives room params ns count live flat w f ss
   receives low high room params ns count live flat w f ss apart long small stack from to beyond held stand free is memory =
@@ -131,9 +133,11 @@ module _ (homes : ℕ → Spot) (base words : ℕ) (spots : (x : ℕ) → IsHome
       let x = from_six argument_registers params ns w f ss arguments_scratch (apart_firsts homes argument_registers params apart) long small held free is in
       let above : StandAt x.segments (base + (room + kept_bytes)) (drop 6 ns) =
       subst (λ q. StandAt x.segments q (drop 6 ns)) place (stand_same ss x.segments (drop 6 ns) (base + room + 48) (λ p lo hi. x.outside p (inr (omega (arith, lo, beyond)))) stand) in
-      let y = from_caller low high (drop 6 params) (drop 6 ns) (room + kept_bytes) x.after f x.segments (apart_behind homes 6 params apart) (long_behind 6 params ns long) (small_drop 6 ns small) (stack_same low high ss x.segments x.shape stack)
+      let y = from_caller low high (drop 6 params) (drop 6 ns) (room + kept_bytes) x.after f x.segments (apart_behind homes 6 params apart) (long_behind 6 params ns long) (small_drop 6 ns small)
+      (stack_same low high ss x.segments x.shape stack)
       (omega (arith, from)) (omega (arith, to)) (omega (arith, beyond)) above x.room x.at_base in
-      let first = home_stays homes x.after y.after x.segments y.segments (firsts argument_registers params) (firsts argument_registers ns) (λ a n i keeps. y.others (homes a) n (spots a) (λ b j. apart_between homes argument_registers params a b apart i j) keeps) x.home in
+      let first = home_stays homes x.after y.after x.segments y.segments (firsts argument_registers params) (firsts argument_registers ns)
+      (λ a n i keeps. y.others (homes a) n (spots a) (λ b j. apart_between homes argument_registers params a b apart i j) keeps) x.home in
       let home = home_joined homes y.after y.segments argument_registers params ns first y.home in
       let shape = shape_trans ss x.segments y.segments x.shape y.shape in
       record {

@@ -27,7 +27,8 @@ module _ (homes : ℕ → Spot) (base words : ℕ) (live : ℕ → Type 0) where
   abbrev pub LiveBeside : Option ℕ → ℕ → Type 0
   LiveBeside into x = live x × (into ≢ Some x)
 
-  pub takes : (into : Option ℕ) (registers : List (Option ℕ)) (flat : Flat) (w : Words) (f : Flags) (ss : List Segment) (n : ℕ) → ((x r : ℕ) → into ≡ Some r → live x → x ≢ r → Differ (homes x) (homes r)) → ((r : ℕ) → into ≡ Some r → (w.rax ≡ n) × (n < 2 ^ 64)) →
+  pub takes : (into : Option ℕ) (registers : List (Option ℕ)) (flat : Flat) (w : Words) (f : Flags) (ss : List Segment) (n : ℕ) → ((x r : ℕ) → into ≡ Some r → live x → x ≢ r → Differ (homes x) (homes r)) →
+      ((r : ℕ) → into ≡ Some r → (w.rax ≡ n) × (n < 2 ^ 64)) →
       Tied homes base words (LiveBeside into) registers flat w ss → Leads homes base words (take_row homes into) w f ss live (with_result into n registers) flat
   takes None registers flat w f ss n apart result tied = record {
     after = w;
