@@ -14,7 +14,7 @@ use Rattle.frame_lower.specs.Functions.{Choices}
 use Rattle.frame_lower.specs.Given.{AreChosen}
 use Rattle.frame_lower.specs.Planned.{plan_of}
 use Rattle.rd_passes.specs.Passed.{choices_of}
-use Rattle.rd_passes.proofs.Fitting.{data}
+use Rattle.rd_passes.proofs.Fitting.{data_there}
 use Rattle.rd_passes.proofs.OwnHomes.{homes_placed, homes_framed}
 
 there : {X : Type 0} (xs : List X) (k : ℕ) (d : X) → k < length xs → slice_get xs k ≡ Some (get_or xs k d)
@@ -44,5 +44,5 @@ are_chosen sel slot_seed reg_seed slots placing contents shaped planned placed f
       places = homes_placed sel.functions;
       in_frame = homes_framed sel.functions;
       plan = planned;
-      addresses = globals_small sel contents (plan_of c sel) (data c sel slot_seed contents shaped planned placed few);
+      addresses = globals_small sel contents (plan_of c sel) (data_there c sel slot_seed contents shaped planned placed few);
     }

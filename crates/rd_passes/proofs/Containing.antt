@@ -1,5 +1,5 @@
 -- The memory with which an object begins has the globals that were placed in it, each byte at its address.
-use Rattle.std.proofs.Common.{◌≡◌, ℕ, zero, suc, ◌+◌, ◌-◌, ◌*◌, ◌<◌, ◌≤◌, ◌⊎◌, inl, inr, Bool, true, false, not, ◌&&◌, ◌||◌, nat_le, nat_lt, if◌then◌else◌, List, [], ◌∷◌, length, get_or, Some, None, Option, slice_get, refl, ap, sym, subst, ◌∙◌, arith}
+use Rattle.std.proofs.Common.{◌≡◌, ℕ, zero, suc, ◌+◌, ◌-◌, ◌*◌, ◌^◌, ◌<◌, ◌≤◌, ◌⊎◌, inl, inr, Bool, true, false, not, ◌&&◌, ◌||◌, nat_le, nat_lt, if◌then◌else◌, List, [], ◌∷◌, length, get_or, Some, None, Option, slice_get, refl, ap, sym, subst, ◌∙◌, arith}
 use Rattle.std.proofs.lemmas.Bool.{cases_Bool, leb-true, ltb-true, and_parts}
 use Rattle.ir_core.specs.declared.limit.TheConstants.{MAX_BYTES}
 use Rattle.x86_core.specs.Data.{ro_start, rw_start, stack_end, data_segments}
@@ -23,7 +23,7 @@ record Holds (globals : List ℕ) (contents : List Content) (p n : ℕ) : Type 0
   pub above : at ≤ p
   pub below : p + n ≤ at + length content.bytes
 
-further : (g : ℕ) (gs : List ℕ) (c : Content) (cs : List Content) (p n : ℕ) → Holds gs cs p n → Holds (g ∷ gs) (c ∷ cs) p n
+abbrev further : (g : ℕ) (gs : List ℕ) (c : Content) (cs : List Content) (p n : ℕ) → Holds gs cs p n → Holds (g ∷ gs) (c ∷ cs) p n
 further g gs c cs p n h = record { number = suc h.number; at = h.at; content = h.content; address = h.address; is = h.is; above = h.above; below = h.below }
 
 covered : (at p n : ℕ) (c : Content) (b : Bool) → covers p n (record { start = at; size = length c.bytes; writable = b }) ≡ true → (at ≤ p) × (p + n ≤ at + length c.bytes)

@@ -115,7 +115,7 @@ module _ (c : Choices) (sel : Sel) (slot_seed : ℕ) (chosen : AreChosen c sel s
 
     pub is_object : AreNumbers o → IsObject o
     is_object known =
-        let data = few_data in
+        let low = few_data in
         record {
           slot_seed = known.slot_seed;
           reg_seed = known.reg_seed;
@@ -125,6 +125,6 @@ module _ (c : Choices) (sel : Sel) (slot_seed : ℕ) (chosen : AreChosen c sel s
           rw = known.rw;
           functions_fit = few_all;
           slots_fit = few_slots;
-          ro_fits = omega (arith, data);
-          rw_fits = omega (arith, data);
+          ro_fits = omega (arith, low);
+          rw_fits = omega (arith, low);
         }

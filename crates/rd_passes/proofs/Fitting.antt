@@ -36,8 +36,8 @@ number_there (p ∷ ps) (suc g) a at is there = number_there ps g a at is there
 
 module _ (c : Choices) (sel : Sel) (slot_seed : ℕ) (contents : List Content) (shaped : IsSel sel) (planned : IsPlan sel slot_seed c.slots)
     (placed : ArePlaced contents c.placing.globals c.placing.ro c.placing.rw) (few : length c.placing.ro + length c.placing.rw ≤ MAX_BYTES) where
-  pub data : DataFits sel contents (plan_of c sel)
-  data = data_fits sel contents (plan_of c sel) c.placing.ro c.placing.rw placed few c.slots.pointers refl (pointers_few sel slot_seed c.slots shaped planned)
+  pub data_there : DataFits sel contents (plan_of c sel)
+  data_there = data_fits sel contents (plan_of c sel) c.placing.ro c.placing.rw placed few c.slots.pointers refl (pointers_few sel slot_seed c.slots shaped planned)
 
   -- no two functions have one address
   apart : (f g at : ℕ) → IsTaken sel (plan_of c sel) f at → IsTaken sel (plan_of c sel) g at → f ≡ g
@@ -50,17 +50,17 @@ module _ (c : Choices) (sel : Sel) (slot_seed : ℕ) (contents : List Content) (
 
   pub fits : HavePlaces sel.functions c.homes → All (λ (f : SelFun). All (NamesOneOf (length contents)) (ops_of f)) sel.functions → PlanFits sel contents (plan_of c sel)
   fits places named = record {
-    globals = data.globals;
+    globals = data_there.globals;
     functions = numbers_long c.slots.pointers ∙ pointers_are sel shaped slot_seed c.slots planned;
     frames = frames_long sel.functions c.homes places;
     named = named;
-    globals_below = data.globals_below;
-    globals_apart = data.globals_apart;
-    globals_off = data.globals_off;
-    functions_below = data.functions_below;
+    globals_below = data_there.globals_below;
+    globals_apart = data_there.globals_apart;
+    globals_off = data_there.globals_off;
+    functions_below = data_there.functions_below;
     functions_apart = apart;
-    functions_off = data.functions_off;
-    functions_beside = data.functions_beside;
+    functions_off = data_there.functions_off;
+    functions_beside = data_there.functions_beside;
     allocas = λ f fn p there is. frame_there sel.functions c.homes f fn p places there is;
     room = λ f p is. (let calls : MAX_CALLS ≡ 8192 = refl in let low : stack_start ≡ 2684350464 = refl in let high : stack_end ≡ 3221225472 = refl in
         let small = frame_few sel sel.functions c.homes f p shaped.functions places is in omega (arith, calls, low, high, small));

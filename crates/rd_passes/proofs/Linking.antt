@@ -43,19 +43,17 @@ use Rattle.std.proofs.lemmas.List.Sums.{sum_by-cons}
 -- good links are to slots that there are
 good_links : (before : Option ℕ) (xs : List Found) (slots : ℕ) (ls : List Link) → bad_links before xs slots ls ≡ [] → Each (λ (l : Link). l.slot < slots) ls
 good_links before xs slots [] e = tt
-good_links before xs slots (l ∷ ls) e = by (is_good_link before xs slots l) refl e
+good_links before xs slots (l ∷ ls) e = by (is_good_link before xs slots l) refl e (λ f. good_links (Some l.at) xs slots ls f)
   where
     slot : (b : Option ℕ) → is_good_link b xs slots l ≡ true → l.slot < slots
     slot None good = ltb-true l.slot slots ((and_parts (fills_zero xs l.at) (nat_lt l.slot slots) good).1)
     slot (Some k) good =
         ltb-true l.slot slots ((and_parts (fills_zero xs l.at) (nat_lt l.slot slots) ((and_parts (nat_lt k l.at) (fills_zero xs l.at && nat_lt l.slot slots) good).1)).1)
 
-    rest : bad_links (Some l.at) xs slots ls ≡ [] → Each (λ (m : Link). m.slot < slots) ls
-    rest f = good_links (Some l.at) xs slots ls f
-
-    by : (b : Bool) → is_good_link before xs slots l ≡ b → (if b then bad_links (Some l.at) xs slots ls else l.at ∷ bad_links (Some l.at) xs slots ls) ≡ [] → (l.slot < slots) × Each (λ (m : Link). m.slot < slots) ls
-    by true good f = (slot before good, rest f)
-    by false good f = absurd cc
+    by : (b : Bool) → is_good_link before xs slots l ≡ b → (if b then bad_links (Some l.at) xs slots ls else l.at ∷ bad_links (Some l.at) xs slots ls) ≡ []
+        → (bad_links (Some l.at) xs slots ls ≡ [] → Each (λ (m : Link). m.slot < slots) ls) → (l.slot < slots) × Each (λ (m : Link). m.slot < slots) ls
+    by true good f rest = (slot before good, rest f)
+    by false good f rest = absurd cc
 
 -- links of a row end in it
 ends_low : (off most : ℕ) (row : List Marked) → off + row_size row ≤ most → Each (λ (l : Link). l.at ≤ most) (links_from off row)
