@@ -6,4 +6,5 @@ pub mod Containing
 pub mod Choosing
 pub mod Linking
 pub mod Counting
+pub mod Joining
 pub mod Suiting

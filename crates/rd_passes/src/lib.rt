@@ -8,3 +8,4 @@
 
 pub mod homes;
 pub mod names;
+pub mod object;
