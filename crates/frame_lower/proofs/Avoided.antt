@@ -1,11 +1,10 @@
 -- Functions whose homes are all words of their frames do nothing that is a slot's own, and name the five saved registers where they push and pop them alone.
-use Rattle.std.proofs.Common.{◌≡◌, ℕ, zero, suc, ◌+◌, ◌*◌, Bool, true, false, not, ◌&&◌, ◌||◌, nat_eq, nat_lt, if◌then◌else◌, List, [], ◌∷◌, ◌++◌, length, drop, map, Option, Some, None, pos, slice_index, refl, ap, sym, subst, ◌∙◌, arith}
+use Rattle.std.proofs.Common.{◌≡◌, ℕ, ◌+◌, ◌*◌, Bool, true, false, not, ◌&&◌, ◌||◌, nat_eq, nat_lt, if◌then◌else◌, List, [], ◌∷◌, ◌++◌, drop, Option, Some, None, pos, slice_index, refl, ap, ◌∙◌, arith}
 use Rattle.std.specs.List.{list_all}
 use Rattle.std.proofs.lemmas.Bool.{and_parts}
 use Rattle.x86_core.specs.declared.reg.Reg.{Reg}
 use Rattle.x86_core.specs.declared.reg.Reg.TheVariants.{Rax, Rcx, Rdx, Rbx, Rbp, Rsi, Rdi, R8, R9, R11, R12, R13, R14, R15, Rsp}
 use Rattle.x86_core.specs.declared.instr.Wide.{Wide}
-use Rattle.x86_core.specs.declared.instr.Size.{Size}
 use Rattle.x86_core.specs.declared.instr.ImmOp.{ImmOp}
 use Rattle.x86_core.specs.declared.instr.Instr.{Instr}
 use Rattle.x86_core.specs.declared.instr.Instr.TheVariants as instr
@@ -18,9 +17,7 @@ use Rattle.low_core.specs.declared.sel.SelEnd.TheVariants as end
 use Rattle.low_core.specs.declared.sel.SelBlock.{SelBlock}
 use Rattle.low_core.specs.declared.sel.SelFun.{SelFun}
 use Rattle.low_core.specs.SelWeights.{calls_at}
-use Rattle.frame_rows.specs.declared.spot.Spot.{Spot}
-use Rattle.frame_rows.specs.declared.spot.Spot.TheVariants.{Own, Frame}
-use Rattle.frame_rows.specs.Code.{home_read, home_write, op_row}
+use Rattle.frame_rows.specs.Code.{home_read, op_row}
 use Rattle.obj_core.specs.Object.{Each}
 use Rattle.obj_core.specs.Saved.{saved_register, name_of, five_of, is_push_or_pop, is_among, registers_of, occurs, one_if, count_in, agree, are_first_colors}
 use Rattle.obj_core.specs.Slots.{name_purpose}
@@ -167,9 +164,17 @@ module _ (by : Making) (words : AreWords by.homes) where
       let receive = receive_row by.homes by.room f.params in
       let stack = instr.AluImm ImmOp.Sub Wide.W64 Rsp (pos by.room) in
       marked_append front (blocks_row by (start_in (starts_from by (row_size front) f.blocks)) (row_size front) slot f.blocks)
-      (unlinked_tame (count_row ++ (push_row by.order ++ (stack ∷ receive)))
-        (refl, (refl, (refl, tame-append (push_row by.order) (stack ∷ receive) (pushes_tame by.order)
-          (refl, tame-append (from_registers by.homes argument_registers f.params) (from_words by.homes (by.room + kept_bytes) (drop 6 f.params)) (stores_tame f.params) (fetches_tame (by.room + kept_bytes) (drop 6 f.params)))))))
+      (unlinked_tame (count_row ++ (push_row by.order ++ (stack ∷ receive))) (
+        refl,
+        (
+          refl,
+          (
+            refl,
+            tame-append (push_row by.order) (stack ∷ receive) (pushes_tame by.order)
+                (refl, tame-append (from_registers by.homes argument_registers f.params) (from_words by.homes (by.room + kept_bytes) (drop 6 f.params)) (stores_tame f.params) (fetches_tame (by.room + kept_bytes) (drop 6 f.params))),
+          ),
+        ),
+      ))
       (blocks_tame (start_in (starts_from by (row_size front) f.blocks)) (row_size front) slot f.blocks)
 
 -- what is tame is no slot's own

@@ -1,5 +1,5 @@
 -- The test of a low bit before a branch.
-use Rattle.std.proofs.Common.{◌≡◌, ℕ, ◌+◌, ◌%◌, ◌^◌, Bool, true, false, not, nat_eq, List, [], ◌∷◌, Some, refl, sym, ◌∙◌, ap, arith}
+use Rattle.std.proofs.Common.{◌≡◌, ◌%◌, ◌^◌, Bool, true, false, not, nat_eq, List, Some, refl, ◌∙◌, ap, arith}
 use Rattle.std.specs.Prelude.{bit_and, pos}
 use Rattle.std.proofs.lemmas.Nat.{and_mask}
 use Rattle.x86_core.specs.declared.flags.Flags.{Flags}

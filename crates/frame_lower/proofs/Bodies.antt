@@ -1,10 +1,8 @@
 -- Where the blocks of a function begin, and what stands there.
-use Rattle.std.proofs.Common.{◌≡◌, ℕ, zero, suc, ◌+◌, List, [], ◌∷◌, ◌++◌, drop, take, Some, refl, sym, ◌∙◌, ap, subst, arith, append_assoc}
+use Rattle.std.proofs.Common.{◌≡◌, ℕ, zero, suc, ◌+◌, List, [], ◌∷◌, ◌++◌, take, Some, refl, sym, ◌∙◌, ap, arith, append_assoc}
 use Rattle.std.specs.Prelude.{slice_get}
 use Rattle.std.proofs.lemmas.List.{append-nil}
 use Rattle.low_core.specs.declared.sel.SelBlock.{SelBlock}
-use Rattle.low_core.specs.declared.sel.SelFun.{SelFun}
-use Rattle.low_core.specs.declared.sel.SelOp.{SelOp}
 use Rattle.low_core.specs.declared.sel.Sel.{Sel}
 use Rattle.obj_rows.specs.Marked.{Marked, row_size, Stands}
 use Rattle.obj_rows.proofs.Rows.{row_size-append}

@@ -6,7 +6,6 @@ use Rattle.std.proofs.lemmas.List.Elements.{All-head, All-tail}
 use Rattle.std.proofs.lemmas.List.Sums.{sum_by-cons}
 use Rattle.x86_core.specs.declared.reg.Reg.{Reg}
 use Rattle.x86_core.specs.declared.reg.Reg.TheVariants.{R11, R15, Rsp}
-use Rattle.x86_core.specs.declared.instr.Cond.{Cond}
 use Rattle.x86_core.specs.declared.instr.Wide.{Wide}
 use Rattle.x86_core.specs.declared.instr.ImmOp.{ImmOp}
 use Rattle.x86_core.specs.declared.instr.Instr.{Instr}
@@ -25,7 +24,6 @@ use Rattle.low_core.specs.SelWeights.{calls_at, sel_block_weight, sel_function_w
 use Rattle.frame_rows.specs.declared.spot.Spot.{Spot}
 use Rattle.frame_rows.specs.declared.spot.Spot.TheVariants.{Own, Frame}
 use Rattle.frame_rows.specs.Code.{home_read, home_write, op_row}
-use Rattle.frame_rows.specs.Sizes.{row_bytes}
 use Rattle.obj_core.specs.Saved.{saved_register}
 use Rattle.obj_core.specs.Disassembly.{size_of}
 use Rattle.obj_core.specs.WellFormed.{displacement}
@@ -39,7 +37,7 @@ use Rattle.frame_lower.specs.Functions.{front_row, function_row}
 use Rattle.frame_lower.proofs.Displacements.{leads}
 use Rattle.frame_lower.proofs.Functions.{starts_below}
 use Rattle.frame_lower.proofs.Sizes.{unlinked_size, ops_light, closing_few, block_same, block_light, front_light}
-use Rattle.frame_lower.proofs.Tame.{calm, AreCalm, AreWords, calm_straight, op_calm}
+use Rattle.frame_lower.proofs.Tame.{AreCalm, AreWords, calm_straight, op_calm}
 
 -- where something stands an instruction stands
 pub some_stands : (row : List Marked) (off : ℕ) (xs ys : List Marked) (y : Marked) → Stands row off (xs ++ y ∷ ys) → (z : Marked) × Stands row off (z ∷ [])
@@ -185,9 +183,10 @@ module _ (row : List Marked) (by : Making) (words : AreWords by.homes) where
     branch_lead : (at : ℕ) → at < 2 ^ 30 → (e : SelEnd) → All (λ n. n < count) (leads_to e) → AllLead row at (all_unlinked (branch_row starts at e))
     branch_lead at low (Go b) inside = ((λ none d is. goes (at + 5) b (omega (arith, low)) (All-head (λ n. n < count) b [] inside) d is), tt)
     branch_lead at low (If c b d) inside =
-        let e : at + 6 + 5 ≡ at + 11 = omega arith in
-        ((λ none k is. goes (at + 6) b (omega (arith, low)) (All-head (λ n. n < count) b (d ∷ []) inside) k is),
-        ((λ none k is. subst (λ n. (y : Marked) × Stands row (moved n k) (y ∷ [])) (sym e) (goes (at + 11) d (omega (arith, low)) (All-head (λ n. n < count) d [] (All-tail (λ n. n < count) b (d ∷ []) inside)) k is)), tt))
+        let e : at + 6 + 5 ≡ at + 11 = omega arith in (
+          (λ none k is. goes (at + 6) b (omega (arith, low)) (All-head (λ n. n < count) b (d ∷ []) inside) k is),
+          ((λ none k is. subst (λ n. (y : Marked) × Stands row (moved n k) (y ∷ [])) (sym e) (goes (at + 11) d (omega (arith, low)) (All-head (λ n. n < count) d [] (All-tail (λ n. n < count) b (d ∷ []) inside)) k is)), tt),
+        )
     branch_lead at low (Ret r) inside = tt
     branch_lead at low end.Trap inside = tt
 
@@ -201,7 +200,7 @@ module _ (row : List Marked) (by : Making) (words : AreWords by.homes) where
         let u = unlinked_size (closing_row by b.end) in
         lead_append row at ops (end_row by starts off b.end) (ops_lead at slot b.ops)
         (lead_append row off closing (all_unlinked (branch_row starts (off + row_size closing) b.end)) (straight_lead row off (closing_row by b.end) (closing_straight b.end))
-          (branch_lead (off + row_size closing) (omega (arith, low, o, c, u)) b.end inside))
+        (branch_lead (off + row_size closing) (omega (arith, low, o, c, u)) b.end inside))
 
     blocks_lead : length by.order ≤ 5 → (at slot : ℕ) (bs : List SelBlock) → at + sum_by sel_block_weight bs < 2 ^ 30 → All (λ (b : SelBlock). All (λ n. n < count) (leads_to b.end)) bs → AllLead row at (blocks_row by starts at slot bs)
     blocks_lead five at slot [] low inside = tt
@@ -212,7 +211,7 @@ module _ (row : List Marked) (by : Making) (words : AreWords by.homes) where
         lead_append row at (block_row by starts at slot b) (blocks_row by starts (at + block_bytes by b) (slot + calls_in b.ops) bs)
         (block_lead five at slot b (omega (arith, low, w)) (All-head (λ (c : SelBlock). All (λ n. n < count) (leads_to c.end)) b bs inside))
         (subst (λ n. AllLead row (at + n) (blocks_row by starts (at + block_bytes by b) (slot + calls_in b.ops) bs)) (sym s)
-          (blocks_lead five (at + block_bytes by b) (slot + calls_in b.ops) bs (omega (arith, low, w, l)) (All-tail (λ (c : SelBlock). All (λ n. n < count) (leads_to c.end)) b bs inside)))
+        (blocks_lead five (at + block_bytes by b) (slot + calls_in b.ops) bs (omega (arith, low, w, l)) (All-tail (λ (c : SelBlock). All (λ n. n < count) (leads_to c.end)) b bs inside)))
 
   -- an end has an instruction
   end_some : (starts : ℕ → ℕ) (at : ℕ) (e : SelEnd) → (x : Marked) × (xs : List Marked) × (end_row by starts at e ≡ x ∷ xs)
@@ -239,9 +238,9 @@ module _ (row : List Marked) (by : Making) (words : AreWords by.homes) where
   -- in front of them nothing branches but past the stop where no call is left
   pub front_lead : (f : SelFun) → ((y : Marked) × Stands row 14 (y ∷ [])) → AllLead row 0 (front_row by f)
   front_lead f past = (
-      none_lead row 0 (instr.AluImm ImmOp.Sub Wide.W64 R15 (pos 1)) refl,
-      ((λ none d is. over d is), (none_lead row 13 instr.Int3 refl, straight_lead row 14 rest rest_straight)),
-    )
+    none_lead row 0 (instr.AluImm ImmOp.Sub Wide.W64 R15 (pos 1)) refl,
+    ((λ none d is. over d is), (none_lead row 13 instr.Int3 refl, straight_lead row 14 rest rest_straight)),
+  )
     where
       receive : List Instr
       receive = receive_row by.homes by.room f.params
@@ -286,5 +285,5 @@ function_leads by slot f words five few light inside =
     let first = stands_behind row 0 (all_unlinked count_row) (all_unlinked (push_row by.order ++ (stack ∷ receive))) (stands_first row 0 front blocks (stands_whole row)) in
     let past = some_stands row 14 (all_unlinked (push_row by.order)) (all_unlinked receive) (unlinked stack) (subst (Stands row 14) (all_unlinked-append (push_row by.order) (stack ∷ receive)) first) in
     leads_inside row (lead_append row 0 front blocks (front_lead row by words f past)
-      (subst (λ n. AllLead row n blocks) (let e : row_size front ≡ 0 + row_size front = omega arith in e)
-        (blocks_lead row by words starts (length f.blocks) (starts_below by (2 ^ 30) (row_size front) f.blocks five (omega arith) (omega (arith, light, long))) there five (row_size front) slot f.blocks (omega (arith, light, long)) inside)))
+    (subst (λ n. AllLead row n blocks) (let e : row_size front ≡ 0 + row_size front = omega arith in e)
+    (blocks_lead row by words starts (length f.blocks) (starts_below by (2 ^ 30) (row_size front) f.blocks five (omega arith) (omega (arith, light, long))) there five (row_size front) slot f.blocks (omega (arith, light, long)) inside)))

@@ -1,24 +1,19 @@
 -- Ends that lead to blocks of the same function, and the end that stops.
-use Rattle.std.proofs.Common.{◌≡◌, ◌≢◌, ℕ, zero, suc, ◌+◌, ◌*◌, ◌%◌, ◌^◌, ◌<◌, ◌≤◌, Bool, true, false, not, nat_eq, if◌then◌else◌, List, [], ◌∷◌, ◌++◌, length, drop, take, Option, Some, None, Ok, Err, refl, sym, ◌∙◌, ap, subst, inl, inr, ◌⊎◌, arith, length-append}
-use Rattle.std.specs.Prelude.{pos, get_or, slice_get}
+use Rattle.std.proofs.Common.{◌≡◌, ℕ, ◌+◌, ◌^◌, ◌<◌, ◌≤◌, List, [], ◌∷◌, ◌++◌, length, drop, Some, None, Err, refl, sym, ◌∙◌, ap, subst, inl, inr, arith}
+use Rattle.std.specs.Prelude.{get_or, slice_get}
 use Rattle.std.specs.List.{All}
 use Rattle.std.proofs.lemmas.List.Elements.{All-head, All-tail}
 use Rattle.std.proofs.lemmas.Option.{slice_get-get_or}
 use Rattle.behavior.specs.Ending as ending
-use Rattle.behavior.specs.Moment.{IsLeft}
 use Rattle.behavior.specs.System.{System}
-use Rattle.behavior.proofs.Stretch.{comes_one, comes_step, comes_wider, met_by}
+use Rattle.behavior.proofs.Stretch.{comes_one, comes_wider, met_by}
 use Rattle.ir_core.specs.Stops as stop
 use Rattle.ir_core.specs.Stops.{Answer, and_then}
 use Rattle.x86_core.specs.declared.flags.Flags.{Flags}
 use Rattle.x86_core.specs.declared.image.Segment.{Segment}
-use Rattle.x86_core.specs.declared.reg.Reg.TheVariants.{Rax}
-use Rattle.x86_core.specs.declared.instr.Cond.{Cond}
-use Rattle.x86_core.specs.declared.instr.Instr.{Instr}
-use Rattle.x86_core.specs.declared.instr.Instr.TheVariants.{Jcc, Jmp, Ud2}
-use Rattle.x86_core.specs.Arithmetic.{moved}
+use Rattle.x86_core.specs.declared.instr.Instr.TheVariants.{Jmp, Ud2}
 use Rattle.x86_core.specs.Step.{State}
-use Rattle.x86_rows.specs.Straight.{Core, Stopped, and_on, exec}
+use Rattle.x86_rows.specs.Straight.{Stopped, and_on, exec}
 use Rattle.x86_rows.proofs.Leaves.{ud2}
 use Rattle.low_core.specs.declared.sel.SelBlock.{SelBlock}
 use Rattle.low_core.specs.declared.sel.SelEnd.{SelEnd}
@@ -27,34 +22,29 @@ use Rattle.low_core.specs.declared.sel.Sel.{Sel}
 use Rattle.low_core.specs.Flat.{Span, Bytes}
 use Rattle.low_core.specs.Plan.{Plan, Content}
 use Rattle.low_core.specs.SelParts.{IsOneOf, leads_to}
-use Rattle.low_core.specs.SelState.{SelFrame, SelState, SelTurn, sel_moment, sel_turned, word_in}
-use Rattle.low_core.specs.SelStep.{to_block, end_turn}
+use Rattle.low_core.specs.SelState.{SelFrame, SelState, SelTurn, sel_turned}
+use Rattle.low_core.specs.SelStep.{to_block}
 use Rattle.obj_core.specs.declared.object.Object.{Object}
 use Rattle.obj_core.specs.declared.object.Place.{Place}
-use Rattle.obj_core.specs.Disassembly.{size_of}
 use Rattle.obj_core.specs.SymbolicMachine.{symbolic_step}
-use Rattle.obj_rows.specs.Marked.{Marked, unlinked, all_unlinked, row_size, Stands}
+use Rattle.obj_rows.specs.Marked.{Marked, unlinked, row_size, Stands}
 use Rattle.obj_rows.specs.Standing.{Outside, standing}
-use Rattle.obj_rows.proofs.Branches.{jumps, branches, falls}
-use Rattle.obj_rows.proofs.Rows.{row_size-append, stands_one, stands_next}
-use Rattle.obj_rows.proofs.Runs.{step_through}
-use Rattle.frame_rows.specs.Code.{home_read}
+use Rattle.obj_rows.proofs.Branches.{jumps}
+use Rattle.obj_rows.proofs.Rows.{row_size-append}
 use Rattle.frame_rows.specs.Words.{Words, core_of}
 use Rattle.frame_rows.proofs.Kept.{tied_same, tied_fewer}
-use Rattle.frame_rows.proofs.Meeting.{word_cases}
 use Rattle.frame_rows.proofs.Registers.{Same}
-use Rattle.frame_rows.proofs.Results.{reads_one}
 use Rattle.frame_lower.specs.Chain.{function_in, code_in, starts_in, rest_in}
 use Rattle.frame_lower.specs.Rows.{Making, between, end_row}
 use Rattle.frame_lower.specs.Suits.{Suits}
-use Rattle.frame_lower.proofs.Bits.{low_bit, bit_law}
 use Rattle.frame_lower.proofs.Bodies.{block_stands}
 use Rattle.frame_lower.proofs.Chains.{chain_moved, moved_to}
 use Rattle.frame_lower.proofs.Displacements.{leads}
-use Rattle.frame_lower.proofs.Facts.{all_there, block_shaped}
+use Rattle.frame_lower.proofs.Facts.{block_shaped}
 use Rattle.frame_lower.proofs.PlainStep.{Turned, stops_at}
 use Rattle.frame_lower.proofs.Rests.{end_stands}
-use Rattle.frame_lower.proofs.Stage.{most_steps, state_of, flat_in, globals, last, Whole, Stage, A, B, Meets_}
+use Rattle.frame_lower.specs.Meaning.{most_steps}
+use Rattle.frame_lower.proofs.Stage.{state_of, flat_in, globals, last, Whole, Stage, A, B}
 
 -- a part of a row ends inside of it
 pub within : (row : List Marked) (off : ℕ) (part : List Marked) → Stands row off part → off + row_size part ≤ row_size row
@@ -193,4 +183,5 @@ module _ (o : Object) (sel : Sel) (plan : Plan) (contents : List Content) (by : 
     pub trap_step : b.end ≡ end.Trap → Turned_ (Err stop.Trap)
     trap_step is =
         let stops : exec (Ud2 ∷ []) (core_of w fl ss) ≡ Stopped ending.Invalid = ap (λ r. and_on r (exec [])) (ud2 (core_of w fl ss)) in
-        stops_at o sel plan contents by live suits input f callers bytes printed taken depth w fl ss off b is_function is_block stands whole (Ud2 ∷ []) [] stop.Trap ending.Invalid (end_here end.Trap is) stops (omega arith) (omega arith) refl refl
+        stops_at o sel plan contents by live suits input f callers bytes printed taken depth w fl ss off b is_function is_block stands whole (Ud2 ∷ []) [] stop.Trap ending.Invalid (end_here end.Trap is) stops (omega arith)
+        (omega arith) refl refl

@@ -1,10 +1,9 @@
 -- What waits stays as it is where none of the bytes that are kept for it changes.
-use Rattle.std.proofs.Common.{◌≡◌, ◌≢◌, ℕ, zero, suc, ◌+◌, ◌*◌, ◌<◌, ◌≤◌, true, List, [], ◌∷◌, ◌++◌, length, Option, Some, refl, sym, ◌∙◌, inl, inr, ap, subst, arith, length-append}
-use Rattle.rd_num.specs.Number.{le_bytes}
+use Rattle.std.proofs.Common.{◌≡◌, ℕ, suc, ◌+◌, ◌*◌, ◌<◌, ◌≤◌, List, [], ◌∷◌, length, Option, refl, ◌∙◌, inl, inr, arith, length-append}
 use Rattle.x86_core.specs.declared.reg.Reg.{Reg}
 use Rattle.x86_core.specs.declared.image.Segment.{Segment}
 use Rattle.x86_core.specs.Data.{stack_end}
-use Rattle.x86_rows.specs.Addresses.{byte_at, range_at}
+use Rattle.x86_rows.specs.Addresses.{byte_at}
 use Rattle.x86_rows.proofs.Covers.{range_same}
 use Rattle.low_core.specs.declared.sel.Sel.{Sel}
 use Rattle.low_core.specs.Flat.{Span}

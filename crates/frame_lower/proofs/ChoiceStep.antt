@@ -1,10 +1,9 @@
 -- The end that leads to one of two blocks.
-use Rattle.std.proofs.Common.{◌≡◌, ℕ, ◌+◌, ◌%◌, ◌^◌, ◌<◌, Bool, true, false, not, nat_eq, if◌then◌else◌, List, [], ◌∷◌, drop, Some, None, Ok, Err, refl, sym, ◌∙◌, ap, subst, inl, inr, ◌⊎◌, arith}
+use Rattle.std.proofs.Common.{◌≡◌, ℕ, ◌+◌, ◌%◌, ◌^◌, ◌<◌, Bool, true, false, not, nat_eq, if◌then◌else◌, List, [], ◌∷◌, drop, Some, None, Ok, refl, sym, ◌∙◌, ap, subst, inl, inr, arith}
 use Rattle.std.specs.Prelude.{slice_get}
 use Rattle.behavior.specs.System.{System}
 use Rattle.behavior.proofs.Stretch.{comes_one, comes_step, comes_wider, met_by}
-use Rattle.ir_core.specs.declared.memory.Reason.TheVariants.{Unset}
-use Rattle.ir_core.specs.Stops.{Left, Answer, and_then}
+use Rattle.ir_core.specs.Stops.{Answer, and_then}
 use Rattle.x86_core.specs.declared.flags.Flags.{Flags}
 use Rattle.x86_core.specs.declared.image.Segment.{Segment}
 use Rattle.x86_core.specs.declared.reg.Reg.TheVariants.{Rax}
@@ -15,7 +14,7 @@ use Rattle.x86_core.specs.Step.{State}
 use Rattle.low_core.specs.declared.sel.SelBlock.{SelBlock}
 use Rattle.low_core.specs.declared.sel.SelEnd.TheVariants as end
 use Rattle.low_core.specs.declared.sel.Sel.{Sel}
-use Rattle.low_core.specs.Flat.{Span, Bytes}
+use Rattle.low_core.specs.Flat.{Bytes}
 use Rattle.low_core.specs.Plan.{Plan, Content}
 use Rattle.low_core.specs.SelParts.{IsOneOf, leads_to, end_reads}
 use Rattle.low_core.specs.SelState.{SelFrame, SelState, SelTurn, sel_turned, word_in}
@@ -41,7 +40,8 @@ use Rattle.frame_lower.proofs.Bits.{low_bit, bit_law}
 use Rattle.frame_lower.proofs.Branching.{arrives, end_here, jumps_to, low, low_start}
 use Rattle.frame_lower.proofs.Displacements.{leads}
 use Rattle.frame_lower.proofs.PlainStep.{Turned}
-use Rattle.frame_lower.proofs.Stage.{most_steps, state_of, flat_in, Whole, Stage, A, B}
+use Rattle.frame_lower.specs.Meaning.{most_steps}
+use Rattle.frame_lower.proofs.Stage.{state_of, flat_in, Whole, Stage, A, B}
 
 module _ (o : Object) (sel : Sel) (plan : Plan) (contents : List Content) (by : ℕ → Making) (live : ℕ → ℕ → ℕ → ℕ → Type 0) (suits : Suits o sel plan contents by live) (input : List ℕ) where
   abbrev A_ : System SelState
@@ -58,7 +58,8 @@ module _ (o : Object) (sel : Sel) (plan : Plan) (contents : List Content) (by : 
 
   module _ (f : SelFrame) (callers : List SelFrame) (bytes : Bytes) (printed : List ℕ) (taken depth : ℕ) (w : Words) (fl : Flags) (ss : List Segment) (off : ℕ) (b : SelBlock)
       (is_function : slice_get sel.functions f.function ≡ Some (function_in sel f.function)) (is_block : slice_get (function_in sel f.function).blocks f.block ≡ Some b)
-      (stands : Stands (code_in sel by f.function) off (rest_in sel by f.function off f.block f.next b)) (whole : Whole o sel plan contents by live suits input f depth callers (live f.function f.block f.next) bytes w ss) (none : slice_get b.ops f.next ≡ None) where
+      (stands : Stands (code_in sel by f.function) off (rest_in sel by f.function off f.block f.next b)) (whole : Whole o sel plan contents by live suits input f depth callers (live f.function f.block f.next) bytes w ss)
+      (none : slice_get b.ops f.next ≡ None) where
     abbrev s : SelState
     s = state_of f callers bytes printed taken
 
@@ -93,7 +94,8 @@ module _ (o : Object) (sel : Sel) (plan : Plan) (contents : List Content) (by : 
         let back = off + (size_of i + (size_of low_bit + 0)) in
         let jcc : Marked = unlinked (Jcc Cond.Ne (between (back + 6) (start d))) in
         let jmp : Marked = unlinked (Jmp (between (back + 11) (start e))) in
-        let h0 : Stands row off (unlinked i ∷ unlinked low_bit ∷ jcc ∷ jmp ∷ []) = end_here o sel plan contents by live suits input f callers bytes printed taken depth w fl ss off b is_function is_block stands whole none (end.If c d e) is in
+        let h0 : Stands row off (unlinked i ∷ unlinked low_bit ∷ jcc ∷ jmp ∷ []) =
+        end_here o sel plan contents by live suits input f callers bytes printed taken depth w fl ss off b is_function is_block stands whole none (end.If c d e) is in
         let h1 : Stands row p1 (unlinked low_bit ∷ jcc ∷ jmp ∷ []) = stands_next row off (unlinked i) (unlinked low_bit ∷ jcc ∷ jmp ∷ []) h0 in
         let h2 : Stands row p2 (jcc ∷ jmp ∷ []) = stands_next row p1 (unlinked low_bit) (jcc ∷ jmp ∷ []) h1 in
         let h3 : Stands row p3 (jmp ∷ []) = stands_next row p2 jcc (jmp ∷ []) h2 in
@@ -106,15 +108,19 @@ module _ (o : Object) (sel : Sel) (plan : Plan) (contents : List Content) (by : 
         let to_d : IsOneOf d (leads_to b.end) = subst (λ x. IsOneOf d (leads_to x)) (sym is) (inl refl) in
         let to_e : IsOneOf e (leads_to b.end) = subst (λ x. IsOneOf e (leads_to x)) (sym is) (inr (inl refl)) in
         let alive = (suits.allotted f.function _ is_function).end_reads f.block f.next c b is_block none (subst (λ x. IsOneOf c (end_reads x)) (sym is) (inl refl)) in
-        let s0 : step (at off w fl) ≡ at p1 w1 fl = step_through o f.function row (suits.codes f.function _ is_function) out off (unlinked i) (core_of w fl ss) (core_of w1 fl ss) (stands_one row off (unlinked i) (unlinked low_bit ∷ jcc ∷ jmp ∷ []) h0)
-            (reads_one (by f.function).homes f.base (by f.function).words (live f.function f.block f.next) f.registers (flat_in o sel plan contents by live suits input (f ∷ callers) bytes) w fl ss whole.tied c v Rax alive told) in
-        let s1 : step (at p1 w1 fl) ≡ at p2 w2 bit.flags = step_through o f.function row (suits.codes f.function _ is_function) out p1 (unlinked low_bit) (core_of w1 fl ss) (core_of w2 bit.flags ss) (stands_one row p1 (unlinked low_bit) (jcc ∷ jmp ∷ []) h1) bit.runs in
+        let s0 : step (at off w fl) ≡ at p1 w1 fl = step_through o f.function row (suits.codes f.function _ is_function) out off (unlinked i) (core_of w fl ss) (core_of w1 fl ss)
+        (stands_one row off (unlinked i) (unlinked low_bit ∷ jcc ∷ jmp ∷ []) h0)
+        (reads_one (by f.function).homes f.base (by f.function).words (live f.function f.block f.next) f.registers (flat_in o sel plan contents by live suits input (f ∷ callers) bytes) w fl ss whole.tied c v Rax alive told) in
+        let s1 : step (at p1 w1 fl) ≡ at p2 w2 bit.flags = step_through o f.function row (suits.codes f.function _ is_function) out p1 (unlinked low_bit) (core_of w1 fl ss) (core_of w2 bit.flags ss)
+        (stands_one row p1 (unlinked low_bit) (jcc ∷ jmp ∷ []) h1) bit.runs in
         let j2 : Stands row p2 (unlinked (Jcc Cond.Ne (between (p2 + 6) (start d))) ∷ []) = subst (λ q. Stands row p2 (unlinked (Jcc Cond.Ne (between (q + 6) (start d))) ∷ [])) same (stands_one row p2 jcc (jmp ∷ []) h2) in
         let j3 : Stands row p3 (unlinked (Jmp (between (p3 + 5) (start e))) ∷ []) = subst (λ q. Stands row p3 (unlinked (Jmp (between q (start e))) ∷ [])) last h3 in
         let low_d = low_start o sel plan contents by live suits input f callers bytes printed taken depth w fl ss off b is_function is_block stands whole none d to_d in
         let low_e = low_start o sel plan contents by live suits input f callers bytes printed taken depth w fl ss off b is_function is_block stands whole none e to_e in
-        let s2 : (q : Bool) → not (nat_eq (v % 2) 0) ≡ q → step (at p2 w2 bit.flags) ≡ (if q then at (start d) w2 bit.flags else at p3 w2 bit.flags) = λ q eq. tests p2 (start d) q w2 bit.flags low_d (omega (arith, near)) (bit.tells ∙ ap Some eq) j2 in
-        let s3 : step (at p3 w2 bit.flags) ≡ at (start e) w2 bit.flags = jumps_to o sel plan contents by live suits input f callers bytes printed taken depth w fl ss off b is_function is_block stands whole none p3 (start e) w2 bit.flags low_e (omega (arith, near)) j3 in
+        let s2 : (q : Bool) → not (nat_eq (v % 2) 0) ≡ q → step (at p2 w2 bit.flags) ≡ (if q then at (start d) w2 bit.flags else at p3 w2 bit.flags) =
+        λ q eq. tests p2 (start d) q w2 bit.flags low_d (omega (arith, near)) (bit.tells ∙ ap Some eq) j2 in
+        let s3 : step (at p3 w2 bit.flags) ≡ at (start e) w2 bit.flags =
+        jumps_to o sel plan contents by live suits input f callers bytes printed taken depth w fl ss off b is_function is_block stands whole none p3 (start e) w2 bit.flags low_e (omega (arith, near)) j3 in
         let kept : Same w w2 = record { rbx = refl; rbp = refl; rsp = refl; r12 = refl; r13 = refl; r14 = refl; r15 = refl } in
         by_test (nat_eq (v % 2) 0) refl
         (λ eq. inr (met_by A_ B_ Stage_ (λ _. 0) most_steps s (sel_turned s (to_block s f callers d)) (at off w fl) (at (start d) w2 bit.flags)
@@ -129,7 +135,8 @@ module _ (o : Object) (sel : Sel) (plan : Plan) (contents : List Content) (by : 
         (comes_step step 1 1 (at p2 w2 bit.flags) (at p3 w2 bit.flags) (at (start e) w2 bit.flags) (s2 false (ap not eq)) (comes_one step (at p3 w2 bit.flags) (at (start e) w2 bit.flags) s3)))))
         (inl (arrives o sel plan contents by live suits input f callers bytes printed taken depth w fl ss off b is_function is_block stands whole none e w2 bit.flags to_e kept))))
       where
-        by_test : (q : Bool) → nat_eq (v % 2) 0 ≡ q → (nat_eq (v % 2) 0 ≡ false → Turned_ (to_block s f callers d)) → (nat_eq (v % 2) 0 ≡ true → Turned_ (to_block s f callers e)) → Turned_ (to_block s f callers (if nat_eq (v % 2) 0 then e else d))
+        by_test : (q : Bool) → nat_eq (v % 2) 0 ≡ q → (nat_eq (v % 2) 0 ≡ false → Turned_ (to_block s f callers d)) → (nat_eq (v % 2) 0 ≡ true → Turned_ (to_block s f callers e)) →
+            Turned_ (to_block s f callers (if nat_eq (v % 2) 0 then e else d))
         by_test true eq one other = subst (λ q. Turned_ (to_block s f callers (if q then e else d))) (sym eq) (other eq)
         by_test false eq one other = subst (λ q. Turned_ (to_block s f callers (if q then e else d))) (sym eq) (one eq)
 

@@ -1,42 +1,36 @@
 -- What is chosen for a program makes each of its functions keep the rules.
-use Rattle.std.proofs.Common.{◌≡◌, ℕ, zero, suc, ◌+◌, ◌-◌, ◌*◌, ◌<◌, ◌≤◌, ◌^◌, Bool, true, false, List, [], ◌∷◌, ◌++◌, length, map, max, get_or, take, drop, Option, Some, None, slice_get, slice_index, refl, ap, sym, subst, ◌∙◌, arith}
-use Rattle.std.specs.List.{All, sum_by}
+use Rattle.std.proofs.Common.{◌≡◌, ℕ, zero, suc, ◌+◌, ◌*◌, ◌<◌, ◌≤◌, ◌^◌, Bool, true, false, List, [], ◌∷◌, length, map, get_or, Some, slice_get, slice_index, refl, ap, sym, subst, ◌∙◌, arith}
+use Rattle.std.specs.List.{All}
 use Rattle.std.proofs.lemmas.List.Elements.{All-head, All-tail, All-nil}
-use Rattle.std.proofs.lemmas.List.Sums.{sum_by-cons}
 use Rattle.rd_draw.proofs.Permuted.{shuffled_long}
-use Rattle.rd_draw.specs.Draw.{keystream_word, shuffled}
-use Rattle.ir_core.specs.declared.limit.TheConstants.{MAX_CODE, MAX_FRAME, MAX_PARAMETERS}
+use Rattle.rd_draw.specs.Draw.{keystream_word}
+use Rattle.ir_core.specs.declared.limit.TheConstants.{MAX_CODE}
 use Rattle.ir_core.specs.Counts.{greatest}
 use Rattle.x86_core.specs.declared.reg.Reg.{Reg}
 use Rattle.low_core.specs.declared.sel.Home.{Home}
 use Rattle.low_core.specs.declared.sel.Home.TheVariants as home
 use Rattle.low_core.specs.declared.sel.SelOp.{SelOp}
 use Rattle.low_core.specs.declared.sel.SelOp.TheVariants.{Set, Copy, Alu, Div, Widen, Test, Pick, Load, Store, FrameAt, GlobalAt, FunctionAt, Call, CallAt, Outside}
-use Rattle.low_core.specs.declared.sel.SelBlock.{SelBlock}
 use Rattle.low_core.specs.declared.sel.SelFun.{SelFun}
 use Rattle.low_core.specs.declared.sel.Sel.{Sel}
-use Rattle.low_core.specs.SelParts.{leads_to}
-use Rattle.low_core.specs.SelShaped.{IsOpShaped, IsBlockShaped, IsFunShaped, IsSel}
+use Rattle.low_core.specs.SelShaped.{IsOpShaped, IsFunShaped}
 use Rattle.low_core.specs.SelWeights.{words_passed, sel_function_weight}
-use Rattle.frame_rows.specs.declared.spot.Spot.{Spot}
-use Rattle.frame_rows.specs.declared.spot.Spot.TheVariants.{Own, Frame}
-use Rattle.frame_rows.specs.Bodies.{or_lowest, spot_of}
+use Rattle.frame_rows.specs.declared.spot.Spot.TheVariants.{Frame}
+use Rattle.frame_rows.specs.Bodies.{or_lowest}
 use Rattle.frame_rows.specs.Ties.{IsHome}
-use Rattle.obj_core.specs.declared.address.SlotAddr.{SlotAddr}
 use Rattle.obj_core.specs.Saved.{five_of}
 use Rattle.obj_core.specs.Slots.{slot_base, push_purpose}
-use Rattle.slot_plan.specs.Slots.{IsPlan, pointers_from, positions_of, slots_of, takens}
-use Rattle.slot_plan.proofs.Bounds.{drawn, bounds, slots_long}
+use Rattle.slot_plan.specs.Slots.{pointers_from, slots_of}
+use Rattle.slot_plan.proofs.Bounds.{drawn, bounds}
 use Rattle.frame_lower.specs.Blocks.{calls_of_blocks}
-use Rattle.frame_lower.specs.Frames.{spot, spots, words_to, home_words, frame_words, room_bytes}
+use Rattle.frame_lower.specs.Frames.{spot, words_to, frame_words}
 use Rattle.frame_lower.specs.Functions.{Choices, making_with, slot_number}
-use Rattle.frame_lower.specs.Given.{HasPlaces, HavePlaces, IsInFrame, AreInFrame, AreChosen, IsSmall, calls_of_functions}
+use Rattle.frame_lower.specs.Given.{HasPlaces, HavePlaces, IsInFrame, AreInFrame, AreChosen}
 use Rattle.frame_lower.specs.Rows.{Making}
 use Rattle.frame_lower.proofs.FrameLaws.{room_few}
-use Rattle.frame_lower.proofs.Programs.{is_small, calls_more}
-use Rattle.frame_lower.proofs.Ranged.{IsNear, IsRanged}
+use Rattle.frame_lower.proofs.Programs.{is_small}
+use Rattle.frame_lower.proofs.Ranged.{IsNear}
 use Rattle.frame_lower.proofs.RowKeeps.{IsWhole}
-use Rattle.frame_lower.proofs.Tame.{AreWords}
 
 -- homes of a number
 pub places_of : (fs : List SelFun) (hss : List (List Home)) (n : ℕ) (f : SelFun) → HavePlaces fs hss → slice_get fs n ≡ Some f → HasPlaces f (get_or hss n [])

@@ -1,6 +1,5 @@
 -- A function ends with an instruction that nothing runs past, begins with the prologue of functions that save registers, and its cuts are good.
-use Rattle.std.proofs.Common.{◌≡◌, ℕ, zero, suc, ◌+◌, ◌-◌, ◌<◌, ◌≤◌, Bool, true, false, ◌&&◌, ◌||◌, nat_eq, nat_lt, if◌then◌else◌, List, [], ◌∷◌, ◌++◌, length, take, map, Option, Some, None, pos, refl, ap, sym, subst, ◌∙◌, arith, append_assoc, length-append}
-use Rattle.std.specs.Cmp.Lexicographic.{pointwise}
+use Rattle.std.proofs.Common.{◌≡◌, ℕ, zero, suc, ◌+◌, ◌<◌, ◌≤◌, Bool, true, false, ◌&&◌, ◌||◌, nat_eq, nat_lt, if◌then◌else◌, List, [], ◌∷◌, ◌++◌, length, take, Some, None, pos, refl, ap, sym, subst, ◌∙◌, arith, append_assoc}
 use Rattle.std.proofs.lemmas.Bool.{eq-eqb, lt-ltb, and_from}
 use Rattle.std.proofs.lemmas.List.{append-nil}
 use Rattle.x86_core.specs.declared.reg.Reg.TheVariants.{R15, Rsp}
@@ -18,7 +17,7 @@ use Rattle.low_core.specs.declared.sel.SelBlock.{SelBlock}
 use Rattle.low_core.specs.declared.sel.SelFun.{SelFun}
 use Rattle.frame_rows.specs.Code.{home_read}
 use Rattle.obj_core.specs.Disassembly.{Found, found, found_from, size_of, spelled, starts_at}
-use Rattle.obj_core.specs.Saved.{saved_register, five_of, prologue, pushes, same_bytes, begins_with}
+use Rattle.obj_core.specs.Saved.{five_of, prologue, same_bytes, begins_with}
 use Rattle.obj_core.specs.Slots.{push_purpose}
 use Rattle.obj_core.specs.WellFormed.{end_of, is_end, stops_at, is_good_cut, bad_cut}
 use Rattle.obj_rows.specs.Marked.{Marked, all_unlinked, instrs_of, row_size}
@@ -107,8 +106,8 @@ function_begins by slot f reg_seed number drawn =
     let front = front_row by f in
     let blocks = blocks_row by (start_in (starts_from by (row_size front) f.blocks)) (row_size front) slot f.blocks in
     let split : instrs_of (function_row by slot f) ≡ first ++ ((stack ∷ receive) ++ instrs_of blocks) =
-        instrs_of-append front blocks ∙ ap (λ l. l ++ instrs_of blocks) (instrs_of-unlinked (count_row ++ (push_row by.order ++ (stack ∷ receive))))
-        ∙ append_assoc first (stack ∷ receive) (instrs_of blocks) in
+    instrs_of-append front blocks ∙ ap (λ l. l ++ instrs_of blocks) (instrs_of-unlinked (count_row ++ (push_row by.order ++ (stack ∷ receive))))
+    ∙ append_assoc first (stack ∷ receive) (instrs_of blocks) in
     let its : spelled first ≡ prologue reg_seed number = ap (λ order. spelled (instr.AluImm ImmOp.Sub Wide.W64 R15 (pos 1) ∷ instr.Jcc Cond.Ae (pos 1) ∷ instr.Int3 ∷ push_row order)) drawn in
     ap (begins_with (prologue reg_seed number)) (ap spelled split ∙ spelled_both first ((stack ∷ receive) ++ instrs_of blocks))
     ∙ ap (λ p. begins_with p (spelled first ++ spelled ((stack ∷ receive) ++ instrs_of blocks))) (sym its)
@@ -142,8 +141,8 @@ module _ (all : List Found) where
       by true e passed kept =
           let some = some_bytes i in
           let good : is_good_cut before all (at + size_of i) ≡ true =
-              and_from (nat_lt before (at + size_of i)) (starts_at all (at + size_of i) && stops_at all (at + size_of i)) (lt-ltb before (at + size_of i) (omega (arith, low, some)))
-              (and_from (starts_at all (at + size_of i)) (stops_at all (at + size_of i)) k.0 (k.1.0 e)) in
+          and_from (nat_lt before (at + size_of i)) (starts_at all (at + size_of i) && stops_at all (at + size_of i)) (lt-ltb before (at + size_of i) (omega (arith, low, some)))
+          (and_from (starts_at all (at + size_of i)) (stops_at all (at + size_of i)) k.0 (k.1.0 e)) in
           let rest = bad_cut (at + size_of i) all (cuts_from (at + size_of i) (j ∷ is)) in
           ap (λ b. if b then rest else (at + size_of i) ∷ []) good ∙ kept
 
@@ -152,17 +151,16 @@ knows_more : (f : Found) (all : List Found) (at : ℕ) (is : List Instr) → Kno
 knows_more f all at [] k = tt
 knows_more f all at (i ∷ []) k = tt
 knows_more f all at (i ∷ j ∷ is) k = (
-    second_holds (nat_eq f.at (at + size_of i)) (starts_at all (at + size_of i)) k.0,
-    ((λ e. second_holds (nat_eq (end_of f) (at + size_of i) && is_end f.instr) (stops_at all (at + size_of i)) (k.1.0 e)), knows_more f all (at + size_of i) (j ∷ is) k.1.1),
-  )
+  second_holds (nat_eq f.at (at + size_of i)) (starts_at all (at + size_of i)) k.0,
+  ((λ e. second_holds (nat_eq (end_of f) (at + size_of i) && is_end f.instr) (stops_at all (at + size_of i)) (k.1.0 e)), knows_more f all (at + size_of i) (j ∷ is) k.1.1),
+)
 
 knows_own : (at : ℕ) (is : List Instr) → Knows (found_from at is) at is
 knows_own at [] = tt
 knows_own at (i ∷ []) = tt
 knows_own at (i ∷ j ∷ is) =
     let next = at + size_of i in
-    let behind = found_from (next + size_of j) is in
-    (
+    let behind = found_from (next + size_of j) is in (
       second_holds (nat_eq at next) (nat_eq next next || starts_at behind next) (first_holds (nat_eq next next) (starts_at behind next) (eq-eqb next next refl)),
       (
         (λ e. first_holds (nat_eq next next && is_end i) (stops_at (found_from next (j ∷ is)) next) (and_from (nat_eq next next) (is_end i) (eq-eqb next next refl) e)),

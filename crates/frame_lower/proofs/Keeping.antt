@@ -1,5 +1,5 @@
 -- Functions that keep the rules of well-formed objects, and an object all of whose functions do.
-use Rattle.std.proofs.Common.{◌≡◌, ℕ, zero, suc, ◌+◌, ◌<◌, ◌≤◌, ◌⊎◌, inl, inr, Bool, true, false, ◌&&◌, nat_eq, if◌then◌else◌, List, [], ◌∷◌, ◌++◌, length, Option, Some, None, slice_get, refl, ap, sym, subst, ◌∙◌, arith}
+use Rattle.std.proofs.Common.{◌≡◌, ℕ, zero, suc, ◌+◌, ◌⊎◌, inl, inr, Bool, true, false, nat_eq, if◌then◌else◌, List, [], ◌∷◌, ◌++◌, length, Some, None, slice_get, refl, ap, subst, ◌∙◌, arith}
 use Rattle.x86_core.specs.declared.instr.Instr.{Instr}
 use Rattle.obj_core.specs.declared.object.CodeAt.{CodeAt}
 use Rattle.obj_core.specs.declared.object.Func.{Func}
@@ -7,7 +7,7 @@ use Rattle.obj_core.specs.declared.object.FuncKind.{FuncKind}
 use Rattle.obj_core.specs.declared.object.Link.{Link}
 use Rattle.obj_core.specs.Object.{Each}
 use Rattle.obj_core.specs.Disassembly.{IsDisassembly, AreDisassemblies, Found, found, starts_at}
-use Rattle.obj_core.specs.WellFormed.{bad_branches, bad_links, forbidden_in, open_end, is_saved_well, bad_cut, is_start, Violation, or_else, at_least_offset, in_functions, zero_unless}
+use Rattle.obj_core.specs.WellFormed.{bad_branches, bad_links, forbidden_in, open_end, is_saved_well, bad_cut, is_start, or_else, at_least_offset, in_functions, zero_unless}
 use Rattle.obj_rows.specs.Assembled.{ends_in, ends_from}
 use Rattle.obj_rows.specs.Sound.{IsSoundFunction}
 use Rattle.frame_lower.proofs.Members.{IsIn}

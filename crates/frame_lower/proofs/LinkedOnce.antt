@@ -1,7 +1,6 @@
 -- Each planned slot of a program is linked once in its functions where its jump stands there, and an object that is put together goes back behind that jump.
-use Rattle.std.proofs.Common.{◌≡◌, ℕ, zero, suc, ◌+◌, ◌<◌, ◌≤◌, ◌⊎◌, inl, inr, Bool, true, false, ◌&&◌, nat_le, nat_lt, if◌then◌else◌, List, [], ◌∷◌, ◌++◌, map, length, take, get_or, Option, Some, None, pos, slice_get, refl, ap, sym, subst, ◌∙◌, arith}
+use Rattle.std.proofs.Common.{◌≡◌, ℕ, zero, suc, ◌+◌, ◌<◌, ◌≤◌, inl, inr, true, false, ◌&&◌, nat_le, nat_lt, if◌then◌else◌, List, [], ◌∷◌, ◌++◌, map, length, take, Some, pos, slice_get, refl, ap, sym, subst, ◌∙◌, arith}
 use Rattle.std.proofs.lemmas.Bool.{le-leb, lt-ltb, le-ltb}
-use Rattle.std.specs.List.{sum_by}
 use Rattle.x86_core.specs.declared.reg.Reg.{Reg}
 use Rattle.x86_core.specs.declared.instr.Instr.TheVariants as instr
 use Rattle.low_core.specs.declared.sel.Home.{Home}
@@ -69,7 +68,7 @@ linked_once c sel (suc j) slot site there has =
             let inside = get_below calls more.0 slot here in
             let at = more.1 in
             let test : (nat_le 0 site.function && nat_lt site.function (0 + length (lowered c sel))) ≡ true =
-                ap (λ b. b && nat_lt site.function (0 + length (lowered c sel))) (le-leb 0 site.function (omega arith)) ∙ lt-ltb _ _ (omega (arith, below, long)) in
+            ap (λ b. b && nat_lt site.function (0 + length (lowered c sel))) (le-leb 0 site.function (omega arith)) ∙ lt-ltb _ _ (omega (arith, below, long)) in
             lowered_one c sel (suc j) (omega (arith, at, jumps_are)) (omega (arith, at, jumps_are, calls_are, inside))
             ∙ sym (ap (λ b. if b then 1 else 0) test)
         | inr behind ↦
@@ -77,7 +76,7 @@ linked_once c sel (suc j) slot site there has =
             let at = more.1 in
             let at2 = behind.1 in
             let test : (nat_le 0 site.function && nat_lt site.function (0 + length (lowered c sel))) ≡ false =
-                ap (λ b. b && nat_lt site.function (0 + length (lowered c sel))) (le-leb 0 site.function (omega arith)) ∙ le-ltb _ _ (omega (arith, beyond, long)) in
+            ap (λ b. b && nat_lt site.function (0 + length (lowered c sel))) (le-leb 0 site.function (omega arith)) ∙ le-ltb _ _ (omega (arith, beyond, long)) in
             ap length (lowered_none c sel (suc j) (omega (arith, at, at2, jumps_are, calls_are)))
             ∙ sym (ap (λ b. if b then 1 else 0) test)
       ]
@@ -101,7 +100,7 @@ way_of row fs routines g off k rest back there stands ends =
     let first : IsIn e (ends_from k 0 fs) = end_from k 0 g fs (saved_function row) link there refl (jump_linked row rest off k stands) in
     let cut : IsIn e (ends_from k 0 (with_first_cuts most_cuts fs)) = subst (IsIn e) (sym (ends_uncut most_cuts k 0 fs)) first in
     let all : IsIn e (ends_from k 0 (with_first_cuts most_cuts fs ++ routines)) =
-        subst (IsIn e) (sym (ends_append k 0 (with_first_cuts most_cuts fs) routines)) (in_left e (ends_from k 0 (with_first_cuts most_cuts fs)) _ cut) in
+    subst (IsIn e) (sym (ends_append k 0 (with_first_cuts most_cuts fs) routines)) (in_left e (ends_from k 0 (with_first_cuts most_cuts fs)) _ cut) in
     let same : e ≡ back = only_one e back (subst (IsIn e) ends all) in
     sym same ∙ places (0 + g) g (off + 1 + 4) (off + 5) (omega arith) (omega arith)
   where

@@ -1,17 +1,16 @@
 -- Each slot whose jump stands in a function of a program is linked once there, and no other slot that comes back is.
-use Rattle.std.proofs.Common.{◌≡◌, ◌≢◌, ℕ, zero, suc, ◌+◌, ◌<◌, ◌≤◌, ◌⊎◌, inl, inr, Bool, true, false, nat_eq, if◌then◌else◌, List, [], ◌∷◌, ◌++◌, map, length, take, get_or, Option, Some, None, slice_get, refl, ap, sym, ◌∙◌, arith}
+use Rattle.std.proofs.Common.{◌≡◌, ◌≢◌, ℕ, zero, suc, ◌+◌, ◌<◌, ◌≤◌, ◌⊎◌, inl, inr, if◌then◌else◌, List, [], ◌∷◌, ◌++◌, map, length, get_or, refl, ap, ◌∙◌, arith}
 use Rattle.std.proofs.lemmas.Bool.{cases_lt, eq-eqb, ne_eqb}
 use Rattle.std.proofs.lemmas.List.{length-append}
 use Rattle.x86_core.specs.declared.reg.Reg.{Reg}
 use Rattle.low_core.specs.declared.sel.Home.{Home}
 use Rattle.low_core.specs.declared.sel.SelFun.{SelFun}
 use Rattle.obj_core.specs.declared.object.CodeAt.{CodeAt}
-use Rattle.obj_core.specs.declared.object.Func.{Func}
 use Rattle.obj_core.specs.declared.object.Link.{Link}
 use Rattle.obj_rows.specs.Marked.{links_from}
 use Rattle.obj_rows.specs.Assembled.{ends_in, ends_from}
 use Rattle.frame_lower.specs.Blocks.{calls_of_blocks}
-use Rattle.frame_lower.specs.Functions.{function_row, making_with, saved_function, functions_with}
+use Rattle.frame_lower.specs.Functions.{function_row, making_with, functions_with}
 use Rattle.frame_lower.specs.Given.{calls_of_functions}
 use Rattle.frame_lower.proofs.Marks.{numbered, function_marks, links_marks}
 use Rattle.frame_lower.proofs.Programs.{calls_more}
@@ -67,7 +66,7 @@ module _ (globals functions : List ℕ) (reg_draw : ℕ) (names : List (List Reg
       let rest = functions_with globals functions reg_draw names homes (suc number) (slot + calls_of_blocks f.blocks) fs in
       let by = making_with globals functions reg_draw number (get_or names number []) (get_or homes number []) f in
       ap (λ l. l ++ ends_from k (suc number) rest) (none_in k number slot (calls_of_blocks f.blocks) (links_from 0 (function_row by slot f)) (links_are number slot f)
-        (elim outside [ inl o ↦ inl o | inr o ↦ inr (omega (arith, o, more)) ]))
+      (elim outside [ inl o ↦ inl o | inr o ↦ inr (omega (arith, o, more)) ]))
       ∙ none_from k (suc number) (slot + calls_of_blocks f.blocks) fs (elim outside [ inl o ↦ inl (omega (arith, o)) | inr o ↦ inr (omega (arith, o, more)) ])
 
   pub one_from : (k number slot : ℕ) (fs : List SelFun) → slot ≤ k → k < slot + calls_of_functions fs → length (ends_from k number (functions_with globals functions reg_draw names homes number slot fs)) ≡ 1

@@ -1,13 +1,13 @@
 -- The flat memory of a call that begins, and of one that is over.
-use Rattle.std.proofs.Common.{◌≡◌, ℕ, ◌+◌, ◌*◌, ◌<◌, ◌≤◌, Bool, true, false, ◌&&◌, ◌||◌, nat_le, nat_lt, if◌then◌else◌, List, ◌∷◌, Option, Some, None, refl, sym, ◌∙◌, ap, inl, inr, ◌⊎◌, arith}
-use Rattle.std.proofs.lemmas.Bool.{cases_lt, or_cases, and_parts, and_from, leb-true, le-leb, lt-ltb}
+use Rattle.std.proofs.Common.{◌≡◌, ℕ, ◌+◌, ◌*◌, ◌<◌, ◌≤◌, Bool, true, false, ◌&&◌, ◌||◌, nat_le, nat_lt, if◌then◌else◌, List, ◌∷◌, Some, None, refl, sym, ◌∙◌, ap, inl, inr, ◌⊎◌, arith}
+use Rattle.std.proofs.lemmas.Bool.{or_cases, and_parts, and_from, leb-true, le-leb, lt-ltb}
 use Rattle.x86_core.specs.declared.image.Segment.{Segment}
 use Rattle.x86_core.specs.Memory.{reads, writes}
 use Rattle.x86_core.specs.Data.{stack_start, stack_end}
 use Rattle.x86_rows.specs.Addresses.{byte_at, SameShape}
 use Rattle.x86_rows.specs.Saving.{IsStack}
 use Rattle.x86_rows.proofs.Shapes.{one_same}
-use Rattle.low_core.specs.Flat.{Span, Bytes, Flat, covers, is_inside, is_writable, forgotten}
+use Rattle.low_core.specs.Flat.{Span, Bytes, covers, is_inside, is_writable, forgotten}
 use Rattle.frame_rows.specs.Ties.{Contains}
 
 -- a range in a span, in numbers
@@ -42,7 +42,8 @@ forgotten_told bytes start size p b e = by_test (nat_le start p && nat_lt p (sta
     by_test false e = e
 
 -- a call in a free part of the stack, below an address
-pub contains_made : (base words base2 words2 start size top : ℕ) (spans : List Span) (bytes : Bytes) (ss ts : List Segment) → IsStack stack_start stack_end ts → SameShape ss ts → stack_start ≤ base2 → base2 + 8 * words2 ≤ start → start + size ≤ top → top ≤ stack_end →
+pub contains_made : (base words base2 words2 start size top : ℕ) (spans : List Span) (bytes : Bytes) (ss ts : List Segment) → IsStack stack_start stack_end ts → SameShape ss ts → stack_start ≤ base2 → base2 + 8 * words2 ≤ start →
+    start + size ≤ top → top ≤ stack_end →
     ((p : ℕ) → is_inside p 1 spans ≡ true → stack_start ≤ p → p < top → ⊥) → ((p : ℕ) → is_inside p 1 spans ≡ true → byte_at ts p ≡ byte_at ss p) → Contains base words (record { spans = spans; bytes = bytes }) ss →
     Contains base2 words2 (record { spans = span start size ∷ spans; bytes = forgotten bytes start size }) ts
 contains_made base words base2 words2 start size top spans bytes ss ts stack shape low over under high quiet same c = record {
@@ -69,7 +70,8 @@ or_right true b e = refl
 or_right false b e = e
 
 -- a call that is over leaves the spans of those that waited
-pub contains_gone : (base words base2 words2 : ℕ) (own : Span) (spans : List Span) (bytes : Bytes) (ss : List Segment) → ((p : ℕ) → is_inside p 1 spans ≡ true → base2 ≤ p → p < base2 + 8 * words2 → ⊥) → Contains base words (record { spans = own ∷ spans; bytes = bytes }) ss →
+pub contains_gone : (base words base2 words2 : ℕ) (own : Span) (spans : List Span) (bytes : Bytes) (ss : List Segment) → ((p : ℕ) → is_inside p 1 spans ≡ true → base2 ≤ p → p < base2 + 8 * words2 → ⊥) →
+    Contains base words (record { spans = own ∷ spans; bytes = bytes }) ss →
     Contains base2 words2 (record { spans = spans; bytes = bytes }) ss
 contains_gone base words base2 words2 own spans bytes ss off c = record {
   told = λ p b i e. c.told p b (or_right (covers p 1 own) (is_inside p 1 spans) i) e;

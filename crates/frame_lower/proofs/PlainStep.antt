@@ -1,11 +1,10 @@
 -- A step that is no call: the row of the operation is passed, or stops as it does.
-use Rattle.std.proofs.Common.{◌≡◌, ℕ, zero, suc, ◌+◌, ◌*◌, ◌^◌, ◌<◌, ◌≤◌, List, [], ◌∷◌, ◌++◌, length, drop, take, Option, Some, None, Ok, Err, refl, sym, ◌∙◌, ap, subst, inl, inr, ◌⊎◌, true, false, arith}
+use Rattle.std.proofs.Common.{◌≡◌, ℕ, ◌+◌, ◌*◌, ◌≤◌, List, ◌∷◌, ◌++◌, length, drop, take, Option, Some, Err, refl, sym, ◌∙◌, ap, subst, inl, inr, ◌⊎◌, false, arith}
 use Rattle.std.specs.Prelude.{slice_get}
 use Rattle.behavior.specs.Ending.{Ending, is_left}
 use Rattle.behavior.specs.Ending as ending
 use Rattle.behavior.specs.Moment.{IsLeft}
 use Rattle.behavior.specs.System.{System, iter}
-use Rattle.behavior.proofs.Laws.{agrees_equal}
 use Rattle.behavior.proofs.Stretch.{comes_wider, met_by}
 use Rattle.ir_core.specs.Stops.{Stop, Divide, Answer, ending_of}
 use Rattle.x86_core.specs.declared.flags.Flags.{Flags}
@@ -16,22 +15,21 @@ use Rattle.x86_core.specs.Memory.{reads, writes}
 use Rattle.x86_core.specs.Step.{State, moment_of}
 use Rattle.x86_rows.specs.Addresses.{SameShape}
 use Rattle.x86_rows.specs.Saving.{IsStack}
-use Rattle.x86_rows.specs.Straight.{Through, Stopped, exec}
+use Rattle.x86_rows.specs.Straight.{Stopped, exec}
 use Rattle.x86_rows.proofs.Shapes.{one_same, disjoint_same}
 use Rattle.low_core.specs.declared.sel.SelBlock.{SelBlock}
 use Rattle.low_core.specs.declared.sel.SelFun.{SelFun}
 use Rattle.low_core.specs.declared.sel.SelOp.{SelOp}
 use Rattle.low_core.specs.declared.sel.SelOp.TheVariants.{Set, Copy, Alu, Div, Widen, Test, Pick, Load, Store, FrameAt, GlobalAt, FunctionAt, Call, CallAt, Outside}
 use Rattle.low_core.specs.declared.sel.Sel.{Sel}
-use Rattle.low_core.specs.Flat.{Span, Bytes, is_inside}
+use Rattle.low_core.specs.Flat.{Span, Bytes}
 use Rattle.low_core.specs.Plan.{Plan, Content}
 use Rattle.low_core.specs.SelState.{SelFrame, SelState, SelTurn, sel_moment, sel_turned}
-use Rattle.low_core.specs.SelStep.{op_turn, sel_step}
-use Rattle.low_core.specs.SelWeights.{calls_at}
+use Rattle.low_core.specs.SelStep.{op_turn}
 use Rattle.obj_core.specs.declared.object.Object.{Object}
 use Rattle.obj_core.specs.declared.object.Place.{Place}
 use Rattle.obj_core.specs.SymbolicMachine.{symbolic_step}
-use Rattle.obj_rows.specs.Marked.{Marked, all_unlinked, instrs_of, row_size, Stands}
+use Rattle.obj_rows.specs.Marked.{Marked, all_unlinked, row_size, Stands}
 use Rattle.obj_rows.specs.Standing.{Outside as World, standing, shown}
 use Rattle.obj_rows.proofs.Rows.{stands_first, stands_behind, instrs_of-unlinked, length-unlinked}
 use Rattle.obj_rows.proofs.Runs.{row_comes, row_stops}
@@ -43,13 +41,14 @@ use Rattle.frame_rows.specs.Steps.{Leads, Meets, turn_to}
 use Rattle.frame_rows.specs.Words.{Words, core_of}
 use Rattle.frame_rows.proofs.Lengths.{op_sized}
 use Rattle.frame_rows.proofs.Operations.{op_law}
-use Rattle.frame_lower.specs.Chain.{function_in, slot_behind, code_in, rest_in, pushes_of, spans_of, IsOff, Chain}
+use Rattle.frame_lower.specs.Chain.{function_in, slot_behind, code_in, rest_in, spans_of}
 use Rattle.frame_lower.specs.Rows.{Making, marked_op}
 use Rattle.frame_lower.specs.Suits.{Suits}
 use Rattle.frame_lower.proofs.Chains.{chain_same, chain_moved, chain_high, reserved_low, moved_to}
-use Rattle.frame_lower.proofs.Facts.{op_ready, frame_few}
+use Rattle.frame_lower.proofs.Facts.{op_ready}
 use Rattle.frame_lower.proofs.Rests.{op_stands}
-use Rattle.frame_lower.proofs.Stage.{most_steps, state_of, last, globals, flat_in, Whole, Stage, A, B, Meets_, step_is}
+use Rattle.frame_lower.specs.Meaning.{most_steps}
+use Rattle.frame_lower.proofs.Stage.{state_of, last, globals, flat_in, Whole, Stage, A, B, Meets_}
 
 -- the stack may be used after any write
 pub stack_same : (low high : ℕ) (ss ts : List Segment) → SameShape ss ts → IsStack low high ss → IsStack low high ts
@@ -116,7 +115,8 @@ module _ (o : Object) (sel : Sel) (plan : Plan) (contents : List Content) (by : 
   last_ = last o sel plan contents by live suits input
 
   -- an operation of the running function leaves what waits
-  pub whole_op : (f : SelFrame) (depth : ℕ) (callers : List SelFrame) (alive after : ℕ → Type 0) (bytes bytes2 : Bytes) (registers : List (Option ℕ)) (w : Words) (fl : Flags) (ss : List Segment) (row : List Instr) (fn : SelFun) → slice_get sel.functions f.function ≡ Some fn →
+  pub whole_op : (f : SelFrame) (depth : ℕ) (callers : List SelFrame) (alive after : ℕ → Type 0) (bytes bytes2 : Bytes) (registers : List (Option ℕ)) (w : Words) (fl : Flags) (ss : List Segment) (row : List Instr) (fn : SelFun) →
+      slice_get sel.functions f.function ≡ Some fn →
       Tells f depth callers alive bytes w ss → (x : Leads (by f.function).homes f.base (by f.function).words row w fl ss after registers (flat_in o sel plan contents by live suits input (f ∷ callers) bytes2)) →
       Tells (moved_to o sel by globals_ live last_ f f.block (f.next + 1) registers) depth callers after bytes2 x.after x.segments
   whole_op f depth callers alive after bytes bytes2 registers w fl ss row fn is_function t x = record {
@@ -157,13 +157,15 @@ module _ (o : Object) (sel : Sel) (plan : Plan) (contents : List Content) (by : 
 
     -- the row of an operation that is passed leads to the next one
     pub goes_on : (op : SelOp) → slice_get b.ops f.next ≡ Some op → IsNoCall op → (registers : List (Option ℕ)) (bytes2 : Bytes) →
-        Leads by_.homes f.base by_.words (op_row by_.homes by_.plan (8 * by_.words) op) w fl ss (live f.function f.block (f.next + 1)) registers (flat_in o sel plan contents by live suits input (f ∷ callers) bytes2) → Turned (turn_to f callers registers bytes2)
+        Leads by_.homes f.base by_.words (op_row by_.homes by_.plan (8 * by_.words) op) w fl ss (live f.function f.block (f.next + 1)) registers (flat_in o sel plan contents by live suits input (f ∷ callers) bytes2) →
+        Turned (turn_to f callers registers bytes2)
     goes_on op there plain registers bytes2 x =
         let first = op_row by_.homes by_.plan (8 * by_.words) op in
         let part = all_unlinked first in
         let off2 = off + row_size part in
         let stood : Stands row off (part ++ rest_in sel by f.function off2 f.block (f.next + 1) b) =
-            subst (λ m. Stands row off (m ++ rest_in sel by f.function (off + row_size m) f.block (f.next + 1) b)) (plain_row by_ (slot_behind sel f.function f.block (take f.next b.ops)) op plain) (op_stands sel by f.function f.block f.next b row off stands op there) in
+        subst (λ m. Stands row off (m ++ rest_in sel by f.function (off + row_size m) f.block (f.next + 1) b)) (plain_row by_ (slot_behind sel f.function f.block (take f.next b.ops)) op plain)
+        (op_stands sel by f.function f.block f.next b row off stands op there) in
         let u = standing out (Place.Code f.function off2) (core_of x.after x.flags x.segments) in
         let g = moved_to o sel by globals_ live last_ f f.block (f.next + 1) registers in
         let sized = op_sized by_.homes by_.plan (8 * by_.words) op plain in
@@ -195,12 +197,14 @@ module _ (o : Object) (sel : Sel) (plan : Plan) (contents : List Content) (by : 
         })))
 
     -- a row that stops stops both runs
-    pub stops_at : (part : List Instr) (rest : List Marked) (stop : Stop) (e : Ending) → Stands row off (all_unlinked part ++ rest) → exec part (core_of w fl ss) ≡ Stopped e → length part ≤ 100 → 1 ≤ length part → ending.is_going (ending_of stop) ≡ false → ending.common (ending_of stop) ≡ ending.common e → Turned (Err stop)
+    pub stops_at : (part : List Instr) (rest : List Marked) (stop : Stop) (e : Ending) → Stands row off (all_unlinked part ++ rest) → exec part (core_of w fl ss) ≡ Stopped e → length part ≤ 100 → 1 ≤ length part →
+        ending.is_going (ending_of stop) ≡ false → ending.common (ending_of stop) ≡ ending.common e → Turned (Err stop)
     stops_at part rest stop e stood stops few some stopped agree =
         let marked = all_unlinked part in
         let long = length-unlinked part in
         let u = iter (symbolic_step o) (length marked) t in
-        let m : moment_of u ≡ shown out e = row_stops o f.function row (suits.codes f.function _ is_function) out marked off (core_of w fl ss) e (stands_first row off marked rest stood) (ap (λ is. exec is (core_of w fl ss)) (instrs_of-unlinked part) ∙ stops) in
+        let m : moment_of u ≡ shown out e = row_stops o f.function row (suits.codes f.function _ is_function) out marked off (core_of w fl ss) e (stands_first row off marked rest stood)
+        (ap (λ is. exec is (core_of w fl ss)) (instrs_of-unlinked part) ∙ stops) in
         inr (record {
           count = length marked;
           within = omega (arith, long, few);
@@ -215,12 +219,14 @@ module _ (o : Object) (sel : Sel) (plan : Plan) (contents : List Content) (by : 
         let own = whole.own in
         let at_own : f.own.start ≡ f.base + 8 * by_.words = ap (λ (x : Span). x.start) own in
         let rows : op_row by_.homes plan (8 * by_.words) op ≡ op_row by_.homes by_.plan (8 * by_.words) op =
-            sym (ap (λ p. op_row by_.homes p (8 * by_.words) op) (suits.addresses f.function) ∙ row_plan by_.homes plan (8 * by_.words) op) in
-        by_meeting _ (subst (λ is. Meets by_.homes f.base by_.words is w fl ss (live f.function f.block (f.next + 1)) f callers (spans_of o sel by globals_ live last_ (f ∷ callers)) (op_turn sel plan (flat_in o sel plan contents by live suits input (f ∷ callers) bytes) input s f callers op)) rows
+        sym (ap (λ p. op_row by_.homes p (8 * by_.words) op) (suits.addresses f.function) ∙ row_plan by_.homes plan (8 * by_.words) op) in
+        by_meeting _ (subst (λ is. Meets by_.homes f.base by_.words is w fl ss (live f.function f.block (f.next + 1)) f callers (spans_of o sel by globals_ live last_ (f ∷ callers))
+        (op_turn sel plan (flat_in o sel plan contents by live suits input (f ∷ callers) bytes) input s f callers op)) rows
         (op_law by_.homes f.base by_.words (8 * by_.words) plan (live f.function f.block f.next) (live f.function f.block (f.next + 1)) sel input s f callers (spans_of o sel by globals_ live last_ (f ∷ callers)) w fl ss whole.tied at_own op
         (op_ready o sel plan contents by live suits f.function f.block f.next f.base _ b op is_function is_block there (omega (arith, high)) plain) ((suits.allotted f.function _ is_function).ops f.block f.next b op is_block there)))
       where
-        by_meeting : (turn : Answer SelTurn) → Meets by_.homes f.base by_.words (op_row by_.homes by_.plan (8 * by_.words) op) w fl ss (live f.function f.block (f.next + 1)) f callers (spans_of o sel by globals_ live last_ (f ∷ callers)) turn → Turned turn
+        by_meeting : (turn : Answer SelTurn) → Meets by_.homes f.base by_.words (op_row by_.homes by_.plan (8 * by_.words) op) w fl ss (live f.function f.block (f.next + 1)) f callers
+            (spans_of o sel by globals_ live last_ (f ∷ callers)) turn → Turned turn
         by_meeting turn (Meets.IsLeft stop e l) = inl (subst (λ q. IsLeft (sel_moment (sel_turned s q))) (sym e) l)
         by_meeting turn (Meets.GoesOn registers bytes2 e x) = subst Turned (sym e) (goes_on op there plain registers bytes2 x)
         by_meeting turn (Meets.Divides e stops) =
@@ -229,5 +235,6 @@ module _ (o : Object) (sel : Sel) (plan : Plan) (contents : List Content) (by : 
             let some = sized.some in
             let few = sized.count in
             let stood : Stands row off (all_unlinked first ++ rest_in sel by f.function (off + row_size (all_unlinked first)) f.block (f.next + 1) b) =
-                subst (λ m. Stands row off (m ++ rest_in sel by f.function (off + row_size m) f.block (f.next + 1) b)) (plain_row by_ (slot_behind sel f.function f.block (take f.next b.ops)) op plain) (op_stands sel by f.function f.block f.next b row off stands op there) in
+            subst (λ m. Stands row off (m ++ rest_in sel by f.function (off + row_size m) f.block (f.next + 1) b)) (plain_row by_ (slot_behind sel f.function f.block (take f.next b.ops)) op plain)
+            (op_stands sel by f.function f.block f.next b row off stands op there) in
             subst Turned (sym e) (stops_at first (rest_in sel by f.function (off + row_size (all_unlinked first)) f.block (f.next + 1) b) Divide ending.Divide stood stops (omega (arith, few)) some refl refl)

@@ -1,24 +1,22 @@
 -- The functions of a program one after another: each is within the limits, and so is the number of their calls.
-use Rattle.std.proofs.Common.{◌≡◌, ℕ, zero, suc, ◌+◌, ◌-◌, ◌*◌, ◌<◌, ◌≤◌, ◌^◌, Bool, true, false, List, [], ◌∷◌, ◌++◌, length, map, min, take, get_or, drop, Some, slice_get, refl, ap, sym, subst, ◌∙◌, arith, append_assoc}
+use Rattle.std.proofs.Common.{◌≡◌, ℕ, zero, suc, ◌+◌, ◌-◌, ◌<◌, ◌≤◌, List, [], ◌∷◌, ◌++◌, length, map, min, take, get_or, refl, ap, sym, subst, ◌∙◌, arith, append_assoc}
 use Rattle.std.specs.List.{All, sum_by}
 use Rattle.std.proofs.lemmas.List.Elements.{All-cons, All-nil, All-head, All-tail}
 use Rattle.std.proofs.lemmas.List.Sums.{sum_by-cons}
 use Rattle.ir_core.specs.declared.limit.TheConstants.{MAX_CODE}
 use Rattle.x86_core.specs.declared.reg.Reg.{Reg}
 use Rattle.low_core.specs.declared.sel.Home.{Home}
-use Rattle.low_core.specs.declared.sel.Which.TheVariants as outer
 use Rattle.low_core.specs.declared.sel.SelOp.{SelOp}
 use Rattle.low_core.specs.declared.sel.SelOp.TheVariants.{Set, Copy, Alu, Div, Widen, Test, Pick, Load, Store, FrameAt, GlobalAt, FunctionAt, Call, CallAt, Outside}
 use Rattle.low_core.specs.declared.sel.SelBlock.{SelBlock}
 use Rattle.low_core.specs.declared.sel.SelFun.{SelFun}
 use Rattle.low_core.specs.declared.sel.Sel.{Sel}
-use Rattle.low_core.specs.SelShaped.{OpFits, IsOpShaped, IsBlockShaped, IsFunShaped, IsSel}
+use Rattle.low_core.specs.SelShaped.{OpFits, IsFunShaped}
 use Rattle.low_core.specs.SelWeights.{sel_block_weight, sel_function_weight}
 use Rattle.obj_core.specs.declared.object.Func.{Func}
 use Rattle.std.proofs.lemmas.List.{length-take}
 use Rattle.obj_rows.specs.Assembled.{with_first_cuts}
 use Rattle.slot_plan.specs.Slots.{takens}
-use Rattle.slot_plan.proofs.Bounds.{takens_few}
 use Rattle.frame_lower.specs.Blocks.{calls_in, calls_of_blocks}
 use Rattle.frame_lower.specs.Functions.{Choices, functions_with, function_row, lowered, making_with, saved_function, slot_number, with_cuts}
 use Rattle.frame_lower.specs.Given.{HasPlaces, HavePlaces, NamesPlace, IsSmall, calls_of_functions}

@@ -1,5 +1,5 @@
 -- The instructions of a function can be spelled: their constants and displacements are in range, and only its calls are linked.
-use Rattle.std.proofs.Common.{◌≡◌, ℕ, zero, suc, ◌+◌, ◌-◌, ◌*◌, ◌<◌, ◌≤◌, ◌^◌, List, [], ◌∷◌, ◌++◌, length, drop, Option, Some, None, pos, slice_get, refl, ap, sym, subst, ◌∙◌, arith, length-drop}
+use Rattle.std.proofs.Common.{◌≡◌, ℕ, ◌+◌, ◌-◌, ◌*◌, ◌<◌, ◌≤◌, ◌^◌, List, [], ◌∷◌, ◌++◌, length, drop, Option, Some, None, pos, refl, arith, length-drop}
 use Rattle.std.specs.List.{All, sum_by}
 use Rattle.std.proofs.lemmas.List.Elements.{All-head, All-tail}
 use Rattle.std.proofs.lemmas.List.Sums.{sum_by-cons}
@@ -18,7 +18,7 @@ use Rattle.low_core.specs.declared.sel.SelEnd.TheVariants.{Go, If, Ret}
 use Rattle.low_core.specs.declared.sel.SelEnd.TheVariants as end
 use Rattle.low_core.specs.declared.sel.SelBlock.{SelBlock}
 use Rattle.low_core.specs.declared.sel.SelFun.{SelFun}
-use Rattle.low_core.specs.SelWeights.{arguments_of, calls_at, sel_end_weight, sel_op_weight, sel_block_weight, sel_function_weight}
+use Rattle.low_core.specs.SelWeights.{calls_at, sel_block_weight, sel_function_weight}
 use Rattle.frame_rows.specs.declared.spot.Spot.{Spot}
 use Rattle.frame_rows.specs.declared.spot.Spot.TheVariants.{Own, Frame}
 use Rattle.frame_rows.specs.Code.{home_read, home_write, op_row}
@@ -201,10 +201,20 @@ module _ (by : Making) (spots : (x : ℕ) → IsHome by.words (by.homes x)) (nea
       let receive = receive_row by.homes by.room f.params in
       let stack = instr.AluImm ImmOp.Sub Wide.W64 Rsp (pos by.room) in
       let d : length (drop 6 f.params) ≡ length f.params - 6 = length-drop 6 f.params in
-      unlinked_row (count_row ++ (push_row by.order ++ (stack ∷ receive)))
-      ((omega arith), ((omega arith), (tt, instrs-append (push_row by.order) (stack ∷ receive) (pushes_instrs by.order)
-        ((omega (arith, room)), instrs-append (from_registers by.homes argument_registers f.params) (from_words by.homes (by.room + kept_bytes) (drop 6 f.params))
-          (stores_instrs argument_registers f.params) (fetches_instrs (by.room + kept_bytes) (drop 6 f.params) (omega (arith, room, few, d)))))))
+      unlinked_row (count_row ++ (push_row by.order ++ (stack ∷ receive))) (
+        (omega arith),
+        (
+          (omega arith),
+          (
+            tt,
+            instrs-append (push_row by.order) (stack ∷ receive) (pushes_instrs by.order) (
+              (omega (arith, room)),
+              instrs-append (from_registers by.homes argument_registers f.params) (from_words by.homes (by.room + kept_bytes) (drop 6 f.params))
+                  (stores_instrs argument_registers f.params) (fetches_instrs (by.room + kept_bytes) (drop 6 f.params) (omega (arith, room, few, d))),
+            ),
+          ),
+        ),
+      )
 
 -- a whole function
 pub function_ranged : (by : Making) (slot : ℕ) (f : SelFun) → IsRanged by f → IsRow (function_row by slot f)

@@ -130,9 +130,9 @@ module _ (homes : ℕ → Spot) (base words : ℕ) (spots : (x : ℕ) → IsHome
       let place : base + room + 48 ≡ base + (room + kept_bytes) = omega arith in
       let x = from_six argument_registers params ns w f ss arguments_scratch (apart_firsts homes argument_registers params apart) long small held free is in
       let above : StandAt x.segments (base + (room + kept_bytes)) (drop 6 ns) =
-          subst (λ q. StandAt x.segments q (drop 6 ns)) place (stand_same ss x.segments (drop 6 ns) (base + room + 48) (λ p lo hi. x.outside p (inr (omega (arith, lo, beyond)))) stand) in
+      subst (λ q. StandAt x.segments q (drop 6 ns)) place (stand_same ss x.segments (drop 6 ns) (base + room + 48) (λ p lo hi. x.outside p (inr (omega (arith, lo, beyond)))) stand) in
       let y = from_caller low high (drop 6 params) (drop 6 ns) (room + kept_bytes) x.after f x.segments (apart_behind homes 6 params apart) (long_behind 6 params ns long) (small_drop 6 ns small) (stack_same low high ss x.segments x.shape stack)
-              (omega (arith, from)) (omega (arith, to)) (omega (arith, beyond)) above x.room x.at_base in
+      (omega (arith, from)) (omega (arith, to)) (omega (arith, beyond)) above x.room x.at_base in
       let first = home_stays homes x.after y.after x.segments y.segments (firsts argument_registers params) (firsts argument_registers ns) (λ a n i keeps. y.others (homes a) n (spots a) (λ b j. apart_between homes argument_registers params a b apart i j) keeps) x.home in
       let home = home_joined homes y.after y.segments argument_registers params ns first y.home in
       let shape = shape_trans ss x.segments y.segments x.shape y.shape in

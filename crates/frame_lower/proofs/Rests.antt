@@ -1,7 +1,6 @@
 -- What is left of a block: an operation and what is behind it, or the end.
-use Rattle.std.proofs.Common.{◌≡◌, ℕ, zero, suc, ◌+◌, List, [], ◌∷◌, ◌++◌, drop, take, Option, Some, None, refl, sym, ◌∙◌, ap, subst, arith, append_assoc}
+use Rattle.std.proofs.Common.{◌≡◌, ℕ, zero, suc, ◌+◌, List, [], ◌∷◌, ◌++◌, drop, take, Some, None, refl, ◌∙◌, ap, subst, arith, append_assoc}
 use Rattle.std.specs.Prelude.{slice_get}
-use Rattle.std.specs.List.{sum_by}
 use Rattle.std.proofs.lemmas.List.Sums.{sum_by-cons}
 use Rattle.low_core.specs.declared.sel.SelBlock.{SelBlock}
 use Rattle.low_core.specs.declared.sel.SelEnd.{SelEnd}
@@ -10,8 +9,8 @@ use Rattle.low_core.specs.declared.sel.Sel.{Sel}
 use Rattle.low_core.specs.SelWeights.{calls_at}
 use Rattle.obj_rows.specs.Marked.{Marked, row_size, Stands}
 use Rattle.obj_rows.proofs.Rows.{row_size-append}
-use Rattle.frame_lower.specs.Blocks.{calls_in, calls_of_blocks, ops_row}
-use Rattle.frame_lower.specs.Chain.{function_in, first_slot, slot_behind, starts_in, rest_row, rest_in}
+use Rattle.frame_lower.specs.Blocks.{calls_in, ops_row}
+use Rattle.frame_lower.specs.Chain.{slot_behind, starts_in, rest_row, rest_in}
 use Rattle.frame_lower.specs.Rows.{Making, marked_op, end_row}
 
 -- an operation that is there begins what is left
@@ -65,9 +64,9 @@ module _ (sel : Sel) (by : ℕ → Making) (g k n : ℕ) (b : SelBlock) (row : L
       let slot = slot_behind sel g k (take n b.ops) in
       let first = marked_op (by g) slot op in
       let split : rest_in sel by g at k n b ≡ first ++ rest_in sel by g (at + row_size first) k (n + 1) b =
-          ap (λ ops. rest_row (by g) (starts_in sel by g) at slot ops b.end) (drop_there b.ops n op there) ∙
-          rest_more (by g) (starts_in sel by g) at slot op (drop (n + 1) b.ops) b.end ∙
-          ap (λ s. first ++ rest_row (by g) (starts_in sel by g) (at + row_size first) s (drop (n + 1) b.ops) b.end) (slot_more sel g k n b op there) in
+      ap (λ ops. rest_row (by g) (starts_in sel by g) at slot ops b.end) (drop_there b.ops n op there) ∙
+      rest_more (by g) (starts_in sel by g) at slot op (drop (n + 1) b.ops) b.end ∙
+      ap (λ s. first ++ rest_row (by g) (starts_in sel by g) (at + row_size first) s (drop (n + 1) b.ops) b.end) (slot_more sel g k n b op there) in
       subst (Stands row at) split stands
 
   -- past the last one the end stands here

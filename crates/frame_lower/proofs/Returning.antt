@@ -1,6 +1,6 @@
 -- The way out of a function, to where the word above the pushed registers leads.
-use Rattle.std.proofs.Common.{◌≡◌, ℕ, zero, suc, ◌+◌, ◌*◌, ◌%◌, ◌^◌, ◌<◌, ◌≤◌, true, List, [], ◌∷◌, ◌++◌, length, drop, take, Option, Some, None, refl, sym, ◌∙◌, ap, subst, inl, inr, ◌⊎◌, arith, append_assoc, length-append}
-use Rattle.std.specs.Prelude.{pos, slice_get}
+use Rattle.std.proofs.Common.{◌≡◌, ℕ, ◌+◌, ◌^◌, ◌<◌, ◌≤◌, true, List, [], ◌∷◌, ◌++◌, length, None, refl, sym, ◌∙◌, ap, subst, arith, append_assoc, length-append}
+use Rattle.std.specs.Prelude.{pos}
 use Rattle.behavior.specs.Simulation.{Comes}
 use Rattle.behavior.proofs.Stretch.{comes_one, comes_join, comes_wider}
 use Rattle.x86_core.specs.declared.flags.Flags.{Flags}
@@ -12,14 +12,14 @@ use Rattle.x86_core.specs.declared.instr.Instr.TheVariants.{Pop, Ret}
 use Rattle.x86_core.specs.Arithmetic.{moved}
 use Rattle.x86_core.specs.Data.{stack_start, stack_end}
 use Rattle.x86_core.specs.Step.{State}
-use Rattle.x86_rows.specs.Straight.{Core, Through, exec}
+use Rattle.x86_rows.specs.Straight.{Through, exec}
 use Rattle.x86_rows.specs.Saving.{IsStack}
 use Rattle.x86_rows.proofs.Rows.{exec-through}
 use Rattle.obj_core.specs.declared.object.Object.{Object}
 use Rattle.obj_core.specs.declared.object.Place.{Place}
 use Rattle.obj_core.specs.Saved.{saved_register}
 use Rattle.obj_core.specs.SymbolicMachine.{symbolic_step}
-use Rattle.obj_rows.specs.Marked.{Marked, unlinked, all_unlinked, instrs_of, row_size, Stands, IsFunction}
+use Rattle.obj_rows.specs.Marked.{Marked, unlinked, all_unlinked, row_size, Stands, IsFunction}
 use Rattle.obj_rows.specs.Standing.{Outside, standing}
 use Rattle.obj_rows.proofs.Branches.{returns}
 use Rattle.obj_rows.proofs.Rows.{all_unlinked-append, instrs_of-unlinked, length-unlinked, stands_first, stands_behind}
@@ -28,7 +28,7 @@ use Rattle.frame_rows.specs.Words.{Words, held_in, core_of}
 use Rattle.frame_rows.specs.Ties.{is_home}
 use Rattle.frame_lower.specs.Chain.{IsWay}
 use Rattle.frame_lower.specs.Rows.{Making, pop_row, leave_row}
-use Rattle.frame_lower.proofs.Leaving.{gives_room, one_more, Leaves, leaves}
+use Rattle.frame_lower.proofs.Leaving.{gives_room, one_more, Leaves}
 
 pop_long : (order : List ℕ) → length (pop_row order) ≡ length order
 pop_long [] = refl
@@ -65,7 +65,8 @@ module _ (o : Object) (g : ℕ) (row : List Marked) (is : IsFunction o g row) (o
   at off w f ss = standing out (Place.Code g off) (core_of w f ss)
 
   -- where the registers were pushed above the frame at a base, the row leads to the word's place
-  pub return_comes : (first : List Instr) (off base : ℕ) (w w1 : Words) (f : Flags) (ss : List Segment) (place : Place) → Stands row off (all_unlinked (first ++ leave_row by)) → length first ≤ 1 → exec first (core_of w f ss) ≡ Through (core_of w1 f ss) →
+  pub return_comes : (first : List Instr) (off base : ℕ) (w w1 : Words) (f : Flags) (ss : List Segment) (place : Place) → Stands row off (all_unlinked (first ++ leave_row by)) → length first ≤ 1 →
+      exec first (core_of w f ss) ≡ Through (core_of w1 f ss) →
       IsStack stack_start stack_end ss → w1.rsp ≡ base → stack_start ≤ base → base + by.room + 48 ≤ stack_end → w1.r15 < 2 ^ 32 → IsWay o ss (base + by.room + 40) place → (x : Leaves by.order by.room w1 f ss base) →
       Comes (symbolic_step o) 1 20 (at off w f ss) (standing out place (core_of (record x.after { rsp = base + by.room + 48 }) x.flags ss))
   return_comes first off base w w1 f ss place stands few runs stack rsp low high count way x =
@@ -88,5 +89,6 @@ module _ (o : Object) (g : ℕ) (row : List Marked) (is : IsFunction o g row) (o
       (comes_join (symbolic_step o) n n 1 1 t0 t1 t2
       (row_comes o g row is out marked off (core_of w f ss) c1 (stands_first row off marked (unlinked Ret ∷ []) split) (ap (λ r. exec r (core_of w f ss)) (instrs_of-unlinked part) ∙ passed))
       (comes_one (symbolic_step o) t1 t2
-      (returns o g row is out off1 c1 None (base + by.room + 40) way.word place (stands_behind row off marked (unlinked Ret ∷ []) split) there stack.disjoint (stack.readable (base + by.room + 40) 8 (omega (arith, low)) (omega (arith, high)) (omega arith)) way.there way.small way.lands ∙
+      (returns o g row is out off1 c1 None (base + by.room + 40) way.word place (stands_behind row off marked (unlinked Ret ∷ []) split) there stack.disjoint
+      (stack.readable (base + by.room + 40) 8 (omega (arith, low)) (omega (arith, high)) (omega arith)) way.there way.small way.lands ∙
       ap (λ p. standing out place (core_of (record x.after { rsp = p }) x.flags ss)) up)))

@@ -1,5 +1,5 @@
 -- A function of a program keeps the rules, with any number of its first cuts.
-use Rattle.std.proofs.Common.{◌≡◌, ℕ, zero, suc, ◌+◌, ◌-◌, ◌<◌, ◌≤◌, ◌^◌, Bool, true, false, ◌&&◌, List, [], ◌∷◌, ◌++◌, length, take, pos, append_assoc, Option, Some, None, refl, ap, sym, subst, ◌∙◌, arith}
+use Rattle.std.proofs.Common.{◌≡◌, ℕ, zero, suc, ◌+◌, ◌-◌, ◌<◌, ◌≤◌, true, List, [], ◌∷◌, ◌++◌, length, take, pos, append_assoc, Option, Some, None, refl, ap, sym, subst, ◌∙◌, arith}
 use Rattle.std.specs.List.{All}
 use Rattle.std.proofs.lemmas.Bool.{and_from}
 use Rattle.std.proofs.lemmas.List.{append-nil}
@@ -25,12 +25,12 @@ use Rattle.obj_core.specs.Slots.{push_purpose}
 use Rattle.obj_core.specs.WellFormed.{bad_branches, bad_cut, bad_links, forbidden_in, open_end}
 use Rattle.obj_rows.specs.Marked.{Marked, unlinked, all_unlinked, instrs_of, row_size, link_ending, links_from, IsLinkable, IsRow, IsSlotBelow, MarksBelow, LeadsInside, Stands}
 use Rattle.obj_rows.proofs.Links.{branch_size}
-use Rattle.obj_rows.proofs.Rows.{stands_whole, stands_one, stands_next}
+use Rattle.obj_rows.proofs.Rows.{stands_whole, stands_next}
 use Rattle.obj_rows.proofs.Rules.{row_disassembles, stands_starts, links_are_good, branches_are_good, none_forbidden, ends_closed}
 use Rattle.frame_rows.specs.Code.{home_read}
 use Rattle.frame_lower.specs.Rows.{Making, between, choice_bytes, jump_bytes, pop_row, leave_row, closing_row, branch_row, end_row}
 use Rattle.frame_lower.specs.Blocks.{calls_in, ops_row, block_row, block_bytes, blocks_row, calls_of_blocks, starts_from, start_in}
-use Rattle.frame_lower.specs.Functions.{front_row, function_row, cuts_from, saved_function}
+use Rattle.frame_lower.specs.Functions.{front_row, function_row, cuts_from}
 use Rattle.frame_lower.proofs.Avoided.{function_tame, tame_transfers, no_colors}
 use Rattle.frame_lower.proofs.Branches.{some_stands, function_leads}
 use Rattle.frame_lower.proofs.Closed.{IsClosed, function_closed, function_begins, cuts_are_good}

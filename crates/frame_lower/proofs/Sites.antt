@@ -1,25 +1,15 @@
 -- Each planned slot that comes back is linked once in the functions of a program where its jump stands in one of them, and else not at all.
-use Rattle.std.proofs.Common.{◌≡◌, ℕ, zero, suc, ◌+◌, ◌<◌, ◌≤◌, ◌⊎◌, inl, inr, Bool, true, false, ◌&&◌, nat_le, nat_lt, if◌then◌else◌, List, [], ◌∷◌, ◌++◌, map, length, Option, Some, None, slice_get, refl, ap, sym, subst, ◌∙◌, arith}
-use Rattle.std.proofs.lemmas.Bool.{lt-ltb}
-use Rattle.std.specs.List.{sum_by}
-use Rattle.std.proofs.lemmas.List.{length-append}
-use Rattle.x86_core.specs.declared.reg.Reg.{Reg}
+use Rattle.std.proofs.Common.{◌≡◌, ℕ, zero, suc, ◌+◌, ◌<◌, ◌≤◌, inl, inr, Bool, true, false, List, [], ◌∷◌, length, Option, Some, slice_get, refl, ap, sym, ◌∙◌, arith}
 use Rattle.low_core.specs.declared.sel.Which.TheVariants.{Putchar, Getchar, Exit, Memcpy, Memset, Trap}
 use Rattle.low_core.specs.declared.sel.SelOp.{SelOp}
 use Rattle.low_core.specs.declared.sel.SelOp.TheVariants.{Set, Copy, Alu, Div, Widen, Test, Pick, Load, Store, FrameAt, GlobalAt, FunctionAt, Call, CallAt, Outside}
 use Rattle.low_core.specs.declared.sel.SelFun.{SelFun}
-use Rattle.low_core.specs.declared.sel.Sel.{Sel}
 use Rattle.low_core.specs.SelParts.{ops_of}
-use Rattle.obj_core.specs.declared.object.Func.{Func}
 use Rattle.obj_core.specs.declared.plan.Site.{Site}
 use Rattle.obj_core.specs.declared.plan.Slot0.{Slot0}
-use Rattle.obj_rows.specs.Assembled.{site_of, ends_from, LinkOnce}
-use Rattle.slot_plan.specs.Slots.{jumps_from, call_slot, calls_from, all_calls_from, routine_slots, slots_of, takens}
-use Rattle.slot_plan.proofs.Bounds.{jumps_long, all_calls_long}
+use Rattle.obj_rows.specs.Assembled.{site_of}
+use Rattle.slot_plan.specs.Slots.{jumps_from, call_slot, calls_from, all_calls_from, routine_slots}
 use Rattle.slot_plan.proofs.Places.{parted}
-use Rattle.frame_lower.specs.Functions.{Choices, functions_with, lowered, slot_number}
-use Rattle.frame_lower.specs.Given.{calls_of_functions}
-use Rattle.frame_lower.proofs.Once.{none_from, one_from}
 
 -- jumps to functions have none
 pub jumps_have_none : (f : ℕ) (ts : List Bool) (k : ℕ) (slot : Slot0) (site : Site) → slice_get (jumps_from f ts) k ≡ Some slot → site_of slot ≡ Some site → ⊥

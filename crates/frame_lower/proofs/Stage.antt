@@ -1,8 +1,7 @@
 -- The run of a program of registers and that of its object, side by side.
-use Rattle.std.proofs.Common.{◌≡◌, ℕ, zero, suc, ◌+◌, ◌*◌, ◌^◌, ◌<◌, ◌≤◌, List, [], ◌∷◌, ◌++◌, length, drop, take, Option, Some, None, Ok, Err, refl, sym, ◌∙◌, ap, subst, arith}
+use Rattle.std.proofs.Common.{◌≡◌, ℕ, zero, suc, ◌+◌, List, [], ◌∷◌, length, drop, Option, Some, ◌∙◌, ap}
 use Rattle.std.specs.Prelude.{get_or, slice_get}
-use Rattle.std.proofs.lemmas.List.{get_or_default}
-use Rattle.behavior.specs.Ending.{Ending, Going}
+use Rattle.behavior.specs.Ending.{Going}
 use Rattle.behavior.specs.System.{System}
 use Rattle.behavior.specs.Simulation.{Met}
 use Rattle.behavior.proofs.Between.{adds_grows}
@@ -21,16 +20,17 @@ use Rattle.low_core.specs.declared.sel.Sel.{Sel}
 use Rattle.low_core.specs.Flat.{Span, Bytes, Flat}
 use Rattle.low_core.specs.Plan.{Plan, Content, global_spans}
 use Rattle.low_core.specs.SelState.{SelFrame, SelState, sel_moment, sel_turned}
-use Rattle.low_core.specs.SelStep.{sel_turn_at, sel_turn_of, sel_step}
+use Rattle.low_core.specs.SelStep.{sel_turn_at, sel_step}
 use Rattle.low_core.proofs.SelLaws.{sel_adds, sel_stays}
 use Rattle.obj_core.specs.declared.object.Object.{Object}
 use Rattle.obj_core.specs.declared.object.Place.{Place}
 use Rattle.obj_core.specs.SymbolicMachine.{symbolic_fetch, symbolic_land}
 use Rattle.obj_rows.specs.Marked.{Stands}
-use Rattle.obj_rows.specs.Standing.{Outside, standing}
+use Rattle.obj_rows.specs.Standing.{standing}
 use Rattle.frame_rows.specs.Words.{Words, core_of}
 use Rattle.frame_rows.specs.Ties.{Tied}
 use Rattle.frame_lower.specs.Chain.{HasRoom, no_function, function_in, code_in, rest_in, spans_of, own_of, IsOff, Chain}
+use Rattle.frame_lower.specs.Meaning.{most_steps}
 use Rattle.frame_lower.specs.Rows.{Making}
 use Rattle.frame_lower.specs.Suits.{Suits}
 
@@ -46,10 +46,6 @@ sel_system sel plan contents input = record {
 -- an object's machine as a system
 abbrev pub object_system : Object → System (State Place)
 object_system o = machine_system (λ _. symbolic_fetch o) (symbolic_land o)
-
--- the most steps that meet one step: those of the routine over the most bytes
-abbrev pub most_steps : ℕ
-most_steps = 2 ^ 65
 
 -- a state of a run that goes on in the first of its calls
 abbrev pub state_of : SelFrame → List SelFrame → Bytes → List ℕ → ℕ → SelState
@@ -114,14 +110,16 @@ module _ (o : Object) (sel : Sel) (plan : Plan) (contents : List Content) (by : 
   Meets_ a a2 t = Met A B Stage (λ _. 0) most_steps a a2 t
 
   -- a step is that of the operation, or of the end past the last one
-  pub step_is : (f : SelFrame) (callers : List SelFrame) (bytes : Bytes) (printed : List ℕ) (taken : ℕ) (fn : SelFun) (b : SelBlock) (q : Option SelOp) → slice_get sel.functions f.function ≡ Some fn → slice_get fn.blocks f.block ≡ Some b → slice_get b.ops f.next ≡ q →
+  pub step_is : (f : SelFrame) (callers : List SelFrame) (bytes : Bytes) (printed : List ℕ) (taken : ℕ) (fn : SelFun) (b : SelBlock) (q : Option SelOp) → slice_get sel.functions f.function ≡ Some fn →
+      slice_get fn.blocks f.block ≡ Some b → slice_get b.ops f.next ≡ q →
       let s = state_of f callers bytes printed taken in
       sel_step sel plan contents input s ≡ sel_turned s (sel_turn_at sel plan (flat_in (f ∷ callers) bytes) input s f callers b q)
   unfolding sel_step
   step_is f callers bytes printed taken fn b q is_function is_block there =
       let s = state_of f callers bytes printed taken in
       let flat = flat_in (f ∷ callers) bytes in
-      ap (λ x. sel_turned s (and_then (found_or Malformed x) (λ (g : SelFun). and_then (found_or Malformed (slice_get g.blocks f.block)) (λ (c : SelBlock). sel_turn_at sel plan flat input s f callers c (slice_get c.ops f.next))))) is_function ∙
+      ap (λ x. sel_turned s (and_then (found_or Malformed x) (λ (g : SelFun). and_then (found_or Malformed (slice_get g.blocks f.block)) (λ (c : SelBlock). sel_turn_at sel plan flat input s f callers c (slice_get c.ops f.next)))))
+      is_function ∙
       ap (λ x. sel_turned s (and_then (found_or Malformed x) (λ (c : SelBlock). sel_turn_at sel plan flat input s f callers c (slice_get c.ops f.next)))) is_block ∙
       ap (λ x. sel_turned s (sel_turn_at sel plan flat input s f callers b x)) there
 

@@ -1,24 +1,18 @@
 -- An object that is put together of a program's functions suits the program.
-use Rattle.std.proofs.Common.{◌≡◌, ◌≢◌, ℕ, zero, suc, ◌+◌, ◌-◌, ◌*◌, ◌<◌, ◌≤◌, ◌^◌, Bool, true, false, List, [], ◌∷◌, ◌++◌, length, map, max, get_or, take, drop, Option, Some, None, pos, slice_get, slice_index, refl, ap, sym, subst, inl, inr, ◌⊎◌, ◌∙◌, arith}
-use Rattle.std.specs.List.{All, sum_by}
+use Rattle.std.proofs.Common.{◌≡◌, ◌≢◌, ℕ, zero, suc, ◌+◌, ◌<◌, List, [], ◌∷◌, length, map, Some, slice_get, refl, ap, sym, subst, inl, inr, ◌∙◌, arith}
+use Rattle.std.specs.List.{All}
 use Rattle.std.proofs.lemmas.List.Elements.{All-head, All-tail}
-use Rattle.x86_core.specs.declared.instr.Instr.TheVariants.{Jmp}
 use Rattle.x86_core.specs.declared.reg.Reg.{Reg}
-use Rattle.x86_rows.specs.Saving.{IsOneOf}
 use Rattle.low_core.specs.declared.sel.Home.{Home}
 use Rattle.low_core.specs.declared.sel.Home.TheVariants as home
-use Rattle.low_core.specs.declared.sel.SelBlock.{SelBlock}
 use Rattle.low_core.specs.declared.sel.SelFun.{SelFun}
-use Rattle.low_core.specs.declared.sel.SelOp.{SelOp}
 use Rattle.low_core.specs.declared.sel.Sel.{Sel}
 use Rattle.low_core.specs.SelParts.{reads_of, assigns_of, end_reads, leads_to}
 use Rattle.low_core.specs.SelParts as parts
-use Rattle.low_core.specs.SelShaped.{IsAnyBelow, IsOpShaped, IsBlockShaped, IsFunShaped, IsSel}
+use Rattle.low_core.specs.SelShaped.{IsAnyBelow, IsOpShaped, IsBlockShaped, IsFunShaped}
 use Rattle.low_core.specs.SelWeights.{words_passed}
-use Rattle.frame_rows.specs.declared.spot.Spot.{Spot}
-use Rattle.frame_rows.specs.declared.spot.Spot.TheVariants.{Own, Frame}
+use Rattle.frame_rows.specs.declared.spot.Spot.TheVariants.{Frame}
 use Rattle.frame_rows.specs.Bodies.{or_lowest, spot_of}
-use Rattle.frame_rows.specs.Steps.{IsAllocated}
 use Rattle.frame_rows.specs.Ties.{Differ}
 use Rattle.frame_lower.specs.Alive.{Allotted}
 use Rattle.frame_lower.specs.Frames.{spot, spots}
@@ -46,7 +40,7 @@ module _ (names : List Reg) (f : SelFun) (homes : List Home) (own : HasOwn f hom
       let b = word_at names (words_passed f) homes own.in_frame y (omega (arith, high, long)) in
       subst (λ h. Differ h (spot_of (spots names f homes) y)) (sym a.2)
       (subst (Differ (Frame (words_passed f + a.0))) (sym b.2)
-        (λ e. other (own.apart x y (home.Frame a.0) a.1 (b.1 ∙ ap (λ k. Some (home.Frame k)) (let z : b.0 ≡ a.0 = omega (arith, e) in z)))))
+      (λ e. other (own.apart x y (home.Frame a.0) a.1 (b.1 ∙ ap (λ k. Some (home.Frame k)) (let z : b.0 ≡ a.0 = omega (arith, e) in z)))))
 
   -- and apart from the words that are passed
   pub behind_passed : (x j : ℕ) → x < f.registers → j < words_passed f → Differ (spot_of (spots names f homes) x) (Frame j)

@@ -1,5 +1,5 @@
 -- An object that is put together of a program's functions suits the program, where each register lives in a word of its own.
-use Rattle.std.proofs.Common.{◌≡◌, ◌≢◌, ℕ, zero, suc, ◌+◌, ◌-◌, ◌*◌, ◌<◌, ◌≤◌, ◌^◌, Bool, true, false, List, [], ◌∷◌, ◌++◌, length, map, max, get_or, take, drop, Option, Some, None, pos, slice_get, slice_index, refl, ap, sym, subst, inl, inr, ◌∙◌, arith}
+use Rattle.std.proofs.Common.{◌≡◌, ℕ, zero, suc, ◌+◌, ◌-◌, ◌*◌, ◌≤◌, List, [], ◌∷◌, ◌++◌, length, map, get_or, take, Some, pos, slice_get, slice_index, refl, ap, sym, subst, ◌∙◌, arith}
 use Rattle.ir_core.specs.declared.TheConstants.{MAX_CALLS}
 use Rattle.ir_core.specs.declared.limit.TheConstants.{MAX_CODE}
 use Rattle.x86_core.specs.declared.instr.Instr.TheVariants.{Jmp}
@@ -11,24 +11,21 @@ use Rattle.low_core.specs.declared.sel.SelFun.{SelFun}
 use Rattle.low_core.specs.declared.sel.SelOp.{SelOp}
 use Rattle.low_core.specs.declared.sel.SelOp.TheVariants.{Set, Copy, Alu, Div, Widen, Test, Pick, Load, Store, FrameAt, GlobalAt, FunctionAt, Call, CallAt, Outside}
 use Rattle.low_core.specs.declared.sel.Sel.{Sel}
-use Rattle.low_core.specs.Plan.{Plan, Content, PlanFits, IsTaken, global_spans, first_bytes}
-use Rattle.low_core.specs.SelShaped.{IsFunShaped, IsSel}
+use Rattle.low_core.specs.Plan.{Content, PlanFits, IsTaken, global_spans, first_bytes}
+use Rattle.low_core.specs.SelShaped.{IsFunShaped}
 use Rattle.low_core.specs.SelWeights.{words_passed, sel_function_weight}
-use Rattle.frame_rows.specs.Ties.{Differ, Contains}
-use Rattle.frame_rows.specs.declared.spot.Spot.TheVariants.{Frame}
+use Rattle.frame_rows.specs.Ties.{Contains}
 use Rattle.obj_core.specs.declared.address.SlotAddr.{SlotAddr}
-use Rattle.obj_core.specs.declared.object.CodeAt.{CodeAt}
 use Rattle.obj_core.specs.declared.object.Func.{Func}
 use Rattle.obj_core.specs.declared.object.Object.{Object}
 use Rattle.obj_core.specs.declared.object.Place.{Place}
 use Rattle.obj_core.specs.declared.object.Slot.{Slot}
 use Rattle.obj_core.specs.declared.plan.Slot0.{Slot0}
-use Rattle.obj_core.specs.Disassembly.{spelled}
-use Rattle.obj_core.specs.Slots.{slot_base, slot_start, positions}
+use Rattle.obj_core.specs.Slots.{slot_base}
 use Rattle.obj_core.specs.SymbolicMachine.{at_code}
 use Rattle.obj_core.specs.WellFormed.{most_data}
-use Rattle.obj_rows.specs.Assembled.{most_cuts, with_first_cuts, ends_from, IsAssembled}
-use Rattle.obj_rows.specs.Marked.{Marked, linked, instrs_of, links_from, Stands, IsFunction}
+use Rattle.obj_rows.specs.Assembled.{most_cuts, with_first_cuts, IsAssembled}
+use Rattle.obj_rows.specs.Marked.{Marked, linked, Stands, IsFunction}
 use Rattle.obj_rows.specs.Routines.{AreRoutines}
 use Rattle.obj_rows.specs.Standing.{first_core}
 use Rattle.slot_plan.specs.Slots.{slots_of, address_of, takens}
@@ -37,8 +34,8 @@ use Rattle.slot_plan.proofs.Places.{in_front, HasSlot as HasPlanned, slot_there}
 use Rattle.slot_plan.proofs.Taken.{place_of, pointer_is, jump_is}
 use Rattle.frame_lower.specs.Blocks.{calls_in, calls_of_blocks}
 use Rattle.frame_lower.specs.Chain.{no_function, function_in, first_slot, slot_behind, code_in}
-use Rattle.frame_lower.specs.Frames.{frame_plan, frame_words}
-use Rattle.frame_lower.specs.Functions.{Choices, function_row, lowered, making_of, saved_function, slot_number}
+use Rattle.frame_lower.specs.Frames.{frame_plan}
+use Rattle.frame_lower.specs.Functions.{Choices, lowered, making_of, saved_function, slot_number}
 use Rattle.frame_lower.specs.Given.{HavePlaces, AreChosen, calls_of_functions}
 use Rattle.frame_lower.specs.Planned.{frames_of, plan_of, HasOwn, HaveOwn}
 use Rattle.frame_lower.specs.Rows.{Making}
@@ -47,7 +44,7 @@ use Rattle.std.specs.List.{sum_by}
 use Rattle.std.proofs.lemmas.List.Sums.{sum_by-cons}
 use Rattle.obj_core.specs.declared.plan.Site.{Site}
 use Rattle.obj_core.specs.Slots.{push_purpose}
-use Rattle.obj_rows.specs.Marked.{IsRow, row_size}
+use Rattle.obj_rows.specs.Marked.{IsRow}
 use Rattle.obj_rows.proofs.Start.{starts_with_stack}
 use Rattle.slot_plan.proofs.Bounds.{slots_long}
 use Rattle.frame_lower.specs.Alive.{Allotted}
@@ -57,7 +54,7 @@ use Rattle.frame_lower.proofs.Programs.{calls_more}
 use Rattle.frame_lower.proofs.Ranged.{IsRanged, function_ranged}
 use Rattle.frame_lower.proofs.Sizes.{function_light}
 use Rattle.frame_lower.proofs.Totals.{slots_long as slots_number}
-use Rattle.frame_lower.proofs.LinkedOnce.{GoesBack, lowered_there, call_at, pointer_at, jump_at, way_back}
+use Rattle.frame_lower.proofs.LinkedOnce.{lowered_there, call_at, pointer_at, jump_at, way_back}
 use Rattle.frame_lower.proofs.Stage.{function_is}
 use Rattle.frame_lower.proofs.Suited.{live_all, behind_passed, allotted, all_there}
 

@@ -1,5 +1,5 @@
 -- Rows do nothing that is a slot's own, and name none of the five saved registers where all homes are words of the frame.
-use Rattle.std.proofs.Common.{◌≡◌, ℕ, zero, suc, ◌*◌, Bool, true, false, not, ◌&&◌, if◌then◌else◌, List, [], ◌∷◌, ◌++◌, get_or, Option, Some, None, is_none, refl, sym, subst}
+use Rattle.std.proofs.Common.{◌≡◌, ℕ, Bool, true, false, not, ◌&&◌, if◌then◌else◌, List, [], ◌∷◌, ◌++◌, Option, Some, None, is_none, refl, sym, subst}
 use Rattle.std.specs.Prelude.{ℤ}
 use Rattle.std.proofs.lemmas.Bool.{and_parts}
 use Rattle.rd_num.specs.declared.width.Width.{Width}
@@ -17,8 +17,8 @@ use Rattle.low_core.specs.declared.sel.SelOp.{SelOp}
 use Rattle.low_core.specs.declared.sel.SelOp.TheVariants.{Set, Copy, Alu, Div, Widen, Test, Pick, Load, Store, FrameAt, GlobalAt, FunctionAt, Call, CallAt, Outside}
 use Rattle.low_core.specs.Plan.{Plan}
 use Rattle.frame_rows.specs.declared.spot.Spot.{Spot}
-use Rattle.frame_rows.specs.declared.spot.Spot.TheVariants.{Own, Frame}
-use Rattle.frame_rows.specs.Code.{home_read, home_write, cut, sign_filled, filled, multiply, amount, alu_row, is_signed, test_row, widen_row, high_half, div_row, both, result_row, assigned_row, op_row}
+use Rattle.frame_rows.specs.declared.spot.Spot.TheVariants.{Frame}
+use Rattle.frame_rows.specs.Code.{home_read, home_write, cut, sign_filled, filled, multiply, alu_row, is_signed, test_row, widen_row, high_half, div_row, both, result_row, assigned_row, op_row}
 use Rattle.obj_core.specs.Saved.{is_push_or_pop, is_among, registers_of}
 use Rattle.obj_core.specs.WellFormed.{displacement, is_slots_own}
 

@@ -1,5 +1,5 @@
 -- What the slots of a program lead to is there, and the entry is the first of them and the only one.
-use Rattle.std.proofs.Common.{◌≡◌, ℕ, zero, suc, ◌+◌, ◌<◌, ◌≤◌, Bool, true, false, not, ◌&&◌, nat_eq, nat_lt, if◌then◌else◌, List, [], ◌∷◌, ◌++◌, length, Option, Some, None, slice_get, refl, ap, sym, subst, ◌∙◌, arith, inl, inr}
+use Rattle.std.proofs.Common.{◌≡◌, ℕ, zero, suc, ◌+◌, ◌<◌, ◌≤◌, Bool, true, false, not, nat_lt, if◌then◌else◌, List, [], ◌∷◌, ◌++◌, length, Some, None, slice_get, refl, ap, sym, subst, ◌∙◌, arith, inl}
 use Rattle.std.specs.List.{All, flat_map}
 use Rattle.std.proofs.lemmas.Bool.{lt-ltb, ne_eqb, and_from}
 use Rattle.std.proofs.lemmas.List.Elements.{All-nil, All-append, All-head, All-tail}
@@ -19,7 +19,7 @@ use Rattle.obj_core.specs.declared.plan.Slot0.{Slot0}
 use Rattle.obj_core.specs.Object.{Each}
 use Rattle.obj_core.specs.WellFormed.{is_start, OfSlot, is_good_slot, is_entry, agrees_with, in_slots}
 use Rattle.obj_rows.specs.Assembled.{ends_from, IsSlotOf, AreSlotsOf}
-use Rattle.slot_plan.specs.Slots.{jumps_from, call_slot, calls_from, all_calls_from, routine_slots, slots_of}
+use Rattle.slot_plan.specs.Slots.{jumps_from, call_slot, calls_from, all_calls_from, routine_slots}
 use Rattle.frame_lower.proofs.Keeping.{AllKeep, instructions, instructions_long, ways_start}
 use Rattle.frame_lower.proofs.Members.{IsIn}
 use Rattle.frame_lower.proofs.Ranged.{each_append}
@@ -95,7 +95,7 @@ module _ (sel : Sel) where
       each_append (LeadsBelow most) (jumps_from 0 sel.taken) (all_calls_from (length sel.functions) 0 sel.functions ++ routine_slots (length sel.functions) sel.main)
       (jumps_below most 0 sel.taken (omega (arith, told)))
       (each_append (LeadsBelow most) (all_calls_from (length sel.functions) 0 sel.functions) (routine_slots (length sel.functions) sel.main) (functions_below 0 sel.functions shaped.functions)
-        ((omega (arith, main)), (tt, (tt, (tt, (tt, tt))))))
+      ((omega (arith, main)), (tt, (tt, (tt, (tt, tt))))))
 
 module _ (reg_seed slots : ℕ) (fs : List Func) (all : AllKeep reg_seed slots 0 fs) where
   abbrev code : List (List Instr)

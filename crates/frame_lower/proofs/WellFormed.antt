@@ -1,24 +1,22 @@
 -- An object that is put together of a program's functions and of sound routines is well formed.
-use Rattle.std.proofs.Common.{◌≡◌, ℕ, zero, suc, ◌+◌, ◌-◌, ◌<◌, ◌≤◌, List, [], ◌∷◌, ◌++◌, length, map, take, get_or, Option, Some, None, slice_get, refl, ap, sym, subst, ◌∙◌, arith, length-append}
+use Rattle.std.proofs.Common.{◌≡◌, ℕ, suc, ◌+◌, ◌-◌, ◌≤◌, List, [], ◌∷◌, ◌++◌, length, map, Option, Some, None, slice_get, refl, ap, sym, subst, ◌∙◌, arith, length-append}
 use Rattle.std.specs.List.{All, sum_by}
 use Rattle.std.proofs.lemmas.List.Elements.{All-head, All-tail}
 use Rattle.std.proofs.lemmas.List.Sums.{sum_by-cons}
 use Rattle.ir_core.specs.declared.limit.TheConstants.{MAX_CODE}
 use Rattle.low_core.specs.declared.sel.SelFun.{SelFun}
 use Rattle.low_core.specs.declared.sel.Sel.{Sel}
-use Rattle.low_core.specs.SelShaped.{IsFunShaped, IsSel}
+use Rattle.low_core.specs.SelShaped.{IsFunShaped}
 use Rattle.low_core.specs.SelWeights.{sel_function_weight, sel_weight}
 use Rattle.obj_core.specs.declared.object.Func.{Func}
 use Rattle.obj_core.specs.declared.object.Object.{Object}
-use Rattle.obj_core.specs.declared.object.Slot.{Slot}
-use Rattle.obj_core.specs.declared.plan.Slot0.{Slot0}
 use Rattle.obj_core.specs.Object.{Each, IsObject}
 use Rattle.obj_core.specs.WellFormed.{most_data, AreFew, IsWellFormed, Violation, agrees_with, in_slots, is_good_slot, or_else}
 use Rattle.obj_rows.specs.Assembled.{most_cuts, with_first_cuts, AreSlotsOf, IsAssembled}
 use Rattle.obj_rows.specs.Sound.{IsSoundFunction, AreSound}
 use Rattle.obj_rows.specs.Marked.{instrs_of}
-use Rattle.slot_plan.specs.Slots.{IsPlan, jumps_from, all_calls_from, routine_slots, slots_of, takens}
-use Rattle.slot_plan.proofs.Bounds.{AreFew as AreFewSlots, bounds, jumps_long, all_calls_long}
+use Rattle.slot_plan.specs.Slots.{jumps_from, all_calls_from, routine_slots, slots_of, takens}
+use Rattle.slot_plan.proofs.Bounds.{bounds, jumps_long, all_calls_long}
 use Rattle.frame_lower.specs.Blocks.{calls_of_blocks}
 use Rattle.frame_lower.specs.Functions.{Choices, cuts_from, function_row, functions_with, lowered, slot_number}
 use Rattle.frame_lower.specs.Given.{AreChosen, calls_of_functions}
@@ -26,7 +24,7 @@ use Rattle.frame_lower.proofs.Chosen.{made, whole}
 use Rattle.frame_lower.proofs.Keeping.{AllKeep, keep_append, sounds_keep, instructions, disassembled, rule_3, rule_4, rule_5, rule_8, rule_9}
 use Rattle.frame_lower.proofs.LinkedOnce.{lowered_long}
 use Rattle.frame_lower.proofs.Programs.{calls_more}
-use Rattle.frame_lower.proofs.RowKeeps.{cut_function, function_keeps}
+use Rattle.frame_lower.proofs.RowKeeps.{function_keeps}
 use Rattle.frame_lower.proofs.Targets.{LeadsBelow, others_below, all_slots_good}
 use Rattle.frame_lower.proofs.Totals.{slots_long, cuts_of, bytes_of, cuts_both, bytes_both, first_cuts_few, first_cuts_bytes, first_cuts_long, sound_uncut, program_light}
 
@@ -44,7 +42,7 @@ module _ (c : Choices) (sel : Sel) (slot_draw : ℕ) (chosen : AreChosen c sel s
       let w = whole c sel slot_draw chosen number f slot (ap (slice_get sel.functions) (sym none) ∙ there 0 f refl) (All-head (IsFunShaped sel) f fs shaped) (omega (arith, sum, light)) (omega (arith, calls, linked)) in
       let left : ℕ = count - length (cuts_from 0 (instrs_of (function_row (made c sel slot_draw chosen number f) slot f))) in
       let rest = keeps_from left (suc number) (slot + calls_of_blocks f.blocks) fs (λ i g at. ap (slice_get sel.functions) (let e : suc number + i ≡ number + suc i = omega arith in e) ∙ there (suc i) g at) (All-tail (IsFunShaped sel) f fs shaped)
-          (omega (arith, sum, light)) (omega (arith, calls, linked)) in
+      (omega (arith, sum, light)) (omega (arith, calls, linked)) in
       (function_keeps (made c sel slot_draw chosen number f) c.reg_seed number (length (slots_of sel)) slot count f w, subst (λ n. AllKeep c.reg_seed (length (slots_of sel)) n (with_first_cuts left (functions_with c.placing.globals (map slot_number c.slots.pointers) c.reg_seed c.names c.homes (suc number) (slot + calls_of_blocks f.blocks) fs))) one rest)
 
   lowered_keeps : (count : ℕ) → AllKeep c.reg_seed (length (slots_of sel)) 0 (with_first_cuts count (lowered c sel))
@@ -75,8 +73,8 @@ module _ (c : Choices) (sel : Sel) (slot_draw : ℕ) (chosen : AreChosen c sel s
     all_keep : AllKeep o.reg_seed (length o.slots) 0 o.functions
     all_keep =
         let both : AllKeep c.reg_seed (length (slots_of sel)) 0 functions =
-            keep_append c.reg_seed (length (slots_of sel)) 0 (with_first_cuts most_cuts (lowered c sel)) routines (lowered_keeps most_cuts)
-            (sounds_keep c.reg_seed (length (slots_of sel)) _ routines (subst (λ n. Each (IsSoundFunction n) routines) (ap length chosen.plan.slots) sound.each)) in
+        keep_append c.reg_seed (length (slots_of sel)) 0 (with_first_cuts most_cuts (lowered c sel)) routines (lowered_keeps most_cuts)
+        (sounds_keep c.reg_seed (length (slots_of sel)) _ routines (subst (λ n. Each (IsSoundFunction n) routines) (ap length chosen.plan.slots) sound.each)) in
         subst (λ fs. AllKeep o.reg_seed (length o.slots) 0 fs) (sym assembled.functions)
         (subst (λ n. AllKeep o.reg_seed n 0 functions) (sym slots_are) (subst (λ r. AllKeep r (length (slots_of sel)) 0 functions) (sym assembled.reg_seed) both))
 

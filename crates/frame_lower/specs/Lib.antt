@@ -10,3 +10,4 @@ pub mod Chain
 pub mod Alive
 pub mod Suits
 pub mod Planned
+pub mod Meaning

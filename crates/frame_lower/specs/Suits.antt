@@ -1,5 +1,5 @@
 -- What an object has to be for a program of registers, so that it does what the program does.
-use Rattle.std.specs.Prelude.{◌≡◌, ℕ, ◌+◌, ◌*◌, ◌^◌, ◌<◌, ◌≤◌, true, List, [], ◌∷◌, length, drop, take, pos, slice_get, Some, None}
+use Rattle.std.specs.Prelude.{◌≡◌, ℕ, ◌+◌, ◌*◌, ◌^◌, ◌<◌, ◌≤◌, true, List, ◌∷◌, length, take, pos, slice_get, Some}
 use Rattle.ir_core.specs.declared.TheConstants.{MAX_CALLS}
 use Rattle.x86_core.specs.declared.instr.Instr.TheVariants.{Jmp}
 use Rattle.x86_core.specs.declared.reg.Reg.{Reg}
@@ -24,7 +24,6 @@ use Rattle.obj_core.specs.SymbolicMachine.{at_code}
 use Rattle.obj_rows.specs.Marked.{Marked, linked, row_size, Stands, IsFunction}
 use Rattle.obj_rows.specs.Standing.{first_core}
 use Rattle.obj_rows.specs.Routines.{AreRoutines}
-use Rattle.frame_rows.specs.declared.spot.Spot.{Spot}
 use Rattle.frame_rows.specs.declared.spot.Spot.TheVariants.{Frame}
 use Rattle.frame_rows.specs.Bodies.{addresses_of}
 use Rattle.frame_rows.specs.Ties.{is_home, IsHome, Differ, Contains}

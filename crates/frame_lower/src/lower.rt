@@ -8,7 +8,7 @@ ghost use Rattle.slot_plan.specs.Slots.{takens};
 ghost use Rattle.frame_lower.specs.Functions.{functions_with, lowered};
 ghost use Rattle.frame_lower.specs.Given.{HavePlaces, IsSmall, calls_of_functions};
 
-use crate::program::{addresses, Shared};
+use crate::program::{Shared, addresses};
 use low_core::sel::{Home, Homes, Sel, SelFun};
 use obj_core::object::Func;
 use obj_core::plan::{Placing, SlotPlan};

@@ -1,16 +1,13 @@
 -- Both runs begin with the same function, and with the globals where the plan has them.
-use Rattle.std.proofs.Common.{◌≡◌, ℕ, zero, suc, ◌+◌, ◌<◌, ◌≤◌, Bool, true, false, List, [], ◌∷◌, ◌++◌, length, map, replicate, Option, Some, None, slice_get, refl, ap, sym, ◌∙◌, subst, inl, inr, ◌⊎◌, arith}
+use Rattle.std.proofs.Common.{◌≡◌, ℕ, zero, suc, ◌+◌, List, [], ◌∷◌, length, map, replicate, Option, Some, None, slice_get, refl, ap, sym, ◌∙◌, subst, inl, inr, ◌⊎◌, arith}
 use Rattle.std.specs.Prelude.{codes}
 use Rattle.behavior.specs.Ending.{Going}
-use Rattle.ir_core.specs.declared.TheConstants.{MAX_CALLS}
 use Rattle.ir_core.specs.declared.memory.Value.{Value}
-use Rattle.ir_core.specs.declared.memory.Value.TheVariants.{Num, Null, At, Fun}
 use Rattle.ir_core.specs.declared.module.Function.{Function}
 use Rattle.ir_core.specs.declared.module.Module.{Module}
 use Rattle.ir_core.specs.declared.module.Param.{Param}
 use Rattle.ir_core.specs.Calls.{bound, first_frame}
 use Rattle.ir_core.specs.Globals.{first_objects}
-use Rattle.ir_core.specs.Memory.{Memory}
 use Rattle.ir_core.specs.Operands.{function_number}
 use Rattle.ir_core.specs.Run.{first_arguments, standing, start_in, start_at, source_start}
 use Rattle.ir_core.specs.State.{Frame, State}
@@ -18,7 +15,7 @@ use Rattle.ir_sound.specs.WellTyped.{Each, IsWellTyped}
 use Rattle.ir_sound.proofs.RowLaws.{item_at, below_at}
 use Rattle.ir_sound.proofs.Start.{start_is}
 use Rattle.low_core.specs.declared.sel.SelFun.{SelFun}
-use Rattle.low_core.specs.Bridge.{Bridges, Setting, IsKnown}
+use Rattle.low_core.specs.Bridge.{Setting, IsKnown}
 use Rattle.low_core.specs.Contents.{Addresses, addresses_of, word_of, data_bytes}
 use Rattle.low_core.specs.Flat.{Bytes, forgotten}
 use Rattle.low_core.specs.Plan.{FramePlan, Plan, Content, first_bytes}
@@ -31,7 +28,7 @@ use Rattle.isel_rows.specs.Functions.{function_selected, numbers_from}
 use Rattle.x86_core.specs.Data.{stack_end}
 use Rattle.isel_rows.specs.Variables.{number_or_first}
 use Rattle.isel_rows.specs.Selected.{module_selected}
-use Rattle.isel.proofs.Beside.{AreBeside, IsBeside, memories, setting_of, state_of}
+use Rattle.isel.proofs.Beside.{IsBeside, setting_of, state_of}
 use Rattle.isel.proofs.Begun.{has_begun}
 use Rattle.isel.proofs.Firsts.{are_first}
 use Rattle.isel.proofs.Mentioned.{IsFine}

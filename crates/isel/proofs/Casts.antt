@@ -1,72 +1,49 @@
 -- Casts are met: the low bits of a register are the number that it holds.
-use Rattle.std.proofs.Common.{◌≡◌, ◌≢◌, ℕ, zero, suc, ◌+◌, ◌%◌, ◌^◌, ◌<◌, ◌≤◌, Bool, true, false, List, [], ◌∷◌, ◌++◌, length, Option, Some, None, Ok, Err, slice_get, refl, ap, sym, ◌∙◌, subst, inl, inr, ◌⊎◌, arith}
-use Rattle.std.specs.Prelude.{◌&&◌, nat_eq, if◌then◌else◌}
+use Rattle.std.proofs.Common.{◌≡◌, ℕ, ◌%◌, ◌<◌, true, List, [], ◌∷◌, length, Option, Some, Ok, slice_get, refl, ap, sym, ◌∙◌, subst}
 use Rattle.std.proofs.lemmas.Bool.{and_parts}
-use Rattle.std.proofs.lemmas.List.{append_assoc, length-append}
 use Rattle.std.proofs.Math.Nat.{mod-eq_of_lt}
 use Rattle.rd_num.specs.declared.width.Width.{Width}
-use Rattle.rd_num.specs.declared.width.Width.TheVariants.{W1, W8, W16, W32, W64}
-use Rattle.behavior.specs.Ending.{is_left}
-use Rattle.behavior.specs.System.{iter}
 use Rattle.ir_core.specs.declared.ty.Ty.{Ty}
 use Rattle.ir_core.specs.declared.operand.Operand.{Operand}
-use Rattle.ir_core.specs.declared.instruction.BinOp.{BinOp}
-use Rattle.ir_core.specs.declared.instruction.BinOp.TheVariants.{Add, Sub, Mul, Udiv, Sdiv, Urem, Srem, Shl, Lshr, Ashr, And, Or, Xor}
-use Rattle.ir_core.specs.declared.instruction.Pred.{Pred}
 use Rattle.ir_core.specs.declared.instruction.CastOp.{CastOp}
 use Rattle.ir_core.specs.declared.instruction.CastOp.TheVariants.{Trunc, Zext, Sext}
-use Rattle.ir_core.specs.declared.instruction.Inst.{Inst}
 use Rattle.ir_core.specs.declared.instruction.Op.{Op}
-use Rattle.ir_core.specs.declared.instruction.Op.TheVariants.{Bin, Compare, Cast, Select, Freeze}
+use Rattle.ir_core.specs.declared.instruction.Op.TheVariants.{Cast}
 use Rattle.ir_core.specs.declared.kind.Kind.{Kind}
 use Rattle.ir_core.specs.declared.kind.Kind.TheVariants.{NoValue, Number, Pointer}
 use Rattle.ir_core.specs.declared.memory.Value.{Value}
-use Rattle.ir_core.specs.declared.memory.Value.TheVariants.{Num, Null, At, Fun}
+use Rattle.ir_core.specs.declared.memory.Value.TheVariants.{Num}
 use Rattle.ir_core.specs.declared.module.Module.{Module}
-use Rattle.ir_core.specs.Arithmetic.{modulus, binary, compared, cast}
-use Rattle.ir_core.specs.Counts.{alloca_bytes}
-use Rattle.ir_core.specs.Kinds.{kind_of, truth, same_kind}
-use Rattle.ir_core.specs.Memory.{Memory}
-use Rattle.ir_core.specs.Mentions.{of_operand, of_typed, of_op}
-use Rattle.ir_core.specs.Operands.{value_of}
-use Rattle.ir_core.specs.Pointers.{pointers_compared}
-use Rattle.ir_core.specs.State.{Frame, State, Nothing, turned}
-use Rattle.ir_core.specs.Step.{binary_value, compared_value, cast_value, selected, gives, result_of, instruction_turn}
-use Rattle.ir_core.specs.Stops.{Stop, Answer, and_then, ending_of}
-use Rattle.ir_core.specs.Typing.{operand_fits, bin_fits, cast_fits, is_number, is_value, op_fits}
+use Rattle.ir_core.specs.Arithmetic.{modulus, cast}
+use Rattle.ir_core.specs.Kinds.{kind_of}
+use Rattle.ir_core.specs.Mentions.{of_typed}
+use Rattle.ir_core.specs.State.{Frame, State, turned}
+use Rattle.ir_core.specs.Step.{cast_value, gives, instruction_turn}
+use Rattle.ir_core.specs.Stops.{and_then}
+use Rattle.ir_core.specs.Typing.{operand_fits, cast_fits}
 use Rattle.ir_core.specs.Valid.{LocalKind, env_of, named_locals}
-use Rattle.ir_sound.specs.WellTyped.{Each, IsOfKind, Present, present}
-use Rattle.ir_sound.proofs.Operands.{number_of}
 use Rattle.ir_sound.proofs.RowLaws.{Each_parts}
-use Rattle.ir_sound.proofs.SameLaws.{not_true, kind_is}
-use Rattle.ir_context.specs.declared.origin.Origin.{Origin}
+use Rattle.ir_sound.proofs.SameLaws.{not_true}
 use Rattle.ir_context.specs.Origins.{origin_of}
 use Rattle.low_core.specs.declared.sel.SelOp.{SelOp}
-use Rattle.low_core.specs.declared.sel.SelOp.TheVariants.{Copy, Test, Pick, Widen}
 use Rattle.low_core.specs.Flat.{Bytes, Flat}
 use Rattle.low_core.specs.Plan.{Plan, Content}
-use Rattle.low_core.specs.Contents.{Addresses, word_of}
-use Rattle.low_core.specs.Bridge.{Setting, IsKnown}
+use Rattle.low_core.specs.Contents.{word_of}
+use Rattle.low_core.specs.Bridge.{Setting}
 use Rattle.low_core.specs.SelParts.{assigns_of}
-use Rattle.low_core.specs.SelState.{SelFrame, SelState, sel_turned}
-use Rattle.low_core.specs.SelStep.{low_bits, of_two, word_of_op, gives_word, op_turn, sel_step}
-use Rattle.low_core.specs.Weights.{lean_own}
-use Rattle.isel_rows.specs.Variables.{variables_of, operand_register, width_of}
-use Rattle.isel_rows.specs.Brought.{Brought, brought, operand_brought}
-use Rattle.isel_rows.specs.Rows.{bin_op, cast_op, result_register, ops_of}
-use Rattle.isel_rows.specs.Selected.{module_selected}
-use Rattle.isel.proofs.Beside.{memories, setting_of, Meets}
-use Rattle.isel.proofs.Here.{IsHere, fn, vs, done, memory, now, stands_here, ready, sets, stops}
-use Rattle.isel.proofs.Mentioned.{IsFine, inst_fine}
-use Rattle.isel.proofs.Operands.{IsReady, operand_brings, ready_after, BringsTwo, two_bring, BringsThree, three_bring}
-use Rattle.isel.proofs.Operations.{number_kind, low_same, has, two_set, gives_or_left}
-use Rattle.isel.proofs.Premises.{Premises, rules_at}
-use Rattle.isel.proofs.Straight.{Gave, gave, going, moved, reader, passed, straight_then, StandsAt}
-use Rattle.isel.proofs.Results.{rules, fine, two_read_met, number_has}
-use Rattle.isel.proofs.Tame.{IsTame, value_tame, compared_tame, cast_tame, selected_tame}
-use Rattle.isel.proofs.Typed.{InstRules}
-use Rattle.isel.proofs.Values.{HasValue, operand_has}
-use Rattle.isel.proofs.Words.{HasWord, word_read, two_read}
+use Rattle.low_core.specs.SelState.{SelFrame, SelState}
+use Rattle.low_core.specs.SelStep.{low_bits, word_of_op}
+use Rattle.isel_rows.specs.Variables.{variables_of, width_of}
+use Rattle.isel_rows.specs.Rows.{cast_op, result_register, ops_of}
+use Rattle.isel.proofs.Beside.{setting_of, Meets}
+use Rattle.isel.proofs.Here.{IsHere, done, memory, now}
+use Rattle.isel.proofs.Mentioned.{IsFine}
+use Rattle.isel.proofs.Operations.{low_same}
+use Rattle.isel.proofs.Premises.{Premises}
+use Rattle.isel.proofs.Straight.{reader}
+use Rattle.isel.proofs.Results.{rules, fine, number_has}
+use Rattle.isel.proofs.Values.{HasValue}
+use Rattle.isel.proofs.Words.{HasWord, word_read}
 use Rattle.ir_core.proofs.Fits.{cast_fits as cast_below}
 use Rattle.std.proofs.Math.Nat.{mod-lt}
 use Rattle.std.proofs.lemmas.Nat.{pow_pos}
@@ -132,6 +109,7 @@ module _ (m : Module) (plan : Plan) (contents : List Content) (p : Premises m pl
   -- it is met by its operations
   abbrev IsMet : Option (List ℕ) → Op → Type 0
   IsMet into op = Meets m g input (length (there_ops into op)) spot (turned s (instruction_turn m input s f fs into op))
+
   -- a cast
   pub cast_met : (into : Option (List ℕ)) (op : CastOp) (from : Ty) (a : Operand) (to : Ty) → Stands into (Cast op from a to) → IsMet into (Cast op from a to)
   cast_met into op from a to there =
@@ -147,11 +125,11 @@ module _ (m : Module) (plan : Plan) (contents : List Content) (p : Premises m pl
           → Meets m g input (length (there_ops into (Cast op from a to))) spot (turned s (and_then (cast_value op (kind_of from) (kind_of to) u) (λ t. gives s f fs into t)))
       given v w kind_from kind_to u first n =
           let is : cast_value op (kind_of from) (kind_of to) u ≡ Ok (Num w (cast op v w n.0)) =
-              ap (λ k. cast_value op k (kind_of to) u) kind_from ∙ ap (λ k. cast_value op (Number v) k u) kind_to ∙ ap (cast_value op (Number v) (Number w)) n.1 in
+          ap (λ k. cast_value op k (kind_of to) u) kind_from ∙ ap (λ k. cast_value op (Number v) k u) kind_to ∙ ap (cast_value op (Number v) (Number w)) n.1 in
           subst (λ q. Meets m g input (length (there_ops into (Cast op from a to))) spot (turned s (and_then q (λ t. gives s f fs into t)))) (sym is)
           (one_set m plan contents p input s f fs h hs bytes x into (Cast op from a to) (kind_of from) a u (Num w (cast op v w n.0)) (λ i. cast_op op (width_of (kind_of from)) (width_of (kind_of to)) (result_register V into) i) there refl refl first
           (λ registers i hold.
-              ap (λ k. word_of_op plan (reader h.own registers) flat (cast_op op (width_of k) (width_of (kind_of to)) (result_register V into) i)) kind_from
-              ∙ ap (λ k. word_of_op plan (reader h.own registers) flat (cast_op op v (width_of k) (result_register V into) i)) kind_to
-              ∙ cast_word op v w (result_register V into) i n.0 plan (reader h.own registers) flat n.2 (subst (λ t. HasWord registers i (word_of x.at t)) n.1 hold))
+          ap (λ k. word_of_op plan (reader h.own registers) flat (cast_op op (width_of k) (width_of (kind_of to)) (result_register V into) i)) kind_from
+          ∙ ap (λ k. word_of_op plan (reader h.own registers) flat (cast_op op v (width_of k) (result_register V into) i)) kind_to
+          ∙ cast_word op v w (result_register V into) i n.0 plan (reader h.own registers) flat n.2 (subst (λ t. HasWord registers i (word_of x.at t)) n.1 hold))
           (λ i. cast_assigns op (width_of (kind_of from)) (width_of (kind_of to)) (result_register V into) i) (cast_below op v w n.0))

@@ -1,77 +1,59 @@
 -- Comparisons, casts, choices and copies are met by operations on registers.
-use Rattle.std.proofs.Common.{◌≡◌, ◌≢◌, ℕ, zero, suc, ◌+◌, ◌%◌, ◌^◌, ◌<◌, ◌≤◌, Bool, true, false, List, [], ◌∷◌, ◌++◌, length, Option, Some, None, Ok, Err, slice_get, refl, ap, sym, ◌∙◌, subst, inl, inr, ◌⊎◌, arith}
-use Rattle.std.specs.Prelude.{◌&&◌, nat_eq, if◌then◌else◌}
+use Rattle.std.proofs.Common.{◌≡◌, ℕ, ◌^◌, ◌<◌, Bool, true, false, List, [], ◌∷◌, ◌++◌, length, Option, Some, Ok, Err, slice_get, refl, ap, sym, ◌∙◌, subst, inl, arith}
+use Rattle.std.specs.Prelude.{◌&&◌, if◌then◌else◌}
 use Rattle.std.proofs.lemmas.Bool.{and_parts}
-use Rattle.std.proofs.lemmas.List.{append_assoc, length-append}
-use Rattle.std.proofs.Math.Nat.{mod-eq_of_lt}
-use Rattle.rd_num.specs.declared.width.Width.{Width}
-use Rattle.rd_num.specs.declared.width.Width.TheVariants.{W1, W8, W16, W32, W64}
-use Rattle.behavior.specs.Ending.{is_left}
-use Rattle.behavior.specs.System.{iter}
+use Rattle.rd_num.specs.declared.width.Width.TheVariants.{W64}
 use Rattle.ir_core.specs.declared.ty.Ty.{Ty}
 use Rattle.ir_core.specs.declared.operand.Operand.{Operand}
-use Rattle.ir_core.specs.declared.instruction.BinOp.{BinOp}
-use Rattle.ir_core.specs.declared.instruction.BinOp.TheVariants.{Add, Sub, Mul, Udiv, Sdiv, Urem, Srem, Shl, Lshr, Ashr, And, Or, Xor}
 use Rattle.ir_core.specs.declared.instruction.Pred.{Pred}
-use Rattle.ir_core.specs.declared.instruction.CastOp.{CastOp}
-use Rattle.ir_core.specs.declared.instruction.CastOp.TheVariants.{Trunc, Zext, Sext}
-use Rattle.ir_core.specs.declared.instruction.Inst.{Inst}
 use Rattle.ir_core.specs.declared.instruction.Op.{Op}
-use Rattle.ir_core.specs.declared.instruction.Op.TheVariants.{Bin, Compare, Cast, Select, Freeze}
+use Rattle.ir_core.specs.declared.instruction.Op.TheVariants.{Compare, Freeze}
 use Rattle.ir_core.specs.declared.kind.Kind.{Kind}
 use Rattle.ir_core.specs.declared.kind.Kind.TheVariants.{NoValue, Number, Pointer}
 use Rattle.ir_core.specs.declared.memory.Value.{Value}
 use Rattle.ir_core.specs.declared.memory.Value.TheVariants.{Num, Null, At, Fun}
 use Rattle.ir_core.specs.declared.module.Module.{Module}
-use Rattle.ir_core.proofs.Fits.{binary_fits as binary_below}
-use Rattle.ir_core.specs.Arithmetic.{modulus, binary, compared, cast}
+use Rattle.ir_core.specs.Arithmetic.{compared}
 use Rattle.ir_core.specs.Counts.{alloca_bytes}
-use Rattle.ir_core.specs.Kinds.{kind_of, truth, same_kind}
+use Rattle.ir_core.specs.Kinds.{kind_of, truth}
 use Rattle.ir_core.specs.Memory.{Memory}
-use Rattle.ir_core.specs.Mentions.{of_operand, of_typed, of_op}
+use Rattle.ir_core.specs.Mentions.{of_operand, of_typed}
 use Rattle.ir_core.specs.Operands.{value_of}
 use Rattle.ir_core.specs.Pointers.{pointers_compared}
-use Rattle.ir_core.specs.State.{Frame, State, Nothing, turned}
-use Rattle.ir_core.specs.Step.{binary_value, compared_value, cast_value, selected, gives, result_of, instruction_turn}
-use Rattle.ir_core.specs.Stops.{Stop, Answer, and_then, ending_of}
-use Rattle.ir_core.specs.Typing.{operand_fits, bin_fits, cast_fits, is_number, is_value, op_fits}
+use Rattle.ir_core.specs.State.{Frame, State, turned}
+use Rattle.ir_core.specs.Step.{compared_value, gives, instruction_turn}
+use Rattle.ir_core.specs.Stops.{Answer, and_then}
+use Rattle.ir_core.specs.Typing.{operand_fits, is_value}
 use Rattle.ir_core.specs.Valid.{LocalKind, env_of, named_locals}
-use Rattle.ir_sound.specs.WellTyped.{Each, IsOfKind, Present, present}
-use Rattle.ir_sound.proofs.Operands.{number_of}
+use Rattle.ir_sound.specs.WellTyped.{Each, IsOfKind, present}
 use Rattle.ir_sound.proofs.RowLaws.{Each_parts}
-use Rattle.ir_sound.proofs.SameLaws.{not_true, kind_is}
-use Rattle.ir_context.specs.declared.origin.Origin.{Origin}
 use Rattle.ir_context.specs.Origins.{origin_of}
 use Rattle.low_core.specs.declared.sel.SelOp.{SelOp}
-use Rattle.low_core.specs.declared.sel.SelOp.TheVariants.{Copy, Test, Pick, Widen}
+use Rattle.low_core.specs.declared.sel.SelOp.TheVariants.{Copy, Test}
 use Rattle.low_core.specs.Flat.{Bytes, Flat}
 use Rattle.low_core.specs.Plan.{Plan, Content}
 use Rattle.low_core.specs.Contents.{Addresses, word_of}
 use Rattle.low_core.specs.Bridge.{Setting, IsKnown}
 use Rattle.low_core.specs.SelParts.{assigns_of}
-use Rattle.low_core.specs.SelState.{SelFrame, SelState, sel_turned}
-use Rattle.low_core.specs.SelStep.{low_bits, of_two, word_of_op, gives_word, op_turn, sel_step}
-use Rattle.low_core.specs.Weights.{lean_own}
+use Rattle.low_core.specs.SelState.{SelFrame, SelState}
+use Rattle.low_core.specs.SelStep.{low_bits, word_of_op}
 use Rattle.flat_memory.specs.Accesses.{IsPointer}
 use Rattle.flat_memory.proofs.Compare.{compare_law}
 use Rattle.flat_memory.proofs.Load.{address_small}
 use Rattle.isel_rows.specs.Variables.{variables_of, operand_register, width_of}
-use Rattle.isel_rows.specs.Brought.{Brought, brought, operand_brought}
-use Rattle.isel_rows.specs.Rows.{bin_op, cast_op, result_register, ops_of}
-use Rattle.isel_rows.specs.Selected.{module_selected}
+use Rattle.isel_rows.specs.Brought.{operand_brought}
+use Rattle.isel_rows.specs.Rows.{result_register, ops_of}
 use Rattle.isel.proofs.Beside.{memories, setting_of, Meets}
-use Rattle.isel.proofs.Here.{IsHere, fn, vs, done, memory, now, stands_here, ready, sets, stops}
-use Rattle.isel.proofs.Mentioned.{IsFine, inst_fine}
-use Rattle.isel.proofs.Operands.{IsReady, operand_brings, ready_after, BringsTwo, two_bring, BringsThree, three_bring}
-use Rattle.isel.proofs.Operations.{number_kind, low_same, has, two_set, gives_or_left}
-use Rattle.isel.proofs.Premises.{Premises, rules_at}
-use Rattle.isel.proofs.Straight.{Gave, gave, going, moved, reader, passed, straight_then, StandsAt}
+use Rattle.isel.proofs.Here.{IsHere, done, memory, now, ready, sets}
+use Rattle.isel.proofs.Mentioned.{IsFine}
+use Rattle.isel.proofs.Operands.{operand_brings, ready_after}
+use Rattle.isel.proofs.Operations.{low_same, has, two_set, gives_or_left}
+use Rattle.isel.proofs.Premises.{Premises}
+use Rattle.isel.proofs.Straight.{gave, reader}
 use Rattle.isel.proofs.Results.{rules, fine, two_read_met, number_has}
-use Rattle.isel.proofs.Tame.{IsTame, value_tame, compared_tame, cast_tame, selected_tame}
-use Rattle.isel.proofs.Typed.{InstRules}
-use Rattle.isel.proofs.Values.{HasValue, operand_has}
+use Rattle.isel.proofs.Tame.{IsTame, value_tame, compared_tame}
+use Rattle.isel.proofs.Values.{HasValue}
 use Rattle.isel.proofs.Words.{HasWord, word_read, two_read}
-
 
 -- a pointer that can arise
 pointer_of : (n k : ℕ) (m : Module) (objects : Memory) (taken : List Bool) (v : Value) → IsOfKind (present m objects) Pointer v → IsKnown n taken v → IsPointer n taken v
@@ -138,8 +120,8 @@ module _ (m : Module) (plan : Plan) (contents : List Content) (p : Premises m pl
         compared pred k i.0 j.0,
         same,
         ap (λ t. compared pred k (low_bits k (word_of x.at t)) (low_bits k (word_of x.at v))) i.1
-        ∙ ap (λ t. compared pred k (low_bits k i.0) (low_bits k (word_of x.at t))) j.1
-        ∙ ap (λ n. compared pred k n (low_bits k j.0)) (low_same k i.0 i.2) ∙ ap (compared pred k i.0) (low_same k j.0 j.2),
+            ∙ ap (λ t. compared pred k (low_bits k i.0) (low_bits k (word_of x.at t))) j.1
+            ∙ ap (λ n. compared pred k n (low_bits k j.0)) (low_same k i.0 i.2) ∙ ap (compared pred k i.0) (low_same k j.0 j.2),
       )
     where
       ok_is : (c d : Value) → let q : Answer Value = Ok c in q ≡ Ok d → c ≡ d
@@ -152,8 +134,8 @@ module _ (m : Module) (plan : Plan) (contents : List Content) (p : Premises m pl
         r.value,
         same,
         ap (λ n. compared pred W64 n (low_bits W64 (word_of x.at v))) (low_same W64 (word_of x.at u) (pointer_small u left))
-        ∙ ap (compared pred W64 (word_of x.at u)) (low_same W64 (word_of x.at v) (pointer_small v right))
-        ∙ compare_law g (memories (f ∷ fs) (h ∷ hs)) s.objects x.at bytes p.setting x.tied pred u v r.value left right r.first,
+            ∙ ap (compared pred W64 (word_of x.at u)) (low_same W64 (word_of x.at v) (pointer_small v right))
+            ∙ compare_law g (memories (f ∷ fs) (h ∷ hs)) s.objects x.at bytes p.setting x.tied pred u v r.value left right r.first,
       )
     where
       answer : Value → Answer Value
@@ -176,8 +158,8 @@ module _ (m : Module) (plan : Plan) (contents : List Content) (p : Premises m pl
       let c = compared_word pred K a b u v w first second e in
       two_set m plan contents p input s f fs h hs bytes x into (Compare pred ty a b) K K a b u v w (λ i j. Test pred (width_of K) (result_register V into) i j) there refl refl first second
       (λ registers i j hold_u hold_v.
-          two_read registers (width_of K) i j (word_of x.at u) (word_of x.at v) (λ y z. Ok (if compared pred (width_of K) y z then 1 else 0)) hold_u hold_v
-          ∙ ap (λ t. Ok (if t then 1 else 0)) c.2 ∙ ap Ok (truth_word x.at c.0) ∙ ap (λ t. Ok (word_of x.at t)) (sym c.1))
+      two_read registers (width_of K) i j (word_of x.at u) (word_of x.at v) (λ y z. Ok (if compared pred (width_of K) y z then 1 else 0)) hold_u hold_v
+      ∙ ap (λ t. Ok (if t then 1 else 0)) c.2 ∙ ap Ok (truth_word x.at c.0) ∙ ap (λ t. Ok (word_of x.at t)) (sym c.1))
       (λ i j. refl) (subst (IsKnown (length s.objects) g.taken) (sym c.1) (truth_known (length s.objects) g.taken c.0))))
 
   -- one operand is read, and what comes of it is met

@@ -1,25 +1,24 @@
 -- Objects with which a run begins hold numbers and pieces of addresses: of globals, and of functions to which a pointer may arise.
-use Rattle.std.proofs.Common.{◌≡◌, ℕ, zero, suc, ◌+◌, ◌-◌, ◌%◌, ◌^◌, ◌<◌, Bool, true, false, List, [], ◌∷◌, ◌++◌, length, map, Option, Some, None, Ok, Err, refl, ap, sym, ◌∙◌, subst, arith}
-use Rattle.std.specs.Prelude.{slice_get, if◌then◌else◌}
+use Rattle.std.proofs.Common.{◌≡◌, ℕ, zero, suc, ◌+◌, ◌-◌, ◌%◌, ◌^◌, ◌<◌, Bool, true, false, List, [], ◌∷◌, ◌++◌, length, map, Option, Some, None, Ok, Err, refl, ap, sym, subst, arith}
+use Rattle.std.specs.Prelude.{slice_get}
 use Rattle.std.specs.List.{flat_map, list_all}
 use Rattle.std.proofs.lemmas.Bool.{and_parts, eqb-true}
 use Rattle.std.proofs.Math.Nat.{mod-lt}
 use Rattle.ir_core.specs.declared.ty.Ty.{Ty}
 use Rattle.ir_core.specs.declared.operand.Operand.{Operand}
 use Rattle.ir_core.specs.declared.operand.Operand.TheVariants.{Int, Bool as Truth, Null as NullWord, Undef, Poison, Local as LocalName, Global, Const}
-use Rattle.ir_core.specs.declared.init.Init.{Init, fold-Init, ind-Init, roll-Init, fold-roll-Init}
+use Rattle.ir_core.specs.declared.init.Init.{Init, ind-Init, roll-Init, fold-roll-Init}
 use Rattle.ir_core.specs.declared.init.Elem.{Elem, fold-Elem, roll-Elem, fold-roll-Elem}
 use Rattle.ir_core.specs.declared.init.Init.TheOpen.{Init-F, Elem-F}
 use Rattle.ir_core.specs.declared.init.Init.TheBlock.{the_family, member-Init, member-Elem}
 use Rattle.ir_core.specs.declared.init.Init.TheFolds.{claims, map-Init, map-Elem}
 use denote.Hole.Holds.{Such}
-use Rattle.rd_num.specs.declared.width.Width.TheVariants.{W1, W8, W16, W32, W64}
 use Rattle.ir_core.specs.declared.module.GlobalVar.{GlobalVar}
 use Rattle.ir_core.specs.declared.module.Module.{Module}
 use Rattle.ir_core.specs.declared.memory.Value.{Value}
 use Rattle.ir_core.specs.declared.memory.Value.TheVariants.{Num, Null, At, Fun}
 use Rattle.ir_core.specs.declared.memory.Cell.{Cell}
-use Rattle.ir_core.specs.declared.memory.Cell.TheVariants.{Byte, Piece}
+use Rattle.ir_core.specs.declared.memory.Cell.TheVariants.{Byte}
 use Rattle.ir_core.specs.declared.memory.Object0.{Object0}
 use Rattle.ir_core.specs.declared.kind.Kind.{Kind}
 use Rattle.ir_core.specs.declared.kind.Kind.TheVariants.{NoValue, Number, Pointer}
@@ -35,7 +34,7 @@ use Rattle.ir_core.specs.declared.ty.NamedTy.{NamedTy}
 use Rattle.ir_sound.specs.Typed.{IsTyped, is_sized}
 use Rattle.ir_sound.specs.WellTyped.{Each}
 use Rattle.ir_sound.proofs.RowLaws.{Each_at, Each_both, Each_parts, Each_replicate, Each_rows, length_map, number_below}
-use Rattle.low_core.specs.Bridge.{IsAddress, IsKnown}
+use Rattle.low_core.specs.Bridge.{IsAddress}
 use Rattle.flat_memory.specs.Accesses.{IsSet, AreFirst}
 use Rattle.isel_rows.specs.Selected.{is_taken}
 use Rattle.isel.proofs.Mentioned.{IsFine}

@@ -204,8 +204,8 @@ module _ (m : Module) (plan : Plan) (contents : List Content) (p : Premises m pl
         let read : AreRead V values along.path.strides = path_read V values m.types ty (map (arg_origin m (named_locals V)) indices) along.path (indices_are indices parts.1) along.is in
         let word : ℕ = (word_of x.at v.value + (along.path.constant + by.value)) % 2 ^ 64 in
         let y = moved_gives plan h.own flat x.at V values brings.left.after r along.path from (word_of x.at v.value) us.value by.value prepared2 brings.holds
-            (pointer_small m plan contents p input s f fs h hs bytes x v.value pointer) (apart (bytes_register V) base v.value prepared first.is (omega arith) (λ n. omega arith))
-            (apart (index_register V) base v.value prepared first.is (omega arith) (λ n. omega arith)) read us.first by.first in
+        (pointer_small m plan contents p input s f fs h hs bytes x v.value pointer) (apart (bytes_register V) base v.value prepared first.is (omega arith) (λ n. omega arith))
+        (apart (index_register V) base v.value prepared first.is (omega arith) (λ n. omega arith)) read us.first by.first in
         let low = result_below m plan contents p input s f fs h hs bytes x (record { result = into; op = Gep ty a indices }) (rules m plan contents p input s f fs h hs bytes x into (Gep ty a indices) there).into in
         let room = y.ready.room in
         let path : ops ≡ (operand_brought m V 0 Pointer a).ops ++ moved_ops V r along.path from = ap (λ o. (operand_brought m V 0 Pointer a).ops ++ moved_ops V r (path_taken o) from) along.is in

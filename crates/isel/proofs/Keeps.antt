@@ -1,22 +1,21 @@
 -- The program of registers means what the program does for which it is selected.
-use Rattle.std.proofs.Common.{◌≡◌, ℕ, ◌+◌, ◌*◌, ◌<◌, ◌≤◌, true, List, [], ◌∷◌, length, Some, refl, ap, sym, ◌∙◌, subst, inl, inr, ◌⊎◌, arith}
+use Rattle.std.proofs.Common.{◌≡◌, ℕ, true, List, [], ◌∷◌, refl, ap, sym, ◌∙◌, subst, inl, inr, ◌⊎◌}
 use Rattle.behavior.specs.Ending.{Going, is_left}
 use Rattle.behavior.specs.Moment.{AreBytes, Agrees}
 use Rattle.behavior.specs.Preserves.{Preserves, ReachesWithin}
-use Rattle.behavior.specs.Simulation.{Comes, Met, Follows, Starts, Spots}
+use Rattle.behavior.specs.Simulation.{Follows, Starts, Spots}
 use Rattle.behavior.specs.System.{System, iter}
 use Rattle.behavior.proofs.Between.{adds_grows}
-use Rattle.behavior.proofs.Laws.{agrees_refl, going_is}
+use Rattle.behavior.proofs.Laws.{going_is}
 use Rattle.behavior.proofs.Stretch.{comes_none, met_by, starts_by, spots_follow}
 use Rattle.ir_core.specs.declared.module.Module.{Module}
-use Rattle.ir_core.specs.Memory.{Memory}
 use Rattle.ir_core.specs.Mentions.{mentions}
 use Rattle.ir_core.specs.Run.{source_start, source_run}
 use Rattle.ir_core.specs.State.{Frame, State, source_moment, turned}
 use Rattle.ir_core.specs.Step.{turn_of, source_step}
 use Rattle.ir_core.proofs.Laws.{source_system, source_gradual, module_simulates, module_simulates_within}
 use Rattle.ir_core.proofs.Steps.{step_going}
-use Rattle.ir_sound.specs.WellTyped.{Each, AreOver, IsWellTyped}
+use Rattle.ir_sound.specs.WellTyped.{Each, AreOver}
 use Rattle.ir_sound.proofs.Steps.{step_is}
 use Rattle.ir_sound.proofs.Start.{start_is}
 use Rattle.low_core.specs.declared.sel.Sel.{Sel}
@@ -31,8 +30,7 @@ use Rattle.low_core.proofs.SelLaws.{sel_adds, sel_stays}
 use Rattle.isel_rows.specs.Selected.{module_selected}
 use Rattle.isel.specs.Bound.{longest}
 use Rattle.isel.proofs.Begins.{begins}
-use Rattle.isel.proofs.Beside.{AreBeside, IsBeside, IsThere, Rest, setting_of, state_of}
-use Rattle.isel.proofs.Here.{IsHere}
+use Rattle.isel.proofs.Beside.{IsBeside, Rest, setting_of, state_of}
 use Rattle.isel.proofs.Mentioned.{IsFine}
 use Rattle.isel.proofs.Premises.{Premises, call_typed}
 use Rattle.isel.proofs.Steps.{IsStepMet, step_met}

@@ -1,70 +1,50 @@
 -- Operations on numbers, comparisons, casts, choices and copies: their operations give the word of what they give.
-use Rattle.std.proofs.Common.{◌≡◌, ◌≢◌, ℕ, zero, suc, ◌+◌, ◌%◌, ◌^◌, ◌<◌, ◌≤◌, Bool, true, false, List, [], ◌∷◌, ◌++◌, length, Option, Some, None, Ok, Err, slice_get, refl, ap, sym, ◌∙◌, subst, inl, inr, ◌⊎◌, arith}
-use Rattle.std.specs.Prelude.{◌&&◌, nat_eq, if◌then◌else◌}
-use Rattle.std.proofs.lemmas.Bool.{and_parts}
-use Rattle.std.proofs.lemmas.List.{append_assoc, length-append}
+use Rattle.std.proofs.Common.{◌≡◌, ℕ, ◌<◌, true, List, [], ◌∷◌, ◌++◌, length, Option, Some, Ok, Err, slice_get, refl, ap, ◌∙◌, inl}
+use Rattle.std.proofs.lemmas.List.{append_assoc}
 use Rattle.std.proofs.Math.Nat.{mod-eq_of_lt}
 use Rattle.rd_num.specs.declared.width.Width.{Width}
-use Rattle.rd_num.specs.declared.width.Width.TheVariants.{W1, W8, W16, W32, W64}
-use Rattle.behavior.specs.Ending.{is_left}
-use Rattle.behavior.specs.System.{iter}
-use Rattle.ir_core.specs.declared.ty.Ty.{Ty}
 use Rattle.ir_core.specs.declared.operand.Operand.{Operand}
 use Rattle.ir_core.specs.declared.instruction.BinOp.{BinOp}
 use Rattle.ir_core.specs.declared.instruction.BinOp.TheVariants.{Add, Sub, Mul, Udiv, Sdiv, Urem, Srem, Shl, Lshr, Ashr, And, Or, Xor}
-use Rattle.ir_core.specs.declared.instruction.Pred.{Pred}
-use Rattle.ir_core.specs.declared.instruction.CastOp.{CastOp}
-use Rattle.ir_core.specs.declared.instruction.CastOp.TheVariants.{Trunc, Zext, Sext}
-use Rattle.ir_core.specs.declared.instruction.Inst.{Inst}
 use Rattle.ir_core.specs.declared.instruction.Op.{Op}
-use Rattle.ir_core.specs.declared.instruction.Op.TheVariants.{Bin, Compare, Cast, Select, Freeze}
 use Rattle.ir_core.specs.declared.kind.Kind.{Kind}
 use Rattle.ir_core.specs.declared.kind.Kind.TheVariants.{NoValue, Number, Pointer}
 use Rattle.ir_core.specs.declared.memory.Value.{Value}
-use Rattle.ir_core.specs.declared.memory.Value.TheVariants.{Num, Null, At, Fun}
 use Rattle.ir_core.specs.declared.module.Module.{Module}
-use Rattle.ir_core.specs.Arithmetic.{modulus, binary, compared, cast}
+use Rattle.ir_core.specs.Arithmetic.{modulus, binary}
 use Rattle.ir_core.specs.Counts.{alloca_bytes}
-use Rattle.ir_core.specs.Kinds.{kind_of, truth, same_kind}
-use Rattle.ir_core.specs.Memory.{Memory}
-use Rattle.ir_core.specs.Mentions.{of_operand, of_typed, of_op}
+use Rattle.ir_core.specs.Mentions.{of_operand}
 use Rattle.ir_core.specs.Operands.{value_of}
-use Rattle.ir_core.specs.Pointers.{pointers_compared}
 use Rattle.ir_core.specs.State.{Frame, State, Nothing, turned}
-use Rattle.ir_core.specs.Step.{binary_value, compared_value, cast_value, selected, gives, result_of, instruction_turn}
-use Rattle.ir_core.specs.Stops.{Stop, Answer, and_then, ending_of}
-use Rattle.ir_core.specs.Typing.{operand_fits, bin_fits, cast_fits, is_number, is_value, op_fits}
+use Rattle.ir_core.specs.Step.{gives}
+use Rattle.ir_core.specs.Stops.{Stop, Answer, and_then}
+use Rattle.ir_core.specs.Typing.{operand_fits, bin_fits}
 use Rattle.ir_core.specs.Valid.{LocalKind, env_of, named_locals}
-use Rattle.ir_sound.specs.WellTyped.{Each, IsOfKind, Present, present}
-use Rattle.ir_sound.proofs.Operands.{number_of}
-use Rattle.ir_sound.proofs.RowLaws.{Each_parts}
-use Rattle.ir_sound.proofs.SameLaws.{not_true, kind_is}
+use Rattle.ir_sound.specs.WellTyped.{Each}
+use Rattle.ir_sound.proofs.SameLaws.{not_true}
 use Rattle.ir_context.specs.declared.origin.Origin.{Origin}
 use Rattle.ir_context.specs.Origins.{origin_of}
 use Rattle.low_core.specs.declared.sel.SelOp.{SelOp}
-use Rattle.low_core.specs.declared.sel.SelOp.TheVariants.{Copy, Test, Pick, Widen}
 use Rattle.low_core.specs.Flat.{Bytes, Flat}
 use Rattle.low_core.specs.Plan.{Plan, Content}
 use Rattle.low_core.specs.Contents.{word_of}
 use Rattle.low_core.specs.Bridge.{Setting, IsKnown}
 use Rattle.low_core.specs.SelParts.{assigns_of}
-use Rattle.low_core.specs.SelState.{SelFrame, SelState, sel_turned}
-use Rattle.low_core.specs.SelStep.{low_bits, of_two, word_of_op, gives_word, op_turn, sel_step}
-use Rattle.low_core.specs.Weights.{lean_own}
-use Rattle.isel_rows.specs.Variables.{variables_of, operand_register, width_of}
-use Rattle.isel_rows.specs.Brought.{Brought, brought, operand_brought}
-use Rattle.isel_rows.specs.Rows.{bin_op, cast_op, result_register, ops_of}
+use Rattle.low_core.specs.SelState.{SelFrame, SelState}
+use Rattle.low_core.specs.SelStep.{low_bits, of_two, word_of_op, gives_word, op_turn}
+use Rattle.isel_rows.specs.Variables.{variables_of}
+use Rattle.isel_rows.specs.Brought.{operand_brought}
+use Rattle.isel_rows.specs.Rows.{bin_op, result_register, ops_of}
 use Rattle.isel_rows.specs.Selected.{module_selected}
 use Rattle.isel.proofs.Beside.{setting_of, Meets}
-use Rattle.isel.proofs.Here.{IsHere, fn, vs, done, memory, now, stands_here, ready, sets, stops}
-use Rattle.isel.proofs.Mentioned.{IsFine, inst_fine}
-use Rattle.isel.proofs.Operands.{IsReady, operand_brings, ready_after, BringsTwo, two_bring, BringsThree, three_bring}
-use Rattle.isel.proofs.Premises.{Premises, rules_at}
-use Rattle.isel.proofs.Straight.{Gave, gave, moved, reader, passed, straight_then, StandsAt}
-use Rattle.isel.proofs.Tame.{IsTame, value_tame, compared_tame, cast_tame, selected_tame}
-use Rattle.isel.proofs.Typed.{InstRules}
+use Rattle.isel.proofs.Here.{IsHere, done, memory, now, ready, sets}
+use Rattle.isel.proofs.Mentioned.{IsFine}
+use Rattle.isel.proofs.Operands.{two_bring}
+use Rattle.isel.proofs.Premises.{Premises}
+use Rattle.isel.proofs.Straight.{reader}
+use Rattle.isel.proofs.Tame.{IsTame}
 use Rattle.isel.proofs.Values.{HasValue, operand_has}
-use Rattle.isel.proofs.Words.{HasWord, word_read, two_read}
+use Rattle.isel.proofs.Words.{HasWord}
 
 -- what an operation on two registers reads, gives and assigns
 pub bin_word : (op : BinOp) (w : Width) (r a b : ℕ) (plan : Plan) (h : SelFrame) (flat : Flat) → word_of_op plan h flat (bin_op op w r a b) ≡ of_two h.registers w a b (λ x y. binary op w x y)

@@ -1,73 +1,56 @@
 -- Operations on numbers and comparisons are met by operations on registers.
-use Rattle.std.proofs.Common.{◌≡◌, ◌≢◌, ℕ, zero, suc, ◌+◌, ◌%◌, ◌^◌, ◌<◌, ◌≤◌, Bool, true, false, List, [], ◌∷◌, ◌++◌, length, Option, Some, None, Ok, Err, slice_get, refl, ap, sym, ◌∙◌, subst, inl, inr, ◌⊎◌, arith}
-use Rattle.std.specs.Prelude.{◌&&◌, nat_eq, if◌then◌else◌}
+use Rattle.std.proofs.Common.{◌≡◌, ℕ, ◌+◌, ◌<◌, true, List, [], ◌∷◌, ◌++◌, length, Option, Some, Ok, Err, slice_get, refl, ap, sym, ◌∙◌, subst, inl}
+use Rattle.std.specs.Prelude.{◌&&◌}
 use Rattle.std.proofs.lemmas.Bool.{and_parts}
 use Rattle.std.proofs.lemmas.List.{append_assoc, length-append}
-use Rattle.std.proofs.Math.Nat.{mod-eq_of_lt}
 use Rattle.rd_num.specs.declared.width.Width.{Width}
-use Rattle.rd_num.specs.declared.width.Width.TheVariants.{W1, W8, W16, W32, W64}
-use Rattle.behavior.specs.Ending.{is_left}
-use Rattle.behavior.specs.System.{iter}
 use Rattle.ir_core.specs.declared.ty.Ty.{Ty}
 use Rattle.ir_core.specs.declared.operand.Operand.{Operand}
 use Rattle.ir_core.specs.declared.instruction.BinOp.{BinOp}
-use Rattle.ir_core.specs.declared.instruction.BinOp.TheVariants.{Add, Sub, Mul, Udiv, Sdiv, Urem, Srem, Shl, Lshr, Ashr, And, Or, Xor}
-use Rattle.ir_core.specs.declared.instruction.Pred.{Pred}
-use Rattle.ir_core.specs.declared.instruction.CastOp.{CastOp}
-use Rattle.ir_core.specs.declared.instruction.CastOp.TheVariants.{Trunc, Zext, Sext}
-use Rattle.ir_core.specs.declared.instruction.Inst.{Inst}
 use Rattle.ir_core.specs.declared.instruction.Op.{Op}
-use Rattle.ir_core.specs.declared.instruction.Op.TheVariants.{Bin, Compare, Cast, Select, Freeze}
+use Rattle.ir_core.specs.declared.instruction.Op.TheVariants.{Bin}
 use Rattle.ir_core.specs.declared.kind.Kind.{Kind}
-use Rattle.ir_core.specs.declared.kind.Kind.TheVariants.{NoValue, Number, Pointer}
+use Rattle.ir_core.specs.declared.kind.Kind.TheVariants.{Number}
 use Rattle.ir_core.specs.declared.memory.Value.{Value}
-use Rattle.ir_core.specs.declared.memory.Value.TheVariants.{Num, Null, At, Fun}
+use Rattle.ir_core.specs.declared.memory.Value.TheVariants.{Num}
 use Rattle.ir_core.specs.declared.module.Module.{Module}
 use Rattle.ir_core.proofs.Fits.{binary_fits as binary_below}
-use Rattle.ir_core.specs.Arithmetic.{modulus, binary, compared, cast}
-use Rattle.ir_core.specs.Counts.{alloca_bytes}
-use Rattle.ir_core.specs.Kinds.{kind_of, truth, same_kind}
-use Rattle.ir_core.specs.Memory.{Memory}
+use Rattle.ir_core.specs.Arithmetic.{modulus, binary}
+use Rattle.ir_core.specs.Kinds.{kind_of}
 use Rattle.ir_core.specs.Mentions.{of_operand, of_typed, of_op}
 use Rattle.ir_core.specs.Operands.{value_of}
-use Rattle.ir_core.specs.Pointers.{pointers_compared}
-use Rattle.ir_core.specs.State.{Frame, State, Nothing, turned}
-use Rattle.ir_core.specs.Step.{binary_value, compared_value, cast_value, selected, gives, result_of, instruction_turn}
-use Rattle.ir_core.specs.Stops.{Stop, Answer, and_then, ending_of}
-use Rattle.ir_core.specs.Typing.{operand_fits, bin_fits, cast_fits, is_number, is_value, op_fits}
+use Rattle.ir_core.specs.State.{Frame, State, turned}
+use Rattle.ir_core.specs.Step.{binary_value, gives, instruction_turn}
+use Rattle.ir_core.specs.Stops.{Stop, Answer, and_then}
+use Rattle.ir_core.specs.Typing.{operand_fits, bin_fits}
 use Rattle.ir_core.specs.Valid.{LocalKind, env_of, named_locals}
-use Rattle.ir_sound.specs.WellTyped.{Each, IsOfKind, Present, present}
+use Rattle.ir_sound.specs.WellTyped.{Each, IsOfKind, present}
 use Rattle.ir_sound.proofs.Operands.{number_of}
 use Rattle.ir_sound.proofs.RowLaws.{Each_parts}
-use Rattle.ir_sound.proofs.SameLaws.{not_true, kind_is}
-use Rattle.ir_context.specs.declared.origin.Origin.{Origin}
 use Rattle.ir_context.specs.Origins.{origin_of}
 use Rattle.low_core.specs.declared.sel.SelOp.{SelOp}
-use Rattle.low_core.specs.declared.sel.SelOp.TheVariants.{Copy, Test, Pick, Widen}
 use Rattle.low_core.specs.Flat.{Bytes, Flat}
 use Rattle.low_core.specs.Plan.{Plan, Content}
 use Rattle.low_core.specs.Contents.{word_of}
-use Rattle.low_core.specs.Bridge.{Setting, IsKnown}
-use Rattle.low_core.specs.SelParts.{assigns_of}
+use Rattle.low_core.specs.Bridge.{Setting}
 use Rattle.low_core.specs.SelState.{SelFrame, SelState, sel_turned}
-use Rattle.low_core.specs.SelStep.{low_bits, of_two, word_of_op, gives_word, op_turn, sel_step}
+use Rattle.low_core.specs.SelStep.{low_bits, word_of_op}
 use Rattle.low_core.specs.Weights.{lean_own}
-use Rattle.isel_rows.specs.Variables.{variables_of, operand_register, width_of}
-use Rattle.isel_rows.specs.Brought.{Brought, brought, operand_brought}
-use Rattle.isel_rows.specs.Rows.{bin_op, cast_op, result_register, ops_of}
+use Rattle.isel_rows.specs.Variables.{variables_of, width_of}
+use Rattle.isel_rows.specs.Brought.{Brought, operand_brought}
+use Rattle.isel_rows.specs.Rows.{bin_op, result_register, ops_of}
 use Rattle.isel_rows.specs.Selected.{module_selected}
 use Rattle.isel.proofs.Beside.{setting_of, Meets}
-use Rattle.isel.proofs.Here.{IsHere, fn, vs, done, memory, now, stands_here, ready, sets, stops}
+use Rattle.isel.proofs.Here.{IsHere, done, memory, now, stands_here, ready, stops}
 use Rattle.isel.proofs.Mentioned.{IsFine, inst_fine}
-use Rattle.isel.proofs.Operands.{IsReady, operand_brings, ready_after, BringsTwo, two_bring, BringsThree, three_bring}
+use Rattle.isel.proofs.Operands.{two_bring}
 use Rattle.isel.proofs.Operations.{bin_word, bin_assigns, bin_turn, number_kind, low_same, has, two_set}
 use Rattle.isel.proofs.Premises.{Premises, rules_at}
-use Rattle.isel.proofs.Straight.{Gave, gave, going, moved, reader, passed, straight_then, StandsAt}
-use Rattle.isel.proofs.Tame.{IsTame, value_tame, compared_tame, cast_tame, selected_tame}
+use Rattle.isel.proofs.Straight.{going, moved, reader, straight_then, StandsAt}
+use Rattle.isel.proofs.Tame.{IsTame, value_tame}
 use Rattle.isel.proofs.Typed.{InstRules}
-use Rattle.isel.proofs.Values.{HasValue, operand_has}
-use Rattle.isel.proofs.Words.{HasWord, word_read, two_read}
-
+use Rattle.isel.proofs.Values.{HasValue}
+use Rattle.isel.proofs.Words.{two_read}
 
 module _ (m : Module) (plan : Plan) (contents : List Content) (p : Premises m plan contents) (input : List ℕ) (s : State) (f : Frame) (fs : List Frame) (h : SelFrame) (hs : List SelFrame) (bytes : Bytes)
     (x : IsHere m (setting_of m plan contents) s f fs h hs bytes) where
@@ -141,12 +124,12 @@ module _ (m : Module) (plan : Plan) (contents : List Content) (p : Premises m pl
       let all : StandsAt (module_selected m) h (front ++ last ∷ stands.0) = subst (StandsAt (module_selected m) h) (ap (λ os. os ++ stands.0) whole ∙ append_assoc front (last ∷ []) stands.0) stands.1 in
       let h2 : SelFrame = moved h y.after (length front) in
       let word : word_of_op plan h2 flat last ≡ Err stop =
-          bin_word op (width_of K) (result_register V into) A.register B.register plan h2 flat
-          ∙ two_read y.after (width_of K) A.register B.register (word_of x.at u) (word_of x.at v) (λ c d. binary op (width_of K) c d) y.first y.second
-          ∙ ap (λ k. binary op (width_of k) (low_bits (width_of k) (word_of x.at u)) (low_bits (width_of k) (word_of x.at v))) kind
-          ∙ ap (λ t. binary op w (low_bits w (word_of x.at t)) (low_bits w (word_of x.at v))) is_u
-          ∙ ap (λ t. binary op w (low_bits w i) (low_bits w (word_of x.at t))) is_v
-          ∙ ap (λ n. binary op w n (low_bits w j)) (low_same w i low_i) ∙ ap (binary op w i) (low_same w j low_j) ∙ e in
+      bin_word op (width_of K) (result_register V into) A.register B.register plan h2 flat
+      ∙ two_read y.after (width_of K) A.register B.register (word_of x.at u) (word_of x.at v) (λ c d. binary op (width_of K) c d) y.first y.second
+      ∙ ap (λ k. binary op (width_of k) (low_bits (width_of k) (word_of x.at u)) (low_bits (width_of k) (word_of x.at v))) kind
+      ∙ ap (λ t. binary op w (low_bits w (word_of x.at t)) (low_bits w (word_of x.at v))) is_u
+      ∙ ap (λ t. binary op w (low_bits w i) (low_bits w (word_of x.at t))) is_v
+      ∙ ap (λ n. binary op w n (low_bits w j)) (low_same w i low_i) ∙ ap (binary op w i) (low_same w j low_j) ∙ e in
       let t : SelState = going (h2 ∷ hs) bytes s.printed s.taken in
       let turn = bin_turn op (width_of K) (result_register V into) A.register B.register m plan flat input t h2 hs stop word in
       subst (λ n. Meets m g input n spot (turned s (Err stop))) count
@@ -170,18 +153,18 @@ module _ (m : Module) (plan : Plan) (contents : List Content) (p : Premises m pl
       of_result w kind u v first second i j is_u is_v low_i low_j (Ok n) e =
           two_set m plan contents p input s f fs h hs bytes x into (Bin op ty a b) (kind_of ty) (kind_of ty) a b u v (Num w n) (λ c d. bin_op op (width_of (kind_of ty)) (result_register V into) c d) there refl refl first second
           (λ registers c d hold_u hold_v.
-              bin_word op (width_of (kind_of ty)) (result_register V into) c d plan (reader h.own registers) flat
-              ∙ two_read registers (width_of (kind_of ty)) c d (word_of x.at u) (word_of x.at v) (λ y z. binary op (width_of (kind_of ty)) y z) hold_u hold_v
-              ∙ ap (λ k. binary op (width_of k) (low_bits (width_of k) (word_of x.at u)) (low_bits (width_of k) (word_of x.at v))) kind
-              ∙ ap (λ t. binary op w (low_bits w (word_of x.at t)) (low_bits w (word_of x.at v))) is_u
-              ∙ ap (λ t. binary op w (low_bits w i) (low_bits w (word_of x.at t))) is_v
-              ∙ ap (λ n. binary op w n (low_bits w j)) (low_same w i low_i) ∙ ap (binary op w i) (low_same w j low_j) ∙ e)
+          bin_word op (width_of (kind_of ty)) (result_register V into) c d plan (reader h.own registers) flat
+          ∙ two_read registers (width_of (kind_of ty)) c d (word_of x.at u) (word_of x.at v) (λ y z. binary op (width_of (kind_of ty)) y z) hold_u hold_v
+          ∙ ap (λ k. binary op (width_of k) (low_bits (width_of k) (word_of x.at u)) (low_bits (width_of k) (word_of x.at v))) kind
+          ∙ ap (λ t. binary op w (low_bits w (word_of x.at t)) (low_bits w (word_of x.at v))) is_u
+          ∙ ap (λ t. binary op w (low_bits w i) (low_bits w (word_of x.at t))) is_v
+          ∙ ap (λ n. binary op w n (low_bits w j)) (low_same w i low_i) ∙ ap (binary op w i) (low_same w j low_j) ∙ e)
           (λ c d. bin_assigns op (width_of (kind_of ty)) (result_register V into) c d) (binary_below op w i j n low_i low_j e)
 
       given : (w : Width) → kind_of ty ≡ Number w → (u v : Value) → Has (kind_of ty) a u → Has (kind_of ty) b v → (i : ℕ) × (u ≡ Num w i) × (i < modulus w) → (j : ℕ) × (v ≡ Num w j) × (j < modulus w)
           → Meets m g input (length (there_ops into (Bin op ty a b))) spot (turned s (and_then (binary_value op (kind_of ty) u v) (λ t. gives s f fs into t)))
       given w kind u v first second i j =
           let is : binary_value op (kind_of ty) u v ≡ and_then (binary op w i.0 j.0) (λ n. Ok (Num w n)) =
-              ap (λ k. binary_value op k u v) kind ∙ ap (λ t. binary_value op (Number w) t v) i.1 ∙ ap (λ t. binary_value op (Number w) (Num w i.0) t) j.1 in
+          ap (λ k. binary_value op k u v) kind ∙ ap (λ t. binary_value op (Number w) t v) i.1 ∙ ap (λ t. binary_value op (Number w) (Num w i.0) t) j.1 in
           subst (λ q. Meets m g input (length (there_ops into (Bin op ty a b))) spot (turned s (and_then q (λ t. gives s f fs into t)))) (sym is)
           (of_result w kind u v first second i.0 j.0 i.1 j.1 i.2 j.2 (binary op w i.0 j.0) refl)

@@ -1,5 +1,5 @@
 -- For every program without switches what is selected means the same, wherever its plan has the globals, functions and frames.
-use Rattle.std.proofs.Common.{◌≡◌, ℕ, zero, suc, ◌+◌, ◌<◌, ◌≤◌, true, not, List, [], ◌∷◌, length, map, Option, Some, None, slice_get, refl, ap, sym, ◌∙◌, subst, arith, All}
+use Rattle.std.proofs.Common.{◌≡◌, ℕ, suc, true, not, List, [], ◌∷◌, length, map, Some, refl, ap, sym, ◌∙◌, subst, arith, All}
 use Rattle.std.specs.Prelude.{option_map, if◌then◌else◌}
 use Rattle.std.specs.List.{list_all}
 use Rattle.std.proofs.lemmas.Bool.{and_parts, and_from}
@@ -23,7 +23,7 @@ use Rattle.ir_core.specs.Names.{same_name, number_where}
 use Rattle.ir_core.specs.Kinds.{kind_of}
 use Rattle.ir_core.specs.Shapes.{shape_of}
 use Rattle.ir_core.specs.Globals.{Part, cells_or_zeros, init_at, element_at, global_object, first_objects}
-use Rattle.ir_core.specs.Operands.{value_of, named_value, global_number, function_number}
+use Rattle.ir_core.specs.Operands.{value_of, named_value, global_number}
 use Rattle.ir_core.specs.Valid.{is_phi}
 use Rattle.ir_sound.specs.Typed.{no_phi, IsTyped}
 use Rattle.ir_sound.specs.WellTyped.{Each}
@@ -35,11 +35,11 @@ use Rattle.low_core.specs.declared.moves.Move.{Move}
 use Rattle.low_core.specs.declared.moves.MoveOp.{MoveOp}
 use Rattle.low_core.specs.declared.moves.MoveOp.TheVariants.{Keep, Copy}
 use Rattle.low_core.specs.Contents.{addresses_of, content_of, data_bytes, contents_of}
-use Rattle.low_core.specs.Plain.{op_of, inst_of, block_of, with_blocks, with_bodies, plain, moves_run}
+use Rattle.low_core.specs.Plain.{op_of, inst_of, block_of, with_bodies, plain, moves_run}
 use Rattle.low_core.specs.Plan.{Plan, PlanFits}
 use Rattle.low_core.specs.SelRun.{sel_run}
 use Rattle.low_core.specs.SelShaped.{IsSel}
-use Rattle.low_core.specs.Shaped.{IsBody, AreShaped, IsModuleShaped, IsLean, keeps_moves, is_kept, is_lean_end}
+use Rattle.low_core.specs.Shaped.{IsBody, IsLean, keeps_moves, is_kept, is_lean_end}
 use Rattle.low_core.specs.Weights.{lean_own}
 use Rattle.flat_memory.proofs.Start.{setting_fits}
 use Rattle.isel_rows.specs.Selected.{module_selected, selected}

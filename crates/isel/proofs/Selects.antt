@@ -1,72 +1,54 @@
 -- Choices between two values are met.
-use Rattle.std.proofs.Common.{◌≡◌, ◌≢◌, ℕ, zero, suc, ◌+◌, ◌%◌, ◌^◌, ◌<◌, ◌≤◌, Bool, true, false, List, [], ◌∷◌, ◌++◌, length, Option, Some, None, Ok, Err, slice_get, refl, ap, sym, ◌∙◌, subst, inl, inr, ◌⊎◌, arith}
+use Rattle.std.proofs.Common.{◌≡◌, ℕ, ◌%◌, ◌<◌, Bool, true, false, List, [], ◌∷◌, ◌++◌, length, Option, Some, Ok, Err, slice_get, refl, ap, sym, ◌∙◌, subst, inl}
 use Rattle.std.specs.Prelude.{◌&&◌, nat_eq, if◌then◌else◌}
 use Rattle.std.proofs.lemmas.Bool.{and_parts}
-use Rattle.std.proofs.lemmas.List.{append_assoc, length-append}
-use Rattle.std.proofs.Math.Nat.{mod-eq_of_lt}
-use Rattle.rd_num.specs.declared.width.Width.{Width}
-use Rattle.rd_num.specs.declared.width.Width.TheVariants.{W1, W8, W16, W32, W64}
-use Rattle.behavior.specs.Ending.{is_left}
-use Rattle.behavior.specs.System.{iter}
+use Rattle.std.proofs.lemmas.List.{append_assoc}
+use Rattle.rd_num.specs.declared.width.Width.TheVariants.{W1}
 use Rattle.ir_core.specs.declared.ty.Ty.{Ty}
 use Rattle.ir_core.specs.declared.operand.Operand.{Operand}
-use Rattle.ir_core.specs.declared.instruction.BinOp.{BinOp}
-use Rattle.ir_core.specs.declared.instruction.BinOp.TheVariants.{Add, Sub, Mul, Udiv, Sdiv, Urem, Srem, Shl, Lshr, Ashr, And, Or, Xor}
-use Rattle.ir_core.specs.declared.instruction.Pred.{Pred}
-use Rattle.ir_core.specs.declared.instruction.CastOp.{CastOp}
-use Rattle.ir_core.specs.declared.instruction.CastOp.TheVariants.{Trunc, Zext, Sext}
-use Rattle.ir_core.specs.declared.instruction.Inst.{Inst}
 use Rattle.ir_core.specs.declared.instruction.Op.{Op}
-use Rattle.ir_core.specs.declared.instruction.Op.TheVariants.{Bin, Compare, Cast, Select, Freeze}
+use Rattle.ir_core.specs.declared.instruction.Op.TheVariants.{Select}
 use Rattle.ir_core.specs.declared.kind.Kind.{Kind}
-use Rattle.ir_core.specs.declared.kind.Kind.TheVariants.{NoValue, Number, Pointer}
+use Rattle.ir_core.specs.declared.kind.Kind.TheVariants.{Number}
 use Rattle.ir_core.specs.declared.memory.Value.{Value}
-use Rattle.ir_core.specs.declared.memory.Value.TheVariants.{Num, Null, At, Fun}
+use Rattle.ir_core.specs.declared.memory.Value.TheVariants.{Num}
 use Rattle.ir_core.specs.declared.module.Module.{Module}
-use Rattle.ir_core.specs.Arithmetic.{modulus, binary, compared, cast}
+use Rattle.ir_core.specs.Arithmetic.{modulus}
 use Rattle.ir_core.specs.Counts.{alloca_bytes}
-use Rattle.ir_core.specs.Kinds.{kind_of, truth, same_kind}
-use Rattle.ir_core.specs.Memory.{Memory}
-use Rattle.ir_core.specs.Mentions.{of_operand, of_typed, of_op}
+use Rattle.ir_core.specs.Kinds.{kind_of, same_kind}
+use Rattle.ir_core.specs.Mentions.{of_operand, of_typed}
 use Rattle.ir_core.specs.Operands.{value_of}
-use Rattle.ir_core.specs.Pointers.{pointers_compared}
-use Rattle.ir_core.specs.State.{Frame, State, Nothing, turned}
-use Rattle.ir_core.specs.Step.{binary_value, compared_value, cast_value, selected, gives, result_of, instruction_turn}
-use Rattle.ir_core.specs.Stops.{Stop, Answer, and_then, ending_of}
-use Rattle.ir_core.specs.Typing.{operand_fits, bin_fits, cast_fits, is_number, is_value, op_fits}
+use Rattle.ir_core.specs.State.{Frame, State, turned}
+use Rattle.ir_core.specs.Step.{selected, gives, instruction_turn}
+use Rattle.ir_core.specs.Stops.{Answer, and_then}
+use Rattle.ir_core.specs.Typing.{operand_fits, is_value, op_fits}
 use Rattle.ir_core.specs.Valid.{LocalKind, env_of, named_locals}
-use Rattle.ir_sound.specs.WellTyped.{Each, IsOfKind, Present, present}
-use Rattle.ir_sound.proofs.Operands.{number_of}
+use Rattle.ir_sound.specs.WellTyped.{Each}
 use Rattle.ir_sound.proofs.RowLaws.{Each_parts}
-use Rattle.ir_sound.proofs.SameLaws.{not_true, kind_is}
-use Rattle.ir_context.specs.declared.origin.Origin.{Origin}
 use Rattle.ir_context.specs.Origins.{origin_of}
 use Rattle.low_core.specs.declared.sel.SelOp.{SelOp}
-use Rattle.low_core.specs.declared.sel.SelOp.TheVariants.{Copy, Test, Pick, Widen}
+use Rattle.low_core.specs.declared.sel.SelOp.TheVariants.{Pick}
 use Rattle.low_core.specs.Flat.{Bytes, Flat}
 use Rattle.low_core.specs.Plan.{Plan, Content}
 use Rattle.low_core.specs.Contents.{Addresses, word_of}
 use Rattle.low_core.specs.Bridge.{Setting, IsKnown}
 use Rattle.low_core.specs.SelParts.{assigns_of}
-use Rattle.low_core.specs.SelState.{SelFrame, SelState, sel_turned}
-use Rattle.low_core.specs.SelStep.{low_bits, of_two, word_of_op, gives_word, op_turn, sel_step}
-use Rattle.low_core.specs.Weights.{lean_own}
-use Rattle.isel_rows.specs.Variables.{variables_of, operand_register, width_of}
-use Rattle.isel_rows.specs.Brought.{Brought, brought, operand_brought}
-use Rattle.isel_rows.specs.Rows.{bin_op, cast_op, result_register, ops_of}
-use Rattle.isel_rows.specs.Selected.{module_selected}
-use Rattle.isel.proofs.Beside.{memories, setting_of, Meets}
-use Rattle.isel.proofs.Here.{IsHere, fn, vs, done, memory, now, stands_here, ready, sets, stops}
-use Rattle.isel.proofs.Mentioned.{IsFine, inst_fine}
-use Rattle.isel.proofs.Operands.{IsReady, operand_brings, ready_after, BringsTwo, two_bring, BringsThree, three_bring}
-use Rattle.isel.proofs.Operations.{number_kind, low_same, has, two_set, gives_or_left}
-use Rattle.isel.proofs.Premises.{Premises, rules_at}
-use Rattle.isel.proofs.Straight.{Gave, gave, going, moved, reader, passed, straight_then, StandsAt}
-use Rattle.isel.proofs.Results.{rules, fine, two_read_met, number_has}
-use Rattle.isel.proofs.Tame.{IsTame, value_tame, compared_tame, cast_tame, selected_tame}
-use Rattle.isel.proofs.Typed.{InstRules}
-use Rattle.isel.proofs.Values.{HasValue, operand_has}
-use Rattle.isel.proofs.Words.{HasWord, word_read, two_read}
+use Rattle.low_core.specs.SelState.{SelFrame, SelState}
+use Rattle.low_core.specs.SelStep.{word_of_op}
+use Rattle.isel_rows.specs.Variables.{variables_of}
+use Rattle.isel_rows.specs.Brought.{operand_brought}
+use Rattle.isel_rows.specs.Rows.{result_register, ops_of}
+use Rattle.isel.proofs.Beside.{setting_of, Meets}
+use Rattle.isel.proofs.Here.{IsHere, done, memory, now, ready, sets}
+use Rattle.isel.proofs.Mentioned.{IsFine}
+use Rattle.isel.proofs.Operands.{three_bring}
+use Rattle.isel.proofs.Operations.{low_same, has}
+use Rattle.isel.proofs.Premises.{Premises}
+use Rattle.isel.proofs.Straight.{reader}
+use Rattle.isel.proofs.Results.{rules, fine, number_has}
+use Rattle.isel.proofs.Tame.{IsTame, value_tame}
+use Rattle.isel.proofs.Values.{HasValue}
+use Rattle.isel.proofs.Words.{HasWord, word_read}
 use Rattle.low_core.specs.SelState.{word_in}
 
 -- one of two words, by the lowest bit of a third
@@ -112,16 +94,17 @@ module _ (m : Module) (plan : Plan) (contents : List Content) (p : Premises m pl
   -- it is met by its operations
   abbrev IsMet : Option (List ℕ) → Op → Type 0
   IsMet into op = Meets m g input (length (there_ops into op)) spot (turned s (instruction_turn m input s f fs into op))  -- an operation on three operands
+
   three_set : (into : Option (List ℕ)) (op : Op) (ka kb kc : Kind) (a b c : Operand) (u v t w : Value) (last : ℕ → ℕ → ℕ → SelOp) → Stands into op → alloca_bytes m.types op ≡ 0
       → (((operand_brought m V 0 ka a).ops ++ (operand_brought m V 1 kb b).ops) ++ (operand_brought m V 2 kc c).ops)
-        ++ last (operand_brought m V 0 ka a).register (operand_brought m V 1 kb b).register (operand_brought m V 2 kc c).register ∷ [] ≡ there_ops into op
+      ++ last (operand_brought m V 0 ka a).register (operand_brought m V 1 kb b).register (operand_brought m V 2 kc c).register ∷ [] ≡ there_ops into op
       → Has ka a u → Has kb b v → Has kc c t
       → ((registers : List (Option ℕ)) (i j k : ℕ) → HasWord registers i (word_of x.at u) → HasWord registers j (word_of x.at v) → HasWord registers k (word_of x.at t) → word_of_op plan (reader h.own registers) flat (last i j k) ≡ Ok (word_of x.at w))
       → ((i j k : ℕ) → assigns_of (last i j k) ≡ Some (result_register V into)) → IsKnown (length s.objects) g.taken w
       → Meets m g input (length (there_ops into op)) spot (turned s (gives s f fs into w))
   three_set into op ka kb kc a b c u v t w last there none are first second third word assigns known =
       let y = three_bring plan h.own flat x.at V x.call.holds.values h.registers (origin_of m (named_locals V) ka a) (origin_of m (named_locals V) kb b) (origin_of m (named_locals V) kc c) u v t
-          (ready m plan contents p input s f fs h hs bytes x) first.planned second.planned third.planned first.is second.is third.is in
+      (ready m plan contents p input s f fs h hs bytes x) first.planned second.planned third.planned first.is second.is third.is in
       let i : ℕ = (operand_brought m V 0 ka a).register in
       let j : ℕ = (operand_brought m V 1 kb b).register in
       let k : ℕ = (operand_brought m V 2 kc c).register in
@@ -156,13 +139,13 @@ module _ (m : Module) (plan : Plan) (contents : List Content) (p : Premises m pl
           subst (Goal into (Select condition ty a ty2 b)) (sym (ap (λ t. selected t u v) n.1))
           (three_set into (Select condition ty a ty2 b) (Number W1) (kind_of ty) (kind_of ty2) condition a b c u v (if nat_eq n.0 0 then v else u) (λ i j k. Pick (result_register V into) i j k) there refl
           (append_assoc ((operand_brought m V 0 (Number W1) condition).ops ++ (operand_brought m V 1 (kind_of ty) a).ops) (operand_brought m V 2 (kind_of ty2) b).ops
-            (Pick (result_register V into) (operand_brought m V 0 (Number W1) condition).register (operand_brought m V 1 (kind_of ty) a).register (operand_brought m V 2 (kind_of ty2) b).register ∷ [])
+          (Pick (result_register V into) (operand_brought m V 0 (Number W1) condition).register (operand_brought m V 1 (kind_of ty) a).register (operand_brought m V 2 (kind_of ty2) b).register ∷ [])
           ∙ append_assoc (operand_brought m V 0 (Number W1) condition).ops (operand_brought m V 1 (kind_of ty) a).ops ((operand_brought m V 2 (kind_of ty2) b).ops
-            ++ Pick (result_register V into) (operand_brought m V 0 (Number W1) condition).register (operand_brought m V 1 (kind_of ty) a).register (operand_brought m V 2 (kind_of ty2) b).register ∷ []))
+          ++ Pick (result_register V into) (operand_brought m V 0 (Number W1) condition).register (operand_brought m V 1 (kind_of ty) a).register (operand_brought m V 2 (kind_of ty2) b).register ∷ []))
           first second third
           (λ registers i j k hold_c hold_u hold_v.
-              pick_word (result_register V into) i j k n.0 (word_of x.at u) (word_of x.at v) plan (reader h.own registers) flat (subst (λ t. HasWord registers i (word_of x.at t)) n.1 hold_c) hold_u hold_v
-              ∙ ap (λ t. Ok (if nat_eq t 0 then word_of x.at v else word_of x.at u)) (low_same W1 n.0 n.2) ∙ ap Ok (chosen_word x.at (nat_eq n.0 0) u v))
+          pick_word (result_register V into) i j k n.0 (word_of x.at u) (word_of x.at v) plan (reader h.own registers) flat (subst (λ t. HasWord registers i (word_of x.at t)) n.1 hold_c) hold_u hold_v
+          ∙ ap (λ t. Ok (if nat_eq t 0 then word_of x.at v else word_of x.at u)) (low_same W1 n.0 n.2) ∙ ap Ok (chosen_word x.at (nat_eq n.0 0) u v))
           (λ i j k. refl) (chosen_known (length s.objects) g.taken (nat_eq n.0 0) u v second.known third.known))
 
       by_third : (c u : Value) → Has (Number W1) condition c → Has (kind_of ty) a u → (q : Answer Value) → value_of m f.locals (kind_of ty2) b ≡ q → Goal into (Select condition ty a ty2 b) (and_then q (λ v. selected c u v))

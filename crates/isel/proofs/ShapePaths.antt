@@ -21,16 +21,19 @@ use Rattle.ir_context.proofs.ShapeLaws.{tells}
 told_word : (n s : ℕ) → n ≡ told s → n < 2 ^ 64
 told_word n s is = omega arith
 
+-- so it is below 2^64
 size_word : (types : List NamedTy) (ty : Ty) → (extent_of types ty).size < 2 ^ 64
 size_word types ty = told_word (extent_of types ty).size (shape_of types ty).size (tells types ty).0
 
 -- a property of paths of so many indices: the empty one has it, and each index keeps it
 module _ (I : Origin → Type 0) (Q : ℕ → Path → Type 0) (none : Q 0 empty_path) (far : (n by : ℕ) (p : Path) → Q n p → Q (n + 1) (farther by p))
     (stride : (n : ℕ) (o : Origin) (size : ℕ) (p : Path) → I o → size < 2 ^ 64 → Q n p → Q (n + 1) (with_stride o size p)) where
+  -- an index over elements, where its number may be known
   word_has : (n : ℕ) (o : Origin) (a : Answer ℕ) (size : ℕ) (p : Path) → I o → size < 2 ^ 64 → Q n p → Q (n + 1) (by_word o a size p)
   word_has n o (Ok k) size p fits small has = far n _ p has
   word_has n o (Err stop) size p fits small has = stride n o size p fits small has
 
+  -- any index over elements
   over_has : (n : ℕ) (o : Origin) (size : ℕ) (p : Path) → I o → size < 2 ^ 64 → Q n p → Q (n + 1) (over_elements o size p)
   over_has n (Known v) size p fits small has = word_has n (Known v) (low_word (index_word v)) size p fits small has
   over_has n (Register k) size p fits small has = stride n (Register k) size p fits small has

@@ -23,6 +23,7 @@ use Rattle.ir_core.specs.declared.operand.Operand.{Operand}
 use Rattle.ir_core.specs.declared.operand.Operand.TheVariants.{Int, Bool as Truth, Null as NullWord, Undef, Poison, Local as LocalName, Global, Const}
 use Rattle.ir_core.specs.declared.outer.Outer.{Outer}
 use Rattle.ir_core.specs.declared.outer.Outer.TheVariants as outside
+use Rattle.ir_core.specs.declared.ty.Ty.{Ty}
 use Rattle.ir_core.specs.Calls.{outer_of}
 use Rattle.ir_core.specs.Counts.{alloca_bytes}
 use Rattle.ir_core.specs.Definitions.{label_names}
@@ -69,11 +70,13 @@ bin_weighs And w r s t = omega arith
 bin_weighs Or w r s t = omega arith
 bin_weighs Xor w r s t = omega arith
 
+-- a cast
 cast_weighs : (op : CastOp) (from to : Width) (r s : ℕ) → sel_op_weight (cast_op op from to r s) ≤ 34
 cast_weighs Trunc from to r s = omega arith
 cast_weighs Zext from to r s = omega arith
 cast_weighs Sext from to r s = omega arith
 
+-- a load
 load_weighs : (w : Width) (r s : ℕ) → ops_weight (load_ops w r s) ≤ 58
 load_weighs W1 r s = omega arith
 load_weighs W8 r s = omega arith
@@ -86,25 +89,30 @@ indices_weigh : (args : List Arg) → indices_weight args ≡ 116 * length args
 indices_weigh [] = refl
 indices_weigh (a ∷ args) = let e = sum_by-cons (λ (x : Arg). 116) a args in let others = indices_weigh args in omega (arith, e, others)
 
+-- as many origins
 origins_length : (m : Module) (names : List (List ℕ)) (args : List Arg) → length (map (arg_origin m names) args) ≡ length args
 origins_length m names [] = refl
 origins_length m names (a ∷ args) = let e = origins_length m names args in omega (arith, e)
 
+-- nothing is asked of them
 nothing_asked : (os : List Origin) → Each (λ (o : Origin). Unit {0}) os
 nothing_asked [] = tt
 nothing_asked (o ∷ os) = (tt, nothing_asked os)
 
 -- operands in front of operations
 module _ (m : Module) (vs : List LocalKind) where
+  -- an operand, the k-th of its instruction
   abbrev at_operand : ℕ → Kind → Operand → Brought
   at_operand k kind a = operand_brought m vs k kind a
 
+  -- one operand
   one_weighs : (k : ℕ) (kind : Kind) (a : Operand) (rest : List SelOp) → ops_weight ((at_operand k kind a).ops ++ rest) ≤ operand_weight a + ops_weight rest
   one_weighs k kind a rest =
       let e = both_weigh (at_operand k kind a).ops rest in
       let first = operand_weighs vs m (operand_register vs k) kind a in
       omega (arith, e, first)
 
+  -- two of them
   two_weigh : (kind kind2 : Kind) (a b : Operand) (rest : List SelOp) → ops_weight ((at_operand 0 kind a).ops ++ ((at_operand 1 kind2 b).ops ++ rest)) ≤ operand_weight a + operand_weight b + ops_weight rest
   two_weigh kind kind2 a b rest =
       let first = one_weighs 0 kind a ((at_operand 1 kind2 b).ops ++ rest) in
@@ -116,7 +124,8 @@ module _ (m : Module) (vs : List LocalKind) where
   taken_parts (Some p) n go = go p refl
   taken_parts None n go = omega arith
 
-  gep_weighs : (r from : ℕ) (ty : _) (indices : List Arg) → ops_weight (moved_ops vs r (path_taken (path_of m.types ty (map (arg_origin m (named_locals vs)) indices))) from) ≤ 24 + indices_weight indices
+  -- a pointer along it
+  gep_weighs : (r from : ℕ) (ty : Ty) (indices : List Arg) → ops_weight (moved_ops vs r (path_taken (path_of m.types ty (map (arg_origin m (named_locals vs)) indices))) from) ≤ 24 + indices_weight indices
   gep_weighs r from ty indices =
       let os : List Origin = map (arg_origin m (named_locals vs)) indices in
       let few = taken_parts (path_of m.types ty os) (length os) (λ q e. path_has (λ o. Unit {0}) (λ n p. parts_in p ≤ n) (omega arith) farther_parts stride_parts m.types ty os q (nothing_asked os) e) in
@@ -135,12 +144,14 @@ module _ (m : Module) (vs : List LocalKind) where
       let a = args_weigh vs m 0 args in
       omega (arith, e, w, a)
 
+  -- a function outside
   outside_weighs : (into : Option ℕ) (which : Which) (args : List Arg) → ops_weight (outside_ops m vs into which args) ≤ 128 + args_weight args
   outside_weighs into which args =
       let a = arguments_weigh (take (arity which) args) (λ rs. sel.Outside which into rs) (λ rs. refl) in
       let b = front_weighs (arity which) args in
       omega (arith, a, b)
 
+  -- whichever it is
   outer_weighs : (into : Option ℕ) (o : Outer) (args : List Arg) → ops_weight (outer_ops m vs into o args) ≤ 128 + args_weight args
   outer_weighs into outside.Putchar args = outside_weighs into Putchar args
   outer_weighs into outside.Getchar args = outside_weighs into Getchar args
@@ -151,13 +162,16 @@ module _ (m : Module) (vs : List LocalKind) where
   outer_weighs into outside.Lifetime args = omega arith
   outer_weighs into outside.NoOuter args = omega arith
 
+  -- what has a name
   named_weighs : (into : Option ℕ) (args : List Arg) (name : List ℕ) (o : Option ℕ) → ops_weight (named_ops m vs into args name o) ≤ 128 + args_weight args
   named_weighs into args name (Some f) = let a = arguments_weigh args (λ rs. sel.Call f into rs) (λ rs. refl) in omega (arith, a)
   named_weighs into args name None = outer_weighs into (outer_of name) args
 
+  -- a call by address
   address_weighs : (into : Option ℕ) (s : ℕ) (args : List Arg) → ops_weight (behind_args (args_brought m vs 0 args) (λ rs. sel.CallAt s into rs)) ≤ 128 + args_weight args
   address_weighs into s args = let a = arguments_weigh args (λ rs. sel.CallAt s into rs) (λ rs. refl) in omega (arith, a)
 
+  -- any call
   call_weighs : (into : Option ℕ) (callee : Operand) (args : List Arg) → ops_weight (call_ops m vs into callee args) ≤ 128 + operand_weight callee + args_weight args
   call_weighs into (Global name) args = let a = named_weighs into args name (function_number m name) in omega (arith, a)
   call_weighs into (LocalName name) args = let a = address_weighs into (register_read vs (register_of (number_of (named_locals vs) name))) args in omega (arith, a)
@@ -226,6 +240,7 @@ module _ (m : Module) (vs : List LocalKind) where
       let s = sum_by-cons (λ (x : Inst). op_weight x.op) i is in
       omega (arith, first, others, e, s)
 
+  -- a block
   block_weighs : (labels : List (List ℕ)) (at : ℕ) (b : Block) → sel_block_weight (block_selected m vs labels at b) ≤ block_weight b
   block_weighs labels at b =
       let insts = insts_weigh at b.insts in
@@ -233,6 +248,7 @@ module _ (m : Module) (vs : List LocalKind) where
       let e = both_weigh (insts_ops m vs at b.insts) (closing_of m vs labels b.end).ops in
       omega (arith, insts, end, e)
 
+  -- blocks one after another
   blocks_weigh : (labels : List (List ℕ)) (at : ℕ) (bs : List Block) → sum_by sel_block_weight (blocks_selected m vs labels at bs) ≤ sum_by block_weight bs
   blocks_weigh labels at [] = omega arith
   blocks_weigh labels at (b ∷ bs) =

@@ -1,6 +1,6 @@
 -- What operands, arguments and pointers that move come to weighs no more than they do.
 use Rattle.std.proofs.Common.{◌≡◌, ℕ, zero, suc, ◌+◌, ◌*◌, ◌%◌, ◌^◌, ◌<◌, ◌≤◌, Bool, true, false, List, [], ◌∷◌, ◌++◌, length, map, take, Option, Some, None, arith}
-use Rattle.std.specs.Prelude.{nat_eq, if◌then◌else◌}
+use Rattle.std.specs.Prelude.{ℤ, nat_eq, if◌then◌else◌}
 use Rattle.std.specs.List.{sum_by}
 use Rattle.std.proofs.lemmas.List.{length-append}
 use Rattle.std.proofs.lemmas.List.Sums.{sum_by-cons, sum_by-append}
@@ -12,6 +12,7 @@ use Rattle.ir_core.specs.declared.module.Module.{Module}
 use Rattle.ir_core.specs.declared.operand.Index0.{Index0}
 use Rattle.ir_core.specs.declared.operand.Operand.{Operand}
 use Rattle.ir_core.specs.declared.operand.Operand.TheVariants.{Int, Bool as Truth, Null as NullWord, Undef, Poison, Local as LocalName, Global, Const}
+use Rattle.ir_core.specs.declared.ty.Ty.{Ty}
 use Rattle.ir_core.specs.Kinds.{kind_of, truth, zero_of}
 use Rattle.ir_core.specs.Operands.{global_number, function_number, named_value, int_value}
 use Rattle.ir_core.specs.Valid.{LocalKind, named_locals}
@@ -35,6 +36,7 @@ use Rattle.isel_rows.specs.Rows.{constant_moved, stride_ops, strides_moved, move
 abbrev pub ops_weight : List SelOp → ℕ
 ops_weight ops = sum_by sel_op_weight ops
 
+-- of two rows
 pub both_weigh : (xs ys : List SelOp) → ops_weight (xs ++ ys) ≡ ops_weight xs + ops_weight ys
 both_weigh xs ys = sum_by-append sel_op_weight xs ys
 
@@ -47,24 +49,29 @@ module _ (vs : List LocalKind) where
       of_test true = omega arith
       of_test false = omega arith
 
-  int_weighs : (r : ℕ) (kind : Kind) (n : _) → ops_weight (brought vs r (known (int_value kind n))).ops ≤ 20
+  -- a literal
+  int_weighs : (r : ℕ) (kind : Kind) (n : ℤ) → ops_weight (brought vs r (known (int_value kind n))).ops ≤ 20
   int_weighs r NoValue n = omega arith
   int_weighs r (Number w) n = omega arith
   int_weighs r Pointer n = omega arith
 
+  -- zeros
   zero_weighs : (r : ℕ) (kind : Kind) → ops_weight (brought vs r (known (zero_of kind))).ops ≤ 20
   zero_weighs r NoValue = omega arith
   zero_weighs r (Number w) = omega arith
   zero_weighs r Pointer = omega arith
 
+  -- a truth value
   truth_weighs : (r : ℕ) (b : Bool) → ops_weight (brought vs r (Known (truth b))).ops ≤ 20
   truth_weighs r true = omega arith
   truth_weighs r false = omega arith
 
+  -- a local
   register_weighs : (r : ℕ) (o : Option ℕ) → ops_weight (brought vs r (register_of o)).ops ≤ 0
   register_weighs r (Some k) = omega arith
   register_weighs r None = omega arith
 
+  -- a global or a function
   named_weighs : (r : ℕ) (g f : Option ℕ) → ops_weight (brought vs r (known (named_value g f))).ops ≤ 20
   named_weighs r (Some g) f = omega arith
   named_weighs r None (Some f) = omega arith
@@ -80,11 +87,13 @@ module _ (vs : List LocalKind) where
   far_weighs r (Some g) None = omega arith
   far_weighs r None p = omega arith
 
+  -- a global from its start
   start_weighs : (r : ℕ) (g : Option ℕ) → ops_weight (brought vs r (place_of g (Some empty_path))).ops ≤ 20
   start_weighs r (Some g) = omega arith
   start_weighs r None = omega arith
 
-  constant_weighs : (m : Module) (r : ℕ) (g : Option ℕ) (source : _) (is : List Index0) → ops_weight (brought vs r (place_of g (path_of m.types source (map index_origin is)))).ops ≤ 20 + 64 * length is
+  -- either by its indices
+  constant_weighs : (m : Module) (r : ℕ) (g : Option ℕ) (source : Ty) (is : List Index0) → ops_weight (brought vs r (place_of g (path_of m.types source (map index_origin is)))).ops ≤ 20 + 64 * length is
   constant_weighs m r g source [] = let a = start_weighs r g in omega arith
   constant_weighs m r g source (i ∷ is) = let a = far_weighs r g (path_of m.types source (map index_origin (i ∷ is))) in omega arith
 
@@ -123,9 +132,11 @@ front_weighs (suc n) (a ∷ args) =
 abbrev some_bytes : ℕ → ℕ
 some_bytes by = if nat_eq by 0 then 0 else 1
 
+-- how many of both
 abbrev pub parts_in : Path → ℕ
 parts_in p = length p.strides + some_bytes p.constant
 
+-- a constant counts once
 few_bytes : (by : ℕ) → some_bytes by ≤ 1
 few_bytes by = of_test (nat_eq by 0)
   where
@@ -133,14 +144,17 @@ few_bytes by = of_test (nat_eq by 0)
     of_test true = omega arith
     of_test false = omega arith
 
+-- so many bytes more
 pub farther_parts : (n by : ℕ) (p : Path) → parts_in p ≤ n → parts_in (farther by p) ≤ n + 1
 farther_parts n by p few = let a = few_bytes ((p.constant + by) % 2 ^ 64) in omega (arith, a, few)
 
+-- one more index that is read
 pub stride_parts : (n : ℕ) (o : Origin) (size : ℕ) (p : Path) → Unit {0} → size < 2 ^ 64 → parts_in p ≤ n → parts_in (with_stride o size p) ≤ n + 1
 stride_parts n o size p u small few = let s : Stride = record { index = o; size = size } in let a = length-append p.strides (s ∷ []) in omega (arith, a, few)
 
 -- a pointer that moves
 module _ (vs : List LocalKind) where
+  -- by a constant
   bytes_weigh : (from by : ℕ) → ops_weight (constant_moved vs from by).ops ≤ 116 * some_bytes by
   bytes_weigh from by = of_test (nat_eq by 0)
     where
@@ -153,6 +167,7 @@ module _ (vs : List LocalKind) where
       of_test true = omega arith
       of_test false = omega arith
 
+  -- by indices
   strides_weigh : (from : ℕ) (ss : List Stride) → ops_weight (strides_moved vs from ss).ops ≤ 116 * length ss
   strides_weigh from [] = omega arith
   strides_weigh from (s ∷ ss) =
@@ -160,6 +175,7 @@ module _ (vs : List LocalKind) where
       let e = both_weigh (stride_ops vs from s) (strides_moved vs (moved_register vs) ss).ops in
       omega (arith, others, e)
 
+  -- along a path
   pub moved_weighs : (r from : ℕ) (p : Path) → ops_weight (moved_ops vs r p from) ≤ 16 + 116 * parts_in p
   moved_weighs r from p =
       let first = constant_moved vs from p.constant in

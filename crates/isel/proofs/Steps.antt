@@ -1,8 +1,5 @@
 -- A step of a run that goes on is met, wherever it stands.
-use Rattle.std.proofs.Common.{◌≡◌, ℕ, ◌+◌, ◌<◌, ◌≤◌, true, not, List, [], ◌∷◌, ◌++◌, length, Option, Some, None, slice_get, refl, ap, sym, ◌∙◌, subst, inl, inr, ◌⊎◌, arith, length-append}
-use Rattle.std.specs.List.{list_all}
-use Rattle.std.proofs.lemmas.Bool.{and_parts}
-use Rattle.behavior.specs.Ending.{Going, is_left}
+use Rattle.std.proofs.Common.{◌≡◌, ℕ, ◌+◌, ◌≤◌, true, not, List, ◌∷◌, ◌++◌, length, Option, Some, None, slice_get, refl, ap, sym, subst, arith, length-append}
 use Rattle.behavior.specs.Moment.{AreBytes}
 use Rattle.ir_core.specs.declared.instruction.Inst.{Inst}
 use Rattle.ir_core.specs.declared.instruction.Op.{Op}
@@ -11,13 +8,12 @@ use Rattle.ir_core.specs.declared.instruction.Term.{Term}
 use Rattle.ir_core.specs.declared.instruction.Term.TheVariants.{Ret, RetValue, Br, BrIf, Switch, Unreachable}
 use Rattle.ir_core.specs.declared.module.Block.{Block}
 use Rattle.ir_core.specs.declared.module.Module.{Module}
-use Rattle.ir_core.specs.State.{Frame, State, turned}
+use Rattle.ir_core.specs.State.{Frame, State}
 use Rattle.ir_core.specs.Step.{source_step}
 use Rattle.ir_core.proofs.Steps.{step_here}
 use Rattle.ir_core.specs.Valid.{is_phi}
 use Rattle.ir_sound.specs.Typed.{no_phi}
 use Rattle.ir_sound.proofs.RowLaws.{all_at}
-use Rattle.ir_sound.proofs.SameLaws.{not_true}
 use Rattle.low_core.specs.Flat.{Bytes}
 use Rattle.low_core.specs.Plan.{Plan, Content}
 use Rattle.low_core.specs.SelState.{SelFrame}
@@ -30,7 +26,7 @@ use Rattle.isel.proofs.Calls.{call_met}
 use Rattle.isel.proofs.Casts.{cast_met}
 use Rattle.isel.proofs.Choices.{compare_met, freeze_met}
 use Rattle.isel.proofs.Counted.{IsNoPhi, ops_some, stands_few}
-use Rattle.isel.proofs.Ends.{StandsAtEnd, IsEndMet, br_met, br_if_met, unreachable_met, switch_none}
+use Rattle.isel.proofs.Ends.{IsEndMet, br_met, br_if_met, unreachable_met, switch_none}
 use Rattle.isel.proofs.Geps.{gep_met}
 use Rattle.isel.proofs.Here.{IsHere, closing, now, ops, stands_here, ends_here}
 use Rattle.isel.proofs.Loads.{load_meets}
@@ -109,8 +105,8 @@ module _ (m : Module) (plan : Plan) (contents : List Content) (p : Premises m pl
         meets =
             subst (λ t. Meets m (setting_of m plan contents) input n t (source_step m input s)) beside
             (subst (Meets m (setting_of m plan contents) input n (now m plan contents p input s f fs h hs bytes x))
-              (sym (step_here m input s f fs x.call.fn x.call.block (Some i) x.going x.top (record { in_module = x.call.in_module; in_function = x.call.in_function; in_block = there })))
-              (instruction_met m plan contents p input are s f fs h hs bytes x i.result i.op there));
+            (sym (step_here m input s f fs x.call.fn x.call.block (Some i) x.going x.top (record { in_module = x.call.in_module; in_function = x.call.in_function; in_block = there })))
+            (instruction_met m plan contents p input are s f fs h hs bytes x i.result i.op there));
       }
   at_next None none =
       let here = ends_here m plan contents p input s f fs h hs bytes x none in
@@ -122,8 +118,8 @@ module _ (m : Module) (plan : Plan) (contents : List Content) (p : Premises m pl
         meets =
             subst (λ t. Meets m (setting_of m plan contents) input n t (source_step m input s)) beside
             (subst (Meets m (setting_of m plan contents) input n (now m plan contents p input s f fs h hs bytes x))
-              (sym (step_here m input s f fs x.call.fn x.call.block None x.going x.top (record { in_module = x.call.in_module; in_function = x.call.in_function; in_block = none })))
-              (end_met m plan contents p input are s f fs h hs bytes x none x.call.block.end refl));
+            (sym (step_here m input s f fs x.call.fn x.call.block None x.going x.top (record { in_module = x.call.in_module; in_function = x.call.in_function; in_block = none })))
+            (end_met m plan contents p input are s f fs h hs bytes x none x.call.block.end refl));
       }
 
   pub step_met : IsStepMet m plan contents input s (h ∷ hs) bytes

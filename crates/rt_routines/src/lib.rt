@@ -1,4 +1,4 @@
-//! The routines that stand behind the functions of every object: what four of them do, as laws without code.
+//! The six routines that stand behind the functions of every object: their code, and what each does.
 //!
 //! `specs/Code` has the rows of all six, and `routines` writes them, exactly these, for a plan of
 //! slots, of which the last five are theirs. `law` says of each row what it does wherever it stands,

@@ -1,9 +1,6 @@
-use Rattle.std.proofs.Common.{◌≡◌, ◌+◌, ◌≤◌, suc, length, map, ap, sym, ◌∙◌, arith}
-use Rattle.std.specs.List.{sum_by}
+use Rattle.std.proofs.Common.{◌≡◌, ◌+◌, suc, map, ap, ◌∙◌, arith}
 use Rattle.std.proofs.lemmas.List.Elements.{All-same}
-use Rattle.ir_core.specs.declared.limit.TheConstants.{MAX_CODE, MAX_FUNCTIONS}
 use Rattle.low_core.specs.declared.sel.SelFun.{SelFun}
-use Rattle.low_core.specs.SelWeights.{sel_function_weight}
 use Rattle.obj_rows.specs.Assembled.{most_cuts, with_first_cuts}
 use Rattle.slot_plan.specs.Slots.{takens}
 use Rattle.slot_plan.proofs.Bounds.{takens_few}

@@ -1,4 +1,4 @@
-use Rattle.std.proofs.Common.{◌≡◌, ◌+◌, ◌-◌, ◌<◌, ◌≤◌, ◌∷◌, ◌++◌, [], length, drop, take, get_or, ap, sym, ◌∙◌, arith}
+use Rattle.std.proofs.Common.{◌≡◌, ◌+◌, ◌-◌, ◌∷◌, ◌++◌, [], length, drop, take, get_or, ap, sym, ◌∙◌, arith}
 use Rattle.std.proofs.lemmas.List.{drop_more}
 use Rattle.obj_core.specs.declared.object.Func.{Func}
 use Rattle.obj_rows.specs.Assembled.{with_first_cuts}
@@ -67,17 +67,17 @@ loop-n-preserved c =
     let long : c.len.result ≡ calls_of_blocks f.blocks = c.len.ensures ∙ ap (λ (g : Func). length g.links) c.in_ok-f.ensures ∙ links_long by slot f in
     let named : c.names_of.result.now ≡ get_or names n [] = c.names_of.ensures in
     let housed : c.as_slice.result.now ≡ get_or homes n [] =
-        c.as_slice.ensures ∙ c.index-homes-n.is ∙ get_any homes n c.index-homes-n.result [] (let same = homes_long fs homes c.requires.places in let below = c.loop-n-test.true in omega (arith, same, below)) in
+    c.as_slice.ensures ∙ c.index-homes-n.is ∙ get_any homes n c.index-homes-n.result [] (let same = homes_long fs homes c.requires.places in let below = c.loop-n-test.true in omega (arith, same, below)) in
     let left = c.loop-n.left in
     let made : c.in_ok-f.f ≡ with_cuts left (saved_function (function_row (making_with globals functions reg_draw n (get_or names n []) (get_or homes n []) f) slot f)) =
-        c.in_ok-f.ensures
-        ∙ ap (λ x. with_cuts left (saved_function (function_row (making_with globals functions reg_draw n x c.as_slice.result.now f) slot f))) named
-        ∙ ap (λ x. with_cuts left (saved_function (function_row (making_with globals functions reg_draw n (get_or names n []) x f) slot f))) housed in
+    c.in_ok-f.ensures
+    ∙ ap (λ x. with_cuts left (saved_function (function_row (making_with globals functions reg_draw n x c.as_slice.result.now f) slot f))) named
+    ∙ ap (λ x. with_cuts left (saved_function (function_row (making_with globals functions reg_draw n (get_or names n []) x f) slot f))) housed in
     let cuts : c.len-left.result ≡ length (take left (saved_function (function_row (making_with globals functions reg_draw n (get_or names n []) (get_or homes n []) f) slot f)).cuts) = c.len-left.ensures ∙ ap (λ (g : Func). length g.cuts) made in
     let before = c.loop-n.invariant.1 in (
       ap (λ l. l ++ with_first_cuts (left - c.len-left.result) (functions_with globals functions reg_draw names homes (n + 1) (slot + c.len.result) rest)) c.in_ok-add.ensures.put
-      ∙ functions_step globals functions reg_draw names homes n slot (slot + c.len.result) left (left - c.len-left.result) f rest c.loop-n.all c.in_ok-f.f made (ap (λ k. slot + k) long) (ap (λ k. left - k) cuts)
-      ∙ ap (λ xs. c.loop-n.all ++ with_first_cuts left (functions_with globals functions reg_draw names homes n slot xs)) (sym split)
-      ∙ c.loop-n.invariant.0,
+          ∙ functions_step globals functions reg_draw names homes n slot (slot + c.len.result) left (left - c.len-left.result) f rest c.loop-n.all c.in_ok-f.f made (ap (λ k. slot + k) long) (ap (λ k. left - k) cuts)
+          ∙ ap (λ xs. c.loop-n.all ++ with_first_cuts left (functions_with globals functions reg_draw names homes n slot xs)) (sym split)
+          ∙ c.loop-n.invariant.0,
       omega (arith, more, long, before),
     )
