@@ -8,3 +8,4 @@ pub mod Linking
 pub mod Counting
 pub mod Joining
 pub mod Suiting
+pub mod Programs

@@ -6,6 +6,7 @@
 //! size of the program.
 #![tactic(auto)]
 
+pub mod compile;
 pub mod homes;
 pub mod names;
 pub mod object;
