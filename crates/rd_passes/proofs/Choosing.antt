@@ -10,7 +10,6 @@ use Rattle.obj_core.specs.declared.plan.Placing.{Placing}
 use Rattle.obj_core.specs.declared.plan.SlotPlan.{SlotPlan}
 use Rattle.slot_plan.specs.Slots.{IsPlan}
 use Rattle.data_place.specs.Fits.{DataFits}
-use Rattle.frame_lower.specs.Functions.{Choices}
 use Rattle.frame_lower.specs.Given.{AreChosen}
 use Rattle.frame_lower.specs.Planned.{plan_of}
 use Rattle.rd_passes.specs.Passed.{choices_of}

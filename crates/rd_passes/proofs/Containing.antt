@@ -1,8 +1,8 @@
 -- The memory with which an object begins has the globals that were placed in it, each byte at its address.
-use Rattle.std.proofs.Common.{◌≡◌, ℕ, zero, suc, ◌+◌, ◌-◌, ◌*◌, ◌^◌, ◌<◌, ◌≤◌, ◌⊎◌, inl, inr, Bool, true, false, not, ◌&&◌, ◌||◌, nat_le, nat_lt, if◌then◌else◌, List, [], ◌∷◌, length, get_or, Some, None, Option, slice_get, refl, ap, sym, subst, ◌∙◌, arith}
+use Rattle.std.proofs.Common.{◌≡◌, ℕ, zero, suc, ◌+◌, ◌-◌, ◌^◌, ◌<◌, ◌≤◌, ◌⊎◌, inl, inr, Bool, true, false, not, ◌&&◌, ◌||◌, nat_le, nat_lt, if◌then◌else◌, List, [], ◌∷◌, length, get_or, Some, slice_get, refl, ap, sym, ◌∙◌, arith}
 use Rattle.std.proofs.lemmas.Bool.{cases_Bool, leb-true, ltb-true, and_parts}
 use Rattle.ir_core.specs.declared.limit.TheConstants.{MAX_BYTES}
-use Rattle.x86_core.specs.Data.{ro_start, rw_start, stack_end, data_segments}
+use Rattle.x86_core.specs.Data.{stack_end, data_segments}
 use Rattle.x86_core.specs.Memory.{reads, writes, one_covers}
 use Rattle.x86_rows.specs.Addresses.{byte_at}
 use Rattle.x86_rows.proofs.First.{ro_readable, rw_readable, rw_writable, ro_byte, rw_byte}
@@ -64,8 +64,7 @@ held (g ∷ gs) (c ∷ cs) p b e = elim (cases_Bool (nat_le g p && nat_lt p (g +
   | inl here ↦
       let both = and_parts (nat_le g p) (nat_lt p (g + length c.bytes)) here in
       let low = leb-true g p both.0 in
-      let high = ltb-true p (g + length c.bytes) both.1 in
-      (
+      let high = ltb-true p (g + length c.bytes) both.1 in (
         record { number = 0; at = g; content = c; address = refl; is = refl; above = low; below = omega (arith, high) },
         sym (ap (λ x. if x then slice_get c.bytes (p - g) else first_bytes gs cs p) here) ∙ e,
       )

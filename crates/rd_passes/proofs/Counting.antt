@@ -1,6 +1,5 @@
 -- An object whose numbers are in range is one whose counts fit their fields, too.
-use Rattle.std.proofs.Common.{◌≡◌, ℕ, zero, suc, ◌+◌, ◌-◌, ◌<◌, ◌≤◌, ◌^◌, List, [], ◌∷◌, ◌++◌, length, take, Some, slice_get, refl, ap, sym, subst, ◌∙◌, arith, length-append}
-use Rattle.std.specs.List.{All}
+use Rattle.std.proofs.Common.{◌≡◌, ℕ, zero, suc, ◌+◌, ◌-◌, ◌<◌, ◌≤◌, ◌^◌, List, [], ◌∷◌, length, take, Some, slice_get, refl, ap, sym, subst, ◌∙◌, arith, length-append}
 use Rattle.ir_core.specs.declared.limit.TheConstants.{MAX_BYTES, MAX_CODE}
 use Rattle.low_core.specs.declared.sel.SelFun.{SelFun}
 use Rattle.low_core.specs.declared.sel.Sel.{Sel}
@@ -15,11 +14,9 @@ use Rattle.obj_check.specs.Ranges.{AreFuncNumbers, AreNumbers}
 use Rattle.obj_rows.specs.Assembled.{most_cuts, with_first_cuts, IsAssembled}
 use Rattle.obj_rows.specs.Marked.{row_size}
 use Rattle.obj_rows.specs.Sound.{IsSoundFunction}
-use Rattle.slot_plan.specs.Slots.{slots_of}
 use Rattle.slot_plan.proofs.Bounds.{bounds, slots_long}
 use Rattle.rt_routines.specs.Code.{routines_of}
 use Rattle.rt_routines.proofs.Planned.{are_sound}
-use Rattle.frame_lower.specs.Blocks.{calls_of_blocks}
 use Rattle.frame_lower.specs.Chain.{first_slot}
 use Rattle.frame_lower.specs.Functions.{Choices, function_row, making_of, saved_function, lowered}
 use Rattle.frame_lower.specs.Given.{AreChosen}
@@ -30,7 +27,6 @@ use Rattle.frame_lower.proofs.Ranged.{each_append}
 use Rattle.frame_lower.proofs.Sizes.{function_light}
 use Rattle.frame_lower.proofs.Suited.{all_there}
 use Rattle.frame_lower.proofs.Totals.{slots_long as slots_number}
-use Rattle.frame_lower.proofs.WellFormed.{well_formed}
 use Rattle.obj_rows.proofs.Rows.{spelled_size}
 use Rattle.rd_passes.proofs.Linking.{each_there, one_calls, one_weighs, few_functions}
 
@@ -98,7 +94,7 @@ module _ (c : Choices) (sel : Sel) (slot_seed : ℕ) (chosen : AreChosen c sel s
     all_short =
         subst (Each IsShort) (sym assembled.functions)
         (each_append IsShort (with_first_cuts most_cuts (lowered c sel)) (routines_of c.slots) (cut_short most_cuts (lowered c sel) (omega arith) program_short)
-          (sound_short (length c.slots.slots) (routines_of c.slots) (are_sound sel chosen.shaped slot_seed c.slots chosen.plan).each))
+        (sound_short (length c.slots.slots) (routines_of c.slots) (are_sound sel chosen.shaped slot_seed c.slots chosen.plan).each))
 
     few_slots : length o.slots < 2 ^ 32
     few_slots =

@@ -1,5 +1,5 @@
 -- Planned slots, placed data and frames are a plan that fits a program of registers.
-use Rattle.std.proofs.Common.{◌≡◌, ◌≢◌, ℕ, zero, suc, ◌+◌, ◌-◌, ◌*◌, ◌<◌, ◌≤◌, true, List, [], ◌∷◌, length, map, Some, slice_get, slice_index, refl, ap, sym, ◌∙◌, arith}
+use Rattle.std.proofs.Common.{◌≡◌, ℕ, zero, suc, ◌+◌, ◌≤◌, List, [], ◌∷◌, length, map, Some, slice_get, refl, ap, sym, ◌∙◌, arith}
 use Rattle.std.specs.List.{All}
 use Rattle.ir_core.specs.declared.TheConstants.{MAX_CALLS}
 use Rattle.ir_core.specs.declared.limit.TheConstants.{MAX_BYTES}
@@ -7,12 +7,10 @@ use Rattle.x86_core.specs.Data.{stack_start, stack_end}
 use Rattle.low_core.specs.declared.sel.SelFun.{SelFun}
 use Rattle.low_core.specs.declared.sel.Sel.{Sel}
 use Rattle.low_core.specs.Placing.{ArePlaced}
-use Rattle.low_core.specs.Plan.{Plan, Content, PlanFits, IsTaken, NamesOneOf}
+use Rattle.low_core.specs.Plan.{Content, PlanFits, IsTaken, NamesOneOf}
 use Rattle.low_core.specs.SelParts.{ops_of}
 use Rattle.low_core.specs.SelShaped.{IsSel}
 use Rattle.obj_core.specs.declared.address.SlotAddr.{SlotAddr}
-use Rattle.obj_core.specs.declared.plan.SlotPlan.{SlotPlan}
-use Rattle.obj_core.specs.Slots.{slot_base}
 use Rattle.slot_plan.specs.Slots.{IsPlan, address_of}
 use Rattle.slot_plan.proofs.Taken.{place_of, pointer_is, pointers_apart}
 use Rattle.rt_routines.proofs.Planned.{pointers_are}

@@ -1,5 +1,5 @@
 -- Frames of functions whose registers live in them: there is one for each, with room for the function's own memory, and the stack has room for all.
-use Rattle.std.proofs.Common.{◌≡◌, ℕ, zero, suc, ◌+◌, ◌*◌, ◌<◌, ◌≤◌, List, [], ◌∷◌, length, map, max, get_or, Some, slice_get, refl, ap, sym, ◌∙◌, arith}
+use Rattle.std.proofs.Common.{◌≡◌, ℕ, zero, suc, ◌+◌, ◌≤◌, List, [], ◌∷◌, length, map, Some, slice_get, refl, ap, arith}
 use Rattle.std.specs.List.{All}
 use Rattle.std.proofs.lemmas.List.Elements.{All-head, All-tail}
 use Rattle.ir_core.specs.declared.limit.TheConstants.{MAX_FRAME}
@@ -9,8 +9,8 @@ use Rattle.low_core.specs.declared.sel.SelFun.{SelFun}
 use Rattle.low_core.specs.declared.sel.Sel.{Sel}
 use Rattle.low_core.specs.Plan.{FramePlan}
 use Rattle.low_core.specs.SelShaped.{IsFunShaped}
-use Rattle.low_core.specs.SelWeights.{words_passed, sel_room}
-use Rattle.frame_lower.specs.Frames.{words_to, frame_words, room_bytes, frame_plan}
+use Rattle.low_core.specs.SelWeights.{sel_room}
+use Rattle.frame_lower.specs.Frames.{words_to, frame_plan}
 use Rattle.frame_lower.specs.Given.{HasPlaces, HavePlaces}
 use Rattle.frame_lower.specs.Planned.{frames_of}
 

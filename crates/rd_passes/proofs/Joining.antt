@@ -1,5 +1,5 @@
 -- Functions, routines, slots and data put together are an object of the program.
-use Rattle.std.proofs.Common.{◌≡◌, ℕ, ◌+◌, ◌<◌, ◌^◌, List, ◌++◌, length, refl, ap, sym, subst, ◌∙◌, arith}
+use Rattle.std.proofs.Common.{◌≡◌, ℕ, ◌+◌, ◌<◌, ◌^◌, List, ◌++◌, length, ap, sym, subst, ◌∙◌, arith}
 use Rattle.std.specs.Prelude.{Result, Ok, Err, IfOk}
 use Rattle.rd_num.specs.declared.width.NoMemory.{NoMemory}
 use Rattle.rd_draw.specs.Draw.{keystream_word, shuffled}

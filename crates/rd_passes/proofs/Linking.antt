@@ -1,7 +1,8 @@
 -- Functions of a program with the routines behind them are linked to the slots of a plan: each slot that comes back by one jump.
-use Rattle.std.proofs.Common.{◌≡◌, ℕ, zero, suc, ◌+◌, ◌-◌, ◌<◌, ◌≤◌, ◌^◌, ◌⊎◌, inl, inr, Bool, true, false, ◌&&◌, nat_le, nat_lt, if◌then◌else◌, List, [], ◌∷◌, ◌++◌, length, take, Option, Some, None, slice_get, refl, ap, sym, subst, ◌∙◌, arith, length-append}
-use Rattle.std.specs.List.{All, sum_by}
-use Rattle.std.proofs.lemmas.Bool.{cases_Bool, le-leb, lt-ltb, le-ltb, lt-leb, ltb-true, and_parts, cases_lt}
+use Rattle.std.proofs.Common.{◌≡◌, ℕ, zero, suc, ◌+◌, ◌-◌, ◌<◌, ◌≤◌, ◌^◌, inl, inr, Bool, true, false, ◌&&◌, nat_le, nat_lt}
+use Rattle.std.proofs.Common.{if◌then◌else◌, List, [], ◌∷◌, ◌++◌, length, take, Option, Some, None, slice_get, refl, ap, sym, subst, ◌∙◌, arith, length-append}
+use Rattle.std.specs.List.{sum_by}
+use Rattle.std.proofs.lemmas.Bool.{le-leb, lt-ltb, le-ltb, lt-leb, ltb-true, and_parts}
 use Rattle.ir_core.specs.declared.limit.TheConstants.{MAX_CODE}
 use Rattle.low_core.specs.declared.sel.SelFun.{SelFun}
 use Rattle.low_core.specs.declared.sel.Sel.{Sel}
@@ -11,7 +12,7 @@ use Rattle.obj_core.specs.declared.object.Func.{Func}
 use Rattle.obj_core.specs.declared.object.Link.{Link}
 use Rattle.obj_core.specs.declared.plan.Site.{Site}
 use Rattle.obj_core.specs.declared.plan.Slot0.{Slot0}
-use Rattle.obj_core.specs.Disassembly.{Found, size_of}
+use Rattle.obj_core.specs.Disassembly.{Found, found, size_of}
 use Rattle.obj_core.specs.Object.{Each}
 use Rattle.obj_core.specs.Slots.{push_purpose}
 use Rattle.obj_core.specs.WellFormed.{bad_links, is_good_link, fills_zero}
@@ -24,7 +25,7 @@ use Rattle.rt_routines.proofs.Planned.{pointers_are, are_sound, link_once, links
 use Rattle.rt_routines.proofs.Sites.{own_or_before}
 use Rattle.obj_assemble.specs.Linked.{IsLinkTo, AreLinked}
 use Rattle.frame_lower.specs.Blocks.{calls_of_blocks}
-use Rattle.frame_lower.specs.Chain.{function_in, first_slot}
+use Rattle.frame_lower.specs.Chain.{first_slot}
 use Rattle.frame_lower.specs.Functions.{Choices, function_row, making_of, saved_function, lowered}
 use Rattle.frame_lower.specs.Given.{AreChosen, calls_of_functions}
 use Rattle.frame_lower.proofs.Chosen.{made, whole, five_long}
@@ -156,13 +157,13 @@ module _ (c : Choices) (sel : Sel) (slot_seed : ℕ) (chosen : AreChosen c sel s
       let all = slots_long sel in
       let w = whole c sel slot_seed chosen g f (first_slot sel g) there shaped light (omega (arith, calls, all)) in
       let keeps : KeepsRules c.reg_seed (length (slots_of sel)) g (cut_function 0 (function_row (making_of c g f) (first_slot sel g) f)) =
-          function_keeps (made c sel slot_seed chosen g f) c.reg_seed g (length (slots_of sel)) (first_slot sel g) 0 f w in
+      function_keeps (made c sel slot_seed chosen g f) c.reg_seed g (length (slots_of sel)) (first_slot sel g) 0 f w in
       let row = function_row (making_of c g f) (first_slot sel g) f in
       let five = five_long c.reg_seed push_purpose g in
       let params = shaped.few in
       let size : row_size row ≤ sel_function_weight f = function_light (making_of c g f) (omega (arith, five)) (first_slot sel g) f (omega (arith, params)) in
       let limit : MAX_CODE ≡ 67108864 = refl in
-      both_hold (length (slots_of sel)) (links_from 0 row) (good_links None _ (length (slots_of sel)) (links_from 0 row) keeps.links)
+      both_hold (length (slots_of sel)) (links_from 0 row) (good_links None (found (keeps.first ∷ keeps.others)) (length (slots_of sel)) (links_from 0 row) keeps.links)
       (weaker (links_from 0 row) (row_size row) (omega (arith, size, light, limit)) (ends_low 0 (row_size row) row (omega arith)))
 
   program_links : Each (λ (f : Func). Each (IsLinkTo (length (slots_of sel))) f.links) (lowered c sel)
@@ -190,8 +191,8 @@ module _ (c : Choices) (sel : Sel) (slot_seed : ℕ) (chosen : AreChosen c sel s
       let are : 0 + length functions ≡ length c.slots.pointers = omega (arith, pointers, many) in
       let whole_long : length (lowered c sel) ≡ length sel.functions = lowered_long c sel in
       let both : length (ends_from k 0 (functions ++ routines)) ≡ length (ends_from k 0 (lowered c sel)) + length (ends_from k (length c.slots.pointers) routines) =
-          ap length (ends_append k 0 functions routines) ∙ length-append (ends_from k 0 functions) (ends_from k (0 + length functions) routines)
-          ∙ ap (λ n. length (ends_from k 0 functions) + length (ends_from k n routines)) are ∙ ap (λ l. length l + length (ends_from k (length c.slots.pointers) routines)) (ends_uncut most_cuts k 0 (lowered c sel)) in
+      ap length (ends_append k 0 functions routines) ∙ length-append (ends_from k 0 functions) (ends_from k (0 + length functions) routines)
+      ∙ ap (λ n. length (ends_from k 0 functions) + length (ends_from k n routines)) are ∙ ap (λ l. length l + length (ends_from k (length c.slots.pointers) routines)) (ends_uncut most_cuts k 0 (lowered c sel)) in
       let first = linked_once c sel k slot site planned has in
       let second = link_once sel chosen.shaped slot_seed c.slots chosen.plan k slot site there has in
       let six_long = six c.slots in
@@ -207,7 +208,7 @@ module _ (c : Choices) (sel : Sel) (slot_seed : ℕ) (chosen : AreChosen c sel s
             let high = at.1 in
             let a : length (ends_from k 0 (lowered c sel)) ≡ 0 = counted _ _ false first (behind_range 0 (0 + length (lowered c sel)) site.function (omega (arith, low, whole_long))) in
             let b : length (ends_from k (length c.slots.pointers) routines) ≡ 1 =
-                counted _ _ true second (in_range (length c.slots.pointers) (length c.slots.pointers + length routines) site.function (omega (arith, low, pointers)) (omega (arith, high, pointers, six_long))) in
+            counted _ _ true second (in_range (length c.slots.pointers) (length c.slots.pointers + length routines) site.function (omega (arith, low, pointers)) (omega (arith, high, pointers, six_long))) in
             omega (arith, both, a, b)
       ]
 

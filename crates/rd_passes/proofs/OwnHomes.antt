@@ -1,13 +1,12 @@
 -- Words of frames are homes of their own, one for each register, and there are names for each function.
-use Rattle.std.proofs.Common.{◌≡◌, ℕ, zero, suc, ◌+◌, ◌<◌, ◌≤◌, ◌⊎◌, inl, inr, List, [], ◌∷◌, ◌++◌, length, map, Some, slice_get, refl, ap, sym, ◌∙◌, arith, length-append}
+use Rattle.std.proofs.Common.{◌≡◌, ℕ, zero, suc, ◌<◌, ◌≤◌, ◌⊎◌, inl, inr, List, [], ◌∷◌, ◌++◌, length, Some, slice_get, refl, ap, sym, ◌∙◌, arith, length-append}
 use Rattle.std.specs.List.{All}
 use Rattle.std.proofs.lemmas.List.Elements.{All-nil, All-append, All-cons}
-use Rattle.x86_core.specs.declared.reg.Reg.{Reg}
 use Rattle.low_core.specs.declared.sel.Home.{Home}
 use Rattle.low_core.specs.declared.sel.Home.TheVariants as home
 use Rattle.low_core.specs.declared.sel.SelFun.{SelFun}
 use Rattle.frame_lower.specs.Frames.{words_to}
-use Rattle.frame_lower.specs.Given.{HasPlaces, HavePlaces, IsInFrame, AreInFrame}
+use Rattle.frame_lower.specs.Given.{HavePlaces, IsInFrame, AreInFrame}
 use Rattle.frame_lower.specs.Planned.{HasOwn, HaveOwn}
 use Rattle.rd_passes.specs.Own.{own_words, own_homes, five_names, drawn_names}
 

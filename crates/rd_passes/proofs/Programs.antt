@@ -1,5 +1,5 @@
 -- The passes down to the program of registers, one after another.
-use Rattle.std.proofs.Common.{◌≡◌, ℕ, ◌+◌, ◌*◌, List, length, refl, ap, sym, subst, ◌∙◌, arith}
+use Rattle.std.proofs.Common.{◌≡◌, ◌+◌, ◌*◌, List, length, ap, subst, ◌∙◌, arith}
 use Rattle.std.specs.List.{All}
 use Rattle.behavior.specs.Preserves.{Preserves, ReachesWithin}
 use Rattle.behavior.proofs.Laws.{preserves_trans, reaches_within_trans}
@@ -39,7 +39,7 @@ module _ (m low lean : Module) (bodies straight : List Body) (sel : Sel) (low_is
       (plan : Plan) → PlanFits sel (data_bytes m plan) plan → Preserves (source_run m) (sel_run sel plan (data_bytes m plan))
   program_keeps one two three plan fits =
       let last : Preserves (moves_run lean straight) (sel_run sel plan (data_bytes m plan)) =
-          subst (λ (b : Module). (p : Plan) → PlanFits sel (data_bytes b p) p → Preserves (moves_run lean straight) (sel_run sel p (data_bytes b p))) same three plan fits in
+      subst (λ (b : Module). (p : Plan) → PlanFits sel (data_bytes b p) p → Preserves (moves_run lean straight) (sel_run sel p (data_bytes b p))) same three plan fits in
       preserves_trans (source_run m) (moves_run low bodies) (sel_run sel plan (data_bytes m plan)) one
       (preserves_trans (moves_run low bodies) (moves_run lean straight) (sel_run sel plan (data_bytes m plan)) two last)
 
@@ -48,15 +48,15 @@ module _ (m low lean : Module) (bodies straight : List Body) (sel : Sel) (low_is
       (plan : Plan) → PlanFits sel (data_bytes m plan) plan → ReachesWithin 0 (program_steps m) (source_run m) (sel_run sel plan (data_bytes m plan))
   program_within one two three plan fits =
       let last : ReachesWithin 0 (longest sel) (moves_run lean straight) (sel_run sel plan (data_bytes m plan)) =
-          subst (λ (b : Module). (p : Plan) → PlanFits sel (data_bytes b p) p → ReachesWithin 0 (longest sel) (moves_run lean straight) (sel_run sel p (data_bytes b p))) same three plan fits in
+      subst (λ (b : Module). (p : Plan) → PlanFits sel (data_bytes b p) p → ReachesWithin 0 (longest sel) (moves_run lean straight) (sel_run sel p (data_bytes b p))) same three plan fits in
       let none : 0 + switch_steps bodies * 0 ≡ 0 = omega arith in
       let none_more : 0 + longest sel * 0 ≡ 0 = omega arith in
       let front : ReachesWithin 0 (switch_steps bodies * phi_steps m) (source_run m) (moves_run lean straight) =
-          subst (λ b. ReachesWithin b (switch_steps bodies * phi_steps m) (source_run m) (moves_run lean straight)) none
-          (reaches_within_trans (source_run m) (moves_run low bodies) (moves_run lean straight) 0 (phi_steps m) 0 (switch_steps bodies) one two) in
+      subst (λ b. ReachesWithin b (switch_steps bodies * phi_steps m) (source_run m) (moves_run lean straight)) none
+      (reaches_within_trans (source_run m) (moves_run low bodies) (moves_run lean straight) 0 (phi_steps m) 0 (switch_steps bodies) one two) in
       let whole : ReachesWithin 0 (longest sel * (switch_steps bodies * phi_steps m)) (source_run m) (sel_run sel plan (data_bytes m plan)) =
-          subst (λ b. ReachesWithin b (longest sel * (switch_steps bodies * phi_steps m)) (source_run m) (sel_run sel plan (data_bytes m plan))) none_more
-          (reaches_within_trans (source_run m) (moves_run lean straight) (sel_run sel plan (data_bytes m plan)) 0 (switch_steps bodies * phi_steps m) 0 (longest sel) front last) in
+      subst (λ b. ReachesWithin b (longest sel * (switch_steps bodies * phi_steps m)) (source_run m) (sel_run sel plan (data_bytes m plan))) none_more
+      (reaches_within_trans (source_run m) (moves_run lean straight) (sel_run sel plan (data_bytes m plan)) 0 (switch_steps bodies * phi_steps m) 0 (longest sel) front last) in
       let cost : longest sel * (switch_steps bodies * phi_steps m) ≡ program_steps m =
-          ap (λ s. longest s * (switch_steps bodies * phi_steps m)) program_is ∙ ap (λ bs. longest (program_of m) * (switch_steps bs * phi_steps m)) bodies_are in
+      ap (λ s. longest s * (switch_steps bodies * phi_steps m)) program_is ∙ ap (λ bs. longest (program_of m) * (switch_steps bs * phi_steps m)) bodies_are in
       subst (λ n. ReachesWithin 0 n (source_run m) (sel_run sel plan (data_bytes m plan))) cost whole

@@ -1,11 +1,10 @@
 -- The object of a program of registers suits it, and is well formed.
-use Rattle.std.proofs.Common.{◌≡◌, ℕ, ◌+◌, ◌*◌, ◌≤◌, ◌<◌, List, length, refl, ap, sym, subst, ◌∙◌, arith}
+use Rattle.std.proofs.Common.{◌≡◌, ℕ, ◌+◌, ◌*◌, ◌≤◌, List, length, sym, subst, ◌∙◌}
 use Rattle.std.specs.List.{All}
 use Rattle.behavior.specs.Moment.{Behavior}
 use Rattle.behavior.specs.Preserves.{Preserves, ReachesWithin}
 use Rattle.behavior.proofs.Laws.{preserves_trans, reaches_within_trans}
 use Rattle.ir_core.specs.declared.TheConstants.{MAX_CALLS}
-use Rattle.ir_core.specs.declared.limit.TheConstants.{MAX_BYTES}
 use Rattle.ir_core.specs.declared.module.Module.{Module}
 use Rattle.ir_core.specs.Globals.{first_objects, global_object}
 use Rattle.ir_sound.proofs.RowLaws.{length_map}
@@ -18,13 +17,10 @@ use Rattle.low_core.specs.Plan.{Plan, Content, PlanFits, NamesOneOf, global_span
 use Rattle.low_core.specs.SelRun.{sel_run}
 use Rattle.low_core.specs.SelParts.{ops_of}
 use Rattle.low_core.specs.SelShaped.{IsSel}
-use Rattle.obj_core.specs.declared.object.Func.{Func}
 use Rattle.obj_core.specs.declared.object.Object.{Object}
-use Rattle.obj_core.specs.declared.plan.Placing.{Placing}
 use Rattle.obj_core.specs.Object.{Each, IsByte, IsObject}
 use Rattle.obj_core.specs.SymbolicMachine.{symbolic_behavior}
 use Rattle.obj_core.specs.WellFormed.{most_data, IsWellFormed}
-use Rattle.obj_rows.specs.Assembled.{IsAssembled}
 use Rattle.obj_rows.specs.Routines.{AreRoutines}
 use Rattle.obj_rows.specs.Standing.{first_core}
 use Rattle.frame_rows.specs.Ties.{Contains}

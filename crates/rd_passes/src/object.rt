@@ -81,9 +81,7 @@ pub fn object_of(
     let slots = plan(alloc, sel, slot_seed)?;
     let placing = place(alloc, valid, &slots.pointers)?;
     let functions = functions_of(alloc, sel, reg_seed, &placing, &slots)?;
-    let o = joined(
-        alloc, sel, functions, &slots, placing, slot_seed, reg_seed,
-    )?;
+    let o = joined(alloc, sel, functions, &slots, placing, slot_seed, reg_seed)?;
     numbers_known(&o);
     Ok(o)
 }

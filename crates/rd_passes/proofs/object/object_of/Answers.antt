@@ -1,5 +1,4 @@
 use Rattle.data_place.specs.Placed.{first_contents}
-use Rattle.rd_passes.specs.Passed.{IsObjectOf}
 use Rattle.rd_passes.proofs.Choosing.{are_chosen}
 use Rattle.rd_passes.proofs.Suiting.{object_well_formed}
 use Rattle.rd_passes.proofs.object.object_of.Goals as goal
