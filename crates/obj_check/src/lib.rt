@@ -22,7 +22,7 @@ mod disassembly;
 pub mod fault;
 mod few;
 mod instr_at;
-mod known;
+pub mod known;
 pub mod law;
 mod marks;
 mod notes;

@@ -1,0 +1,11 @@
+pub mod OwnHomes
+pub mod Pointing
+pub mod Frames
+pub mod Fitting
+pub mod Containing
+pub mod Choosing
+pub mod Linking
+pub mod Counting
+pub mod Joining
+pub mod Suiting
+pub mod Programs
