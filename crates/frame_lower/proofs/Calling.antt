@@ -73,14 +73,14 @@ module _ (o : Object) (sel : Sel) (plan : Plan) (contents : List Content) (by : 
       (op : SelOp) (there : slice_get b.ops f.next ≡ Some op) (into : Option ℕ) (is_into : assigns_of op ≡ into)
       (g : ℕ) (is_callee : slice_get sel.functions g ≡ Some (function_in sel g)) (ns : List ℕ) (long : length ns ≡ length (function_in sel g).params) (small : AreSmall ns) (fit : length (drop 6 ns) ≤ (by f.function).words)
       (w1 : Words) (fl1 : Flags) (ss1 : List Segment) (same : Same w w1)
-          (tied1 : Tied (by f.function).homes f.base (by f.function).words (live f.function f.block f.next) f.registers (flat_in o sel plan contents by live suits input (f ∷ callers) bytes) w1 ss1)
+      (tied1 : Tied (by f.function).homes f.base (by f.function).words (live f.function f.block f.next) f.registers (flat_in o sel plan contents by live suits input (f ∷ callers) bytes) w1 ss1)
       (held : AreHeld w1 argument_registers ns) (stand : StandAt ss1 f.base (drop 6 ns)) (shape1 : SameShape ss ss1) (outside1 : (p : ℕ) → (p < f.base) ⊎ (f.base + 8 * length (drop 6 ns) ≤ p) → byte_at ss1 p ≡ byte_at ss p)
       (k : ℕ) (is_slot : k < length o.slots) (pushed : Written ss1 (f.base - 8) (le_bytes 8 (slot_start o k + 5)))
       (comes : Comes step 1 200 (standing (record { left = drop taken input; printed = printed; taken = taken }) (Place.Code f.function off) (core_of w fl ss))
-          (standing (record { left = drop taken input; printed = printed; taken = taken }) (Place.Code g 0) (core_of (record w1 { rsp = f.base - 8 }) fl1 pushed.segments)))
+      (standing (record { left = drop taken input; printed = printed; taken = taken }) (Place.Code g 0) (core_of (record w1 { rsp = f.base - 8 }) fl1 pushed.segments)))
       (offset : ℕ) (returns : (out : Outside) (core : Core) → step (standing out (Place.Slot k 5) core) ≡ standing out (Place.Code f.function offset) core)
       (stands2 : Stands (code_in sel by f.function) offset (all_unlinked (take_row (by f.function).homes into) ++ rest_in sel by f.function (offset + row_size (all_unlinked (take_row (by f.function).homes into))) f.block
-          (f.next + 1) b)) where
+      (f.next + 1) b)) where
     abbrev s : SelState
     s = state_of f callers bytes printed taken
 
@@ -180,13 +180,13 @@ module _ (o : Object) (sel : Sel) (plan : Plan) (contents : List Content) (by : 
           (six_held w1 w2 ns (record { rdi = refl; rsi = refl; rdx = refl; rcx = refl; r8 = refl; r9 = refl }) held)
           (subst (λ p. StandAt ss2 p (drop 6 ns)) e (stand_same ss1 ss2 (drop 6 ns) f.base (λ p from to. pushed.outside p (inr (omega (arith, from, e)))) stand))
           (λ ts shape outer.
-              contains_made f.base x.words lower y.words (lower + 8 * y.words) callee.frame f.base (spans_of o sel by globals_ live last_ (f ∷ callers)) bytes ss ts (stack_same stack_start stack_end ss2 ts shape stack2)
-                  (shape_trans ss ss2 ts (shape_trans ss ss1 ss2 shape1 pushed.shape) shape)
-              (omega (arith, r)) (omega arith) (omega (arith, e, rs)) (omega (arith, h)) (λ p i lo hi. (whole.off p i).0 lo (omega (arith, hi)))
-              (λ p i. elim (away p i) [
-                | inl lt ↦ outer p (inl (omega (arith, lt, r))) ∙ same2 p (inl (omega (arith, lt, r)))
-                | inr le ↦ outer p (inr (omega (arith, le, e))) ∙ same2 p (inr le)
-              ]) whole.tied.memory)
+          contains_made f.base x.words lower y.words (lower + 8 * y.words) callee.frame f.base (spans_of o sel by globals_ live last_ (f ∷ callers)) bytes ss ts (stack_same stack_start stack_end ss2 ts shape stack2)
+          (shape_trans ss ss2 ts (shape_trans ss ss1 ss2 shape1 pushed.shape) shape)
+          (omega (arith, r)) (omega arith) (omega (arith, e, rs)) (omega (arith, h)) (λ p i lo hi. (whole.off p i).0 lo (omega (arith, hi)))
+          (λ p i. elim (away p i) [
+            | inl lt ↦ outer p (inl (omega (arith, lt, r))) ∙ same2 p (inl (omega (arith, lt, r)))
+            | inr le ↦ outer p (inr (omega (arith, le, e))) ∙ same2 p (inr le)
+          ]) whole.tied.memory)
 
       abbrev ts : List Segment
       ts = beginning.segments
@@ -213,8 +213,7 @@ module _ (o : Object) (sel : Sel) (plan : Plan) (contents : List Content) (by : 
       waits =
           let e = base_is in
           let wd = wide in
-          let r = whole.room in
-          (
+          let r = whole.room in (
             record {
               back = Place.Slot k 5;
               way = landing;
@@ -235,9 +234,9 @@ module _ (o : Object) (sel : Sel) (plan : Plan) (contents : List Content) (by : 
             },
             whole.off,
             chain_moved o sel by globals_ live last_ callers ts f (suc d) f.block (f.next + 1) f.registers
-            (chain_same o sel by globals_ live last_ suits.five suits.homes callers ss ts f (suc d)
-              (λ q i. same3 q (let lo = reserved_low o sel by globals_ live last_ callers ss f depth q whole.chain i in omega (arith, lo, wd)))
-              (subst (λ m. Chain o sel by globals_ live last_ ss f m callers) deep whole.chain)),
+                (chain_same o sel by globals_ live last_ suits.five suits.homes callers ss ts f (suc d)
+                (λ q i. same3 q (let lo = reserved_low o sel by globals_ live last_ callers ss f depth q whole.chain i in omega (arith, lo, wd)))
+                (subst (λ m. Chain o sel by globals_ live last_ ss f m callers) deep whole.chain)),
           )
 
       off2 : IsOff o sel by globals_ live last_ new (z ∷ callers)
@@ -245,7 +244,7 @@ module _ (o : Object) (sel : Sel) (plan : Plan) (contents : List Content) (by : 
           let r = room2 in
           let rs = rooms in
           beside_new o sel by globals_ live last_ new f callers f.block (f.next + 1) callee.frame f.registers refl (omega (arith, rs)) base_is (omega (arith, r))
-              (λ q u. reserved_low o sel by globals_ live last_ (z ∷ callers) ts new d q waits u) whole.off
+          (λ q u. reserved_low o sel by globals_ live last_ (z ∷ callers) ts new d q waits u) whole.off
 
       whole2 : Tells new d (z ∷ callers) (live g 0 0) bytes2 beginning.words ts
       whole2 =

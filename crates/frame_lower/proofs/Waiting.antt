@@ -45,9 +45,9 @@ module _ (o : Object) (sel : Sel) (by : ℕ → Making) (globals : List Span) (l
   -- the memory of a new call lies in its frame, and that of the calls that wait lies where it did
   pub beside_new : (new f : SelFrame) (callers : List SelFrame) (k n size : ℕ) (registers : List (Option ℕ)) → let z = moved_to o sel by globals live last f k n registers in
       new.own ≡ span (new.base + 8 * (by new.function).words) size → new.base + 8 * (by new.function).words + size ≡ pushes_of o sel by globals live last new → f.base ≡ pushes_of o sel by globals live last new + 48 →
-          stack_start ≤ new.base →
+      stack_start ≤ new.base →
       ((q : ℕ) → Reserved o sel by globals live last (z ∷ callers) (pushes_of o sel by globals live last new) q → pushes_of o sel by globals live last new ≤ q) → IsOff o sel by globals live last f callers →
-          IsOff o sel by globals live last new (z ∷ callers)
+      IsOff o sel by globals live last new (z ∷ callers)
   beside_new new f callers k n size registers own high base low reserved off p i =
       let first = new.base + 8 * (by new.function).words in
       elim (one_more first size (spans_of o sel by globals live last (f ∷ callers)) p 1 (subst (λ (s : Span). is_inside p 1 (s ∷ spans_of o sel by globals live last (f ∷ callers)) ≡ true) own i)) [

@@ -94,12 +94,11 @@ module _ (fs : List Func) where
   slots_are first [] ends few each once = tt
   slots_are first (s ∷ ss) [] few each once = absurd (omega (arith, few))
   slots_are first (s ∷ ss) (e ∷ es) few each once =
-      let none : first + 0 ≡ first = omega arith in
-      (
+      let none : first + 0 ≡ first = omega arith in (
         slot_is first s e (each 0 e refl (omega arith) ∙ ap (λ k. later (ends_from k 0 fs) None) none) (λ site has. ap (λ k. length (ends_from k 0 fs)) (sym none) ∙ once 0 s site refl has),
         slots_are (suc first) ss es (omega (arith, few))
-          (λ i d there below. each (suc i) d there (omega (arith, below)) ∙ ap (λ k. later (ends_from k 0 fs) None) (let z : first + suc i ≡ suc first + i = omega arith in z))
-          (λ i t site there has. ap (λ k. length (ends_from k 0 fs)) (let z : suc first + i ≡ first + suc i = omega arith in z) ∙ once (suc i) t site there has),
+            (λ i d there below. each (suc i) d there (omega (arith, below)) ∙ ap (λ k. later (ends_from k 0 fs) None) (let z : first + suc i ≡ suc first + i = omega arith in z))
+            (λ i t site there has. ap (λ k. length (ends_from k 0 fs)) (let z : suc first + i ≡ first + suc i = omega arith in z) ∙ once (suc i) t site there has),
       )
 
 -- from what was noted
@@ -110,7 +109,7 @@ made_is fs planned ends are once =
     let long : length ends ≡ length planned = ap length are ∙ all_noted_long 0 fs (replicate (length planned) none) ∙ length-replicate (length planned) none in
     slots_are fs 0 planned ends (omega (arith, long))
     (λ i e there below. some_same e (later (ends_from (0 + i) 0 fs) None) (sym there ∙ ap (λ l. slice_get l i) are ∙ all_noted_at 0 i fs (replicate (length planned) none) None (none_at (length planned) i below)
-      ∙ ap (λ k. Some (later (ends_from k 0 fs) None)) (let z : i ≡ 0 + i = omega arith in z)))
+    ∙ ap (λ k. Some (later (ends_from k 0 fs) None)) (let z : i ≡ 0 + i = omega arith in z)))
     (λ i s site there has. ap (λ k. length (ends_from k 0 fs)) (let z : 0 + i ≡ i = omega arith in z) ∙ once i s site there has)
   where
     some_same : (a b : Option CodeAt) → let o : Option (Option CodeAt) = Some a in o ≡ Some b → a ≡ b

@@ -54,11 +54,7 @@ fn function(alloc: Global, from: &Func) -> Result<Func, NoMemory>
 }
 
 /// Adds copies of functions behind others.
-pub fn add_copies(
-    alloc: Global,
-    all: &mut List<Func>,
-    from: &[Func],
-) -> Result<(), NoMemory>
+pub fn add_copies(alloc: Global, all: &mut List<Func>, from: &[Func]) -> Result<(), NoMemory>
     ensures { OnOk result (all.new ≡ all.old ++ from.now) }
 {
     for f in from {

@@ -75,9 +75,9 @@ module _ (count : ℕ) where
       let rest = flat_map (λ (d : SelBlock). d.ops) bs in
       let before : ℕ = sum_by calls_at (take i here.ops) in
       let at : slice_get (calls_from count f n (c.ops ++ rest)) before ≡ Some (slot (n + before)) =
-          ap (λ (d : SelBlock). slice_get (calls_from count f n (d.ops ++ rest)) before) same
-          ∙ ap (λ l. slice_get l before) (calls_append count f n here.ops rest)
-          ∙ in_front (calls_from count f n here.ops) (calls_from count f (n + length (calls_from count f n here.ops)) rest) before (slot (n + before)) (op_slot f n here.ops i op slot there has) in
+      ap (λ (d : SelBlock). slice_get (calls_from count f n (d.ops ++ rest)) before) same
+      ∙ ap (λ l. slice_get l before) (calls_append count f n here.ops rest)
+      ∙ in_front (calls_from count f n here.ops) (calls_from count f (n + length (calls_from count f n here.ops)) rest) before (slot (n + before)) (op_slot f n here.ops i op slot there has) in
       let e : before ≡ 0 + before = omega arith in
       subst (λ k. slice_get (calls_from count f n (c.ops ++ rest)) k ≡ Some (slot (n + k))) e at
   block_slot f n (c ∷ bs) (suc b) here i op slot in_function there has =
@@ -106,9 +106,9 @@ module _ (count : ℕ) where
       let whole = all_calls_from count first (h ∷ fs) in
       let e : 0 + before ≡ before = omega arith in
       let at : slice_get whole before ≡ Some (slot before) =
-          ap (λ (d : SelFun). slice_get (calls_from count first 0 (ops_of d) ++ all_calls_from count (suc first) fs) before) same
-          ∙ in_front (calls_from count first 0 (ops_of fn)) (all_calls_from count (suc first) fs) before (slot before)
-            (ap (λ k. slice_get (calls_from count k 0 (ops_of fn)) before) (sym n) ∙ block_slot (first + 0) 0 fn.blocks b here i op slot in_function there has ∙ ap (λ k. Some (slot k)) e) in
+      ap (λ (d : SelFun). slice_get (calls_from count first 0 (ops_of d) ++ all_calls_from count (suc first) fs) before) same
+      ∙ in_front (calls_from count first 0 (ops_of fn)) (all_calls_from count (suc first) fs) before (slot before)
+      (ap (λ k. slice_get (calls_from count k 0 (ops_of fn)) before) (sym n) ∙ block_slot (first + 0) 0 fn.blocks b here i op slot in_function there has ∙ ap (λ k. Some (slot k)) e) in
       ap (slice_get whole) e ∙ at
   function_slot first (h ∷ fs) (suc g) fn b here i op slot in_program in_function there has =
       let front = calls_from count first 0 (ops_of h) in

@@ -67,7 +67,7 @@ module _ (sel : Sel) (slot_seed : ℕ) (p : SlotPlan) (shaped : IsSel sel) (plan
   jump_is f is =
       ap (λ l. slice_get l (place_of f)) plan.slots
       ∙ in_front (jumps_from 0 sel.taken) (all_calls_from (length sel.functions) 0 sel.functions ++ routine_slots (length sel.functions) sel.main) (takens (take f sel.taken)) (Slot0.Jump f)
-        (jump_at 0 sel.taken f is ∙ ap (λ n. Some (Slot0.Jump n)) (let e : 0 + f ≡ f = omega arith in e))
+      (jump_at 0 sel.taken f is ∙ ap (λ n. Some (Slot0.Jump n)) (let e : 0 + f ≡ f = omega arith in e))
 
   place_below : (f : ℕ) → slice_get sel.taken f ≡ Some true → place_of f < length p.positions
   place_below f is =
