@@ -1,3 +1,4 @@
+pub mod Own
+pub mod Passed
+pub mod Program
 pub mod Compiled
-pub mod NarrowCode
-pub mod Frame

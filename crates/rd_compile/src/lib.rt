@@ -1,17 +1,14 @@
 //! The compiler: modules in, objects out.
 //!
-//! `compile` takes a narrow module to the object whose functions are `main` and six more. Each result
-//! has a home of eight bytes in the frame of `main`; each instruction takes its operands to eax and
-//! ecx, and its result home:
-//!
-//!     %b = mul i32 %a, %a
-//!
-//! becomes two loads from the home of `%a`, `imul eax, ecx` and a store to the home of `%b`. What
-//! it means that an object is compiled from a module stands in `specs/Compiled.antt`.
+//! Phis and switches are taken out and operations selected, which makes a program of registers; slots
+//! are planned, data is placed, each register gets a word of its function's frame, functions are
+//! written, and an object is put together of them and of the routines. `specs/Program` and
+//! `specs/Passed` say what object that is, `specs/Own` has the homes and the names of registers, and
+//! `specs/Compiled` what it means that an object is compiled from a module. What is made here takes
+//! time and memory linear in the registers and functions.
 #![tactic(auto)]
 
-mod code;
-mod object;
-mod text;
-
-pub use text::compile;
+pub mod compile;
+pub mod homes;
+pub mod names;
+pub mod object;

@@ -1,130 +1,87 @@
-//! The object of a narrow program: its functions, and the slots between them.
+//! The object of a program of registers and of a module's data.
 
-ghost use Rattle.std.specs.Prelude.{◌≡◌, ◌≤◌, ◌<◌, ◌^◌, ◌-◌, ◌++◌, [], ◌∷◌, OnOk, IfOk, length};
-ghost use Rattle.obj_core.specs.Disassembly.{spelled};
-ghost use Rattle.rd_compile.specs.NarrowCode.{main_function, main_bytes, start_function, stub_function, narrow_object, IsFit};
+ghost use Rattle.std.specs.Prelude.{◌≡◌, IfOk};
+ghost use Rattle.low_core.specs.SelShaped.{IsSel};
+ghost use Rattle.obj_core.specs.WellFormed.{IsWellFormed};
+ghost use Rattle.obj_rows.specs.Assembled.{most_cuts, with_first_cuts, IsAssembled};
+ghost use Rattle.slot_plan.specs.Slots.{IsPlan};
+ghost use Rattle.rt_routines.specs.Code.{routines_of};
+ghost use Rattle.frame_lower.specs.Functions.{lowered};
+ghost use Rattle.frame_lower.specs.Given.{AreChosen};
+ghost use Rattle.rd_compile.specs.Passed.{choices_of, IsObjectOf};
 
-use crate::code::main_code_bytes;
-use ir_narrow::narrow::Narrow;
-use obj_core::object::{CodeAt, Func, FuncKind, Link, Object, Slot};
+use crate::homes::homes;
+use crate::names::names;
+use data_place::place;
+use frame_lower::lower::lower;
+use ir_core::valid::Valid;
+use low_core::sel::Sel;
+use obj_assemble::assemble;
+use obj_check::known::numbers_known;
+use obj_core::object::{Func, Object};
+use obj_core::plan::{Placing, SlotPlan};
 use rd_num::list::List;
 use rd_num::width::NoMemory;
+use rt_routines::routines;
+use slot_plan::plan;
 use std::alloc::Global;
-use x86_core::instr::Instr;
-use x86_encode::put;
 
-/// A function of one instruction.
-fn single(alloc: Global, instr: &Instr) -> Result<Func, NoMemory>
-    ensures { IfOk result (λ f. f ≡ record {
-      kind = FuncKind.Plain;
-      bytes = spelled (instr.now ∷ []);
-      links = [];
-      cuts = [];
-    }) }
-{
-    let mut bytes = List::new(alloc);
-    put(&mut bytes, instr)?;
-    Ok(Func {
-        kind: FuncKind::Plain,
-        bytes,
-        links: List::new(alloc),
-        cuts: List::new(alloc),
-    })
-}
-
-/// The function that goes to `main` by its slot.
-fn start(alloc: Global) -> Result<Func, NoMemory>
-    ensures { IfOk result (λ f. f ≡ start_function) }
-{
-    let mut bytes = List::new(alloc);
-    put(&mut bytes, &Instr::Jmp(0))?;
-    let mut links = List::new(alloc);
-    links.add(Link { at: 1, slot: 1 })?;
-    Ok(Func {
-        kind: FuncKind::Plain,
-        bytes,
-        links,
-        cuts: List::new(alloc),
-    })
-}
-
-/// `main`, from its bytes.
-fn main_of(alloc: Global, bytes: List<u8>) -> Result<Func, NoMemory>
-    requires long { 6 ≤ length bytes }
-    requires short { length bytes < 2 ^ 32 }
-    ensures { IfOk result (λ f. f ≡ record {
-      kind = FuncKind.Plain;
-      bytes = bytes;
-      links = record { at = length bytes - 6; slot = 2 } ∷ [];
-      cuts = [];
-    }) }
-{
-    let at = (bytes.len() - 6) as u32;
-    let mut links = List::new(alloc);
-    links.add(Link { at, slot: 2 })?;
-    Ok(Func {
-        kind: FuncKind::Plain,
-        bytes,
-        links,
-        cuts: List::new(alloc),
-    })
-}
-
-/// The slots: the entry, that of `main`, and the system call at the end of `main`.
-fn slots(alloc: Global, back: u32) -> Result<List<Slot>, NoMemory>
-    ensures { IfOk result (λ l. l ≡ Slot.Entry 1 ∷ Slot.Jump 0 ∷ Slot.System
-        (record { function = 0; offset = back }) ∷ []) }
-{
-    let mut all = List::new(alloc);
-    all.add(Slot::Entry { target: 1 })?;
-    all.add(Slot::Jump { target: 0 })?;
-    all.add(Slot::System {
-        back: CodeAt {
-            function: 0,
-            offset: back,
-        },
-    })?;
-    Ok(all)
-}
-
-/// The seven functions.
-fn functions(alloc: Global, main: Func) -> Result<List<Func>, NoMemory>
-    ensures { IfOk result (λ l. l ≡ main ∷ start_function ∷ stub_function ∷ stub_function ∷
-        stub_function ∷ stub_function ∷ stub_function ∷ []) }
-{
-    let mut all = List::new(alloc);
-    all.add(main)?;
-    let start = start(alloc)?;
-    all.add(start)?;
-    for _stub in 0..5u32 {
-        let stub = single(alloc, &Instr::Ud2)?;
-        all.add(stub)?;
-    }
-    Ok(all)
-}
-
-/// The object of a narrow program, with both seeds.
-#[tactic(auto, using(crate::proofs::Places::main_long))]
-pub fn narrow_object_of(
+/// The functions of a program, each register in a word of its own.
+fn functions_of(
     alloc: Global,
-    narrow: &Narrow,
+    sel: &Sel,
+    reg_seed: u64,
+    placing: &Placing,
+    slots: &SlotPlan,
+) -> Result<List<Func>, NoMemory>
+    requires { IsSel sel.now }
+    ensures { IfOk result (λ l. l ≡ with_first_cuts most_cuts
+        (lowered (choices_of sel.now reg_seed slots.now placing.now) sel.now)) }
+{
+    let homes = homes(alloc, sel)?;
+    let names = names(alloc, reg_seed, sel.functions.len() as u32)?;
+    lower(alloc, sel, &homes, reg_seed, &names, placing, slots)
+}
+
+/// An object of a program's functions, with the routines behind them.
+fn joined(
+    alloc: Global,
+    sel: &Sel,
+    functions: List<Func>,
+    slots: &SlotPlan,
+    placing: Placing,
     slot_seed: u64,
     reg_seed: u64,
 ) -> Result<Object, NoMemory>
-    requires { IsFit narrow.now }
-    ensures { IfOk result (λ o. o ≡ narrow_object slot_seed reg_seed narrow.now) }
+    requires chosen { AreChosen (choices_of sel.now reg_seed slots.now placing) sel.now slot_seed }
+    requires functions { functions ≡ with_first_cuts most_cuts
+        (lowered (choices_of sel.now reg_seed slots.now placing) sel.now) }
+    ensures { IfOk result (λ o. IsAssembled
+        (lowered (choices_of sel.now reg_seed slots.now placing) sel.now) (routines_of slots.now)
+        slots.now placing slot_seed reg_seed o) }
 {
-    let bytes = main_code_bytes(alloc, narrow)?;
-    let back = (bytes.len() - 2) as u32;
-    let main = main_of(alloc, bytes)?;
-    let functions = functions(alloc, main)?;
-    let slots = slots(alloc, back)?;
-    Ok(Object {
-        slot_seed,
-        reg_seed,
-        functions,
-        slots,
-        ro: List::new(alloc),
-        rw: List::new(alloc),
-    })
+    let routines = routines(alloc, slots)?;
+    assemble(
+        alloc, functions, &routines, slots, placing, slot_seed, reg_seed,
+    )
+}
+
+/// The object of a program of registers, with the data of a valid module.
+pub fn object_of(
+    alloc: Global,
+    valid: &Valid,
+    sel: &Sel,
+    slot_seed: u64,
+    reg_seed: u64,
+) -> Result<Object, NoMemory>
+    requires { IsSel sel.now }
+    ensures is { IfOk result (λ o. IsObjectOf valid.now.kept sel.now slot_seed reg_seed o) }
+    ensures well_formed { IfOk result IsWellFormed }
+{
+    let slots = plan(alloc, sel, slot_seed)?;
+    let placing = place(alloc, valid, &slots.pointers)?;
+    let functions = functions_of(alloc, sel, reg_seed, &placing, &slots)?;
+    let o = joined(alloc, sel, functions, &slots, placing, slot_seed, reg_seed)?;
+    numbers_known(&o);
+    Ok(o)
 }

@@ -22,7 +22,7 @@ use Rattle.rd_top.specs.declared.answer.Stop.TheVariants.{PageFault, NoForm, NoF
 use Rattle.rd_top.specs.declared.answer.Refusal.{Refusal}
 use Rattle.rd_top.specs.declared.answer.Refusal.TheVariants.{Module, Object, Image, Script}
 use Rattle.rd_top.specs.declared.answer.ModuleFault.{ModuleFault}
-use Rattle.rd_top.specs.declared.answer.ModuleFault.TheVariants.{Lex, Grammar, Unsupported, Doubled, Unknown, Limited, External, NoMain, BadType, Later}
+use Rattle.rd_top.specs.declared.answer.ModuleFault.TheVariants.{Lex, Grammar, Unsupported, Doubled, Unknown, Limited, External, NoMain, BadType}
 use Rattle.rd_top.specs.declared.answer.ObjectFault.{ObjectFault}
 use Rattle.rd_top.specs.declared.answer.ObjectFault.TheVariants.{Form, Shape}
 use Rattle.rd_top.specs.declared.answer.Answer.{Answer}
@@ -160,7 +160,6 @@ module_fault_text (Limited which count) = limit_word which ++ decimal count ++ 1
 module_fault_text (External name) = named_text (codes "external ") name
 module_fault_text NoMain = codes "no main\n"
 module_fault_text (BadType at) = type_text at
-module_fault_text Later = codes "later\n"
 
 abbrev pub refusal_text : Refusal → List ℕ
 refusal_text (Module fault) = module_fault_text fault

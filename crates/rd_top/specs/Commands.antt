@@ -7,7 +7,7 @@ use Rattle.rd_top.specs.declared.answer.Answer.{Answer}
 use Rattle.rd_top.specs.declared.answer.Answer.TheVariants.{Words, Valid}
 use Rattle.rd_top.specs.Certifying.{Certified}
 use Rattle.rd_top.specs.Files.{OfFile}
-use Rattle.rd_top.specs.Kinds.{module_text, narrow_text, object_file, image_file, script_file}
+use Rattle.rd_top.specs.Kinds.{module_text, object_file, image_file, script_file}
 use Rattle.rd_top.specs.Puts.{Writes}
 use Rattle.rd_top.specs.Courses.{AnyInput, Streams}
 use Rattle.rd_top.specs.Reports.{Reports}
@@ -32,11 +32,11 @@ Prints file files files2 out out2 a = OfFile module_text file files files2 (out2
 
 abbrev pub Compiles : List ℕ → ℕ → ℕ → FilesTold → FilesTold → SinkTold → SinkTold → Answer → Type 0
 Compiles file slot_seed reg_seed files files2 out out2 a =
-    OfFile narrow_text file files files2 (out2 ≡ out) (λ m. Writes (IsObjectFor m slot_seed reg_seed) out out2 a) a
+    OfFile module_text file files files2 (out2 ≡ out) (λ v. Writes (IsObjectFor v.kept slot_seed reg_seed) out out2 a) a
 
 abbrev pub Builds : List ℕ → ℕ → ℕ → ℕ → FilesTold → FilesTold → SinkTold → SinkTold → Answer → Type 0
 Builds file slot_seed reg_seed layout_seed files files2 out out2 a =
-    OfFile narrow_text file files files2 (out2 ≡ out) (λ m. Writes (IsImageFor m slot_seed reg_seed layout_seed) out out2 a) a
+    OfFile module_text file files files2 (out2 ≡ out) (λ v. Writes (IsImageFor v.kept slot_seed reg_seed layout_seed) out out2 a) a
 
 abbrev pub Lays : List ℕ → ℕ → FilesTold → FilesTold → SinkTold → SinkTold → Answer → Type 0
 Lays file layout_seed files files2 out out2 a =

@@ -1,8 +1,6 @@
 -- The kinds of files: modules' texts, objects, images and scripts.
 use Rattle.std.specs.Prelude.{◌≡◌, ℕ, List, length, Some}
 use Rattle.x86_core.specs.declared.image.Image.{Image}
-use Rattle.ir_narrow.specs.declared.narrow.Narrow.{Narrow}
-use Rattle.ir_narrow.specs.Resolved.{Narrows, IsWide}
 use Rattle.ir_core.specs.declared.module.Module.{Module}
 use Rattle.ir_core.specs.declared.valid.Valid.{Valid}
 use Rattle.ir_core.specs.Refusals.{Fault, IsValid, first_fault}
@@ -30,7 +28,7 @@ use Rattle.rd_top.specs.declared.answer.Answer.{Answer}
 use Rattle.rd_top.specs.declared.answer.Answer.TheVariants.{Refused, Memory}
 use Rattle.rd_top.specs.declared.answer.Refusal.{Refusal}
 use Rattle.rd_top.specs.declared.answer.Refusal.TheVariants as refusal
-use Rattle.rd_top.specs.declared.answer.ModuleFault.TheVariants.{Lex, Grammar, Unsupported, Doubled, Unknown, Limited, External, NoMain, BadType, Later}
+use Rattle.rd_top.specs.declared.answer.ModuleFault.TheVariants.{Lex, Grammar, Unsupported, Doubled, Unknown, Limited, External, NoMain, BadType}
 use Rattle.rd_top.specs.declared.answer.ObjectFault.TheVariants.{Form, Shape}
 use Rattle.rd_top.specs.Files.{Kind}
 
@@ -38,13 +36,6 @@ use Rattle.rd_top.specs.Files.{Kind}
 pub record SpellsValid (text : List ℕ) (v : Valid) : Type 0 where
   pub text_of : IsTextOf text v.kept
   pub valid : IsValid v.kept
-
--- the text is that of a valid module that is narrow, and these are its instructions
-pub record SpellsNarrow (text : List ℕ) (n : Narrow) : Type 0 where
-  pub whole : Module
-  pub text_of : IsTextOf text whole
-  pub valid : IsValid whole
-  pub narrows : Narrows whole n
 
 -- the text has tokens, and they are no module's
 pub record HasNoModule (text : List ℕ) (fault : ParseFault) : Type 0 where
@@ -57,13 +48,6 @@ pub record IsOfInvalid (text : List ℕ) (fault : Fault) : Type 0 where
   pub whole : Module
   pub text_of : IsTextOf text whole
   pub first : first_fault whole ≡ Some fault
-
--- the text is that of a valid module that isn't compiled today
-pub record IsOfLater (text : List ℕ) : Type 0 where
-  pub whole : Module
-  pub text_of : IsTextOf text whole
-  pub valid : IsValid whole
-  pub wide : IsWide whole
 
 -- why a text is that of no valid module
 abbrev pub RefusesModule : List ℕ → Refusal → Type 0
@@ -88,18 +72,9 @@ answer_to CheckFault.NoMain = Refused (refusal.Module NoMain)
 answer_to (CheckFault.BadType spot) = Refused (refusal.Module (BadType spot))
 answer_to CheckFault.NoMemory = Memory
 
--- why a text is that of no module that is compiled
-abbrev pub RefusesNarrow : List ℕ → Refusal → Type 0
-RefusesNarrow text (refusal.Module Later) = IsOfLater text
-RefusesNarrow text other = RefusesModule text other
-
 -- a module's text, at most 8 MiB
 abbrev pub module_text : Kind Valid
 module_text = record { limit = 8388608; Spells = SpellsValid; Refuses = RefusesModule }
-
--- the text of a module that is compiled
-abbrev pub narrow_text : Kind Narrow
-narrow_text = record { limit = 8388608; Spells = SpellsNarrow; Refuses = RefusesNarrow }
 
 -- bytes are a file of this object, in either format
 pub record AreObject (bytes : List ℕ) (o : Object) : Type 0 where

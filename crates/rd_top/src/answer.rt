@@ -105,8 +105,6 @@ pub enum ModuleFault {
     NoMain,
     /// The first place where a rule of types fails.
     BadType(Spot),
-    /// The module is for a later version.
-    Later,
 }
 
 /// What is wrong with an object.

@@ -13,7 +13,6 @@ use crate::put::put_whole;
 use crate::report::{put_report, reported, seen_after};
 use crate::stream::stream;
 use ir_core::valid::Valid;
-use ir_narrow::narrow::Narrow;
 use obj_core::checked::Checked;
 use rd_io::{Files, Sink, Source};
 use std::alloc::Global;
@@ -68,11 +67,11 @@ pub fn compile_file<F: Files, O: Sink>(
     ensures files { KeepsFiles (F.told files.old) (F.told files.new) result }
     ensures out { KeepsOut (O.told out.old) (O.told out.new) result }
 {
-    let module: Narrow = match read_file(alloc, file, files) {
-        Ok(module) => module,
+    let valid: Valid = match read_file(alloc, file, files) {
+        Ok(valid) => valid,
         Err(answer) => return answer,
     };
-    match object_bytes(alloc, &module, slot_seed, reg_seed) {
+    match object_bytes(alloc, &valid, slot_seed, reg_seed) {
         Ok(bytes) => put_whole(&bytes, out),
         Err(_) => Answer::Memory,
     }
@@ -93,11 +92,11 @@ pub fn build_file<F: Files, O: Sink>(
     ensures files { KeepsFiles (F.told files.old) (F.told files.new) result }
     ensures out { KeepsOut (O.told out.old) (O.told out.new) result }
 {
-    let module: Narrow = match read_file(alloc, file, files) {
-        Ok(module) => module,
+    let valid: Valid = match read_file(alloc, file, files) {
+        Ok(valid) => valid,
         Err(answer) => return answer,
     };
-    match image_bytes(alloc, &module, slot_seed, reg_seed, layout_seed) {
+    match image_bytes(alloc, &valid, slot_seed, reg_seed, layout_seed) {
         Ok(bytes) => put_whole(&bytes, out),
         Err(_) => Answer::Memory,
     }

@@ -5,7 +5,7 @@
 ghost use Rattle.std.specs.Prelude.{◌≡◌, ◌≤◌, IfOk, IfErr, length};
 ghost use Rattle.ir_core.specs.Built.{IsBuilt};
 ghost use Rattle.ir_print.specs.ReadsBack.{ReadsBack};
-ghost use Rattle.rd_top.specs.Kinds.{SpellsValid, answer_to, module_text, narrow_text, object_file, image_file, script_file};
+ghost use Rattle.rd_top.specs.Kinds.{SpellsValid, answer_to, module_text, object_file, image_file, script_file};
 ghost use Rattle.rd_top.specs.Files.{Unread};
 ghost use Rattle.rd_top.specs.declared.answer.Answer.TheVariants.{Refused};
 ghost use Rattle.rd_top.specs.declared.answer.Refusal.TheVariants.{Module as OfModule};
@@ -17,8 +17,6 @@ use ir_check::{CheckFault, check as check_module};
 use ir_core::module::Module;
 use ir_core::valid::Valid;
 use ir_lex::{LexFault, lex};
-use ir_narrow::narrow::{Narrow, NarrowFault};
-use ir_narrow::narrow_of;
 use ir_parse::parse::{ParseFault, parse};
 use obj_check::check;
 use obj_check::fault::ShapeFault;
@@ -107,23 +105,6 @@ impl FileKind for Valid {
 
     fn parse(alloc: Global, bytes: &[u8]) -> Result<Valid, Answer> {
         valid_of(alloc, bytes)
-    }
-}
-
-impl FileKind for Narrow {
-    ghost kind = { narrow_text };
-
-    fn limit() -> u64 {
-        TEXT_LIMIT
-    }
-
-    fn parse(alloc: Global, bytes: &[u8]) -> Result<Narrow, Answer> {
-        let valid = valid_of(alloc, bytes)?;
-        match narrow_of(alloc, valid.module()) {
-            Ok(narrow) => Ok(narrow),
-            Err(NarrowFault::NotNarrow) => Err(refused(ModuleFault::Later)),
-            Err(NarrowFault::NoMemory) => Err(Answer::Memory),
-        }
     }
 }
 

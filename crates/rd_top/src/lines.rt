@@ -181,7 +181,6 @@ fn module_line(alloc: Global, fault: &ModuleFault) -> Result<List<u8>, NoMemory>
         ModuleFault::External(name) => named(alloc, b"external ", name),
         ModuleFault::NoMain => copy_list(alloc, b"no main\n"),
         ModuleFault::BadType(spot) => type_line(alloc, *spot),
-        ModuleFault::Later => copy_list(alloc, b"later\n"),
     }
 }
 

@@ -8,15 +8,13 @@
 //! the bytes are stands in `specs/Making.antt`.
 
 ghost use Rattle.std.specs.Prelude.{IfOk};
-ghost use Rattle.ir_narrow.specs.Resolved.{IsOfProgram};
 ghost use Rattle.rd_top.specs.Making.{IsImageFor, IsLaid, IsObjectFor, IsPrinted};
 
 use ir_core::valid::Valid;
-use ir_narrow::narrow::Narrow;
 use ir_print::print;
 use obj_core::checked::Checked;
 use obj_lay::lay;
-use rd_compile::compile;
+use rd_compile::compile::compile;
 use rd_num::list::List;
 use rd_num::width::NoMemory;
 use std::alloc::Global;
@@ -32,14 +30,13 @@ pub fn printed_bytes(alloc: Global, valid: &Valid) -> Result<List<u8>, NoMemory>
 /// The bytes of a module's object.
 pub fn object_bytes(
     alloc: Global,
-    module: &Narrow,
+    valid: &Valid,
     slot_seed: u64,
     reg_seed: u64,
 ) -> Result<List<u8>, NoMemory>
-    requires { IsOfProgram «module».now }
-    ensures { IfOk result (IsObjectFor «module».now slot_seed reg_seed) }
+    ensures { IfOk result (IsObjectFor valid.now.kept slot_seed reg_seed) }
 {
-    let checked = compile(alloc, module, slot_seed, reg_seed)?;
+    let checked = compile(alloc, valid, slot_seed, reg_seed)?;
     let bytes = obj_file::write::write(alloc, checked.object())?;
     Ok(bytes)
 }
@@ -47,15 +44,14 @@ pub fn object_bytes(
 /// The bytes of the image of a module's object.
 pub fn image_bytes(
     alloc: Global,
-    module: &Narrow,
+    valid: &Valid,
     slot_seed: u64,
     reg_seed: u64,
     layout_seed: u64,
 ) -> Result<List<u8>, NoMemory>
-    requires { IsOfProgram «module».now }
-    ensures { IfOk result (IsImageFor «module».now slot_seed reg_seed layout_seed) }
+    ensures { IfOk result (IsImageFor valid.now.kept slot_seed reg_seed layout_seed) }
 {
-    let checked = compile(alloc, module, slot_seed, reg_seed)?;
+    let checked = compile(alloc, valid, slot_seed, reg_seed)?;
     let bytes = laid_bytes(alloc, &checked, layout_seed)?;
     Ok(bytes)
 }

@@ -1,5 +1,0 @@
-pub mod Words
-mod Kept
-mod Rows
-mod Exact
-mod Worked

@@ -1,4 +1,0 @@
-pub mod Values
-pub mod NarrowModule
-pub mod Resolved
-pub mod Reading

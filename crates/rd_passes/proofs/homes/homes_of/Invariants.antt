@@ -1,7 +1,0 @@
-use Rattle.std.proofs.Common.{◌≡◌, take}
-use Rattle.rd_passes.specs.Own.{own_homes}
-use Rattle.rd_passes.proofs.homes.homes_of.Given as goal
-
--- those of the functions so far
-abbrev pub invariant-loop-f : goal.invariant-loop-f
-invariant-loop-f l = l.all ≡ own_homes (take l.f-index l.functions)

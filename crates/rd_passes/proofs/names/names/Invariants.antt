@@ -1,7 +1,0 @@
-use Rattle.std.proofs.Common.{◌≡◌}
-use Rattle.rd_passes.specs.Own.{drawn_names}
-use Rattle.rd_passes.proofs.names.names.Given as goal
-
--- those of the functions so far
-abbrev pub invariant-loop-n : goal.invariant-loop-n
-invariant-loop-n l = l.all ≡ drawn_names l.reg_seed l.n
