@@ -1,4 +1,5 @@
-//! Modules taken by their meaning: worked rows, one for each way in which a run can stand.
+//! Modules taken by their meaning, and the images that are built of them: worked rows, one for each
+//! way in which a run can stand.
 
 use rd_io::memory::{File, MemFiles, MemSink, MemSource};
 use rd_io::sure::SureSink;
@@ -244,10 +245,9 @@ fn one_file(alloc: Global, content: &[u8]) -> Result<List<File>, NoMemory> {
     Ok(files)
 }
 
-/// The words that ask for so many steps of the file `m`.
-fn asking(alloc: Global, steps: &str) -> Result<Vec<String>, AllocError> {
+fn all_words(alloc: Global, words: &[&str]) -> Result<Vec<String>, AllocError> {
     let mut all = Vec::new(alloc);
-    for word in ["eval", "m", "--steps", steps] {
+    for word in words {
         let mut one = String::new(alloc);
         one.push_str(word)?;
         all.push(one)?;
@@ -255,17 +255,18 @@ fn asking(alloc: Global, steps: &str) -> Result<Vec<String>, AllocError> {
     Ok(all)
 }
 
-/// Whether a run of the file `m` prints this and ends with this line and its status, where these
-/// calls of the input and the output fail.
+/// Whether a run of the file `m` by this command prints this and ends with this line and its
+/// status, where these calls of the input and the output fail.
 fn stands(
     alloc: Global,
+    command: &str,
     steps: &str,
     files: List<File>,
     input: &mut MemSource,
     out: &mut MemSink,
     line: &[u8],
 ) -> Result<bool, Fail> {
-    let words = asking(alloc, steps)?;
+    let words = all_words(alloc, &[command, "m", "--steps", steps])?;
     let mut files = MemFiles::new(files, List::new(alloc));
     let mut err = SureSink::new(alloc);
     let status = top(alloc, words.as_slice(), &mut files, input, out, &mut err);
@@ -279,15 +280,100 @@ fn modules_stand_so(rt: HostRuntime) -> Result<(), Fail> {
         let mut input = MemSource::new(List::new(alloc), List::new(alloc));
         let mut out = MemSink::new(alloc, List::new(alloc));
         let files = one_file(alloc, text)?;
-        assert!(rt; stands(alloc, MANY, files, &mut input, &mut out, line)?);
+        assert!(rt; stands(alloc, "eval", MANY, files, &mut input, &mut out, line)?);
         assert!(rt; out.bytes().is_empty());
     }
     for (text, steps, given, printed, line) in EXCHANGES {
         let mut input = MemSource::new(copy_list(alloc, given)?, List::new(alloc));
         let mut out = MemSink::new(alloc, List::new(alloc));
         let files = one_file(alloc, text)?;
-        assert!(rt; stands(alloc, steps, files, &mut input, &mut out, line)?);
+        assert!(rt; stands(alloc, "eval", steps, files, &mut input, &mut out, line)?);
         assert!(rt; out.bytes().as_slice() == printed);
+    }
+    Ok(())
+}
+
+/// The line of an image whose module has this one; none where the meaning leaves the run open, or
+/// where the run goes on.
+fn line_of_image<'a>(line: &'a [u8]) -> Option<&'a [u8]> {
+    if line == b"trapped depth\n".as_slice() {
+        return Some(b"trapped breakpoint\n");
+    }
+    if line == b"trapped trap\n".as_slice() {
+        return Some(b"trapped invalid\n");
+    }
+    match line {
+        [b'l' | b'g', ..] => None,
+        _ => Some(line),
+    }
+}
+
+/// Seeds of slots, of registers and of the layout.
+const SEEDS: [[&str; 3]; 2] = [["1", "2", "3"], ["7", "8", "18446744073709551615"]];
+
+/// The image of a module, empty where none is made.
+fn image_of(alloc: Global, text: &[u8], seeds: [&str; 3]) -> Result<List<u8>, Fail> {
+    let [slot_seed, reg_seed, layout_seed] = seeds;
+    let asked = [
+        "build",
+        "m",
+        "--slot-seed",
+        slot_seed,
+        "--reg-seed",
+        reg_seed,
+        "--layout-seed",
+        layout_seed,
+    ];
+    let words = all_words(alloc, &asked)?;
+    let mut files = MemFiles::new(one_file(alloc, text)?, List::new(alloc));
+    let mut input = MemSource::new(List::new(alloc), List::new(alloc));
+    let mut out = SureSink::new(alloc);
+    let mut err = SureSink::new(alloc);
+    top(
+        alloc,
+        words.as_slice(),
+        &mut files,
+        &mut input,
+        &mut out,
+        &mut err,
+    );
+    let image = copy_list(alloc, out.bytes().as_slice())?;
+    Ok(image)
+}
+
+/// Whether the images of a module print and end as its meaning does.
+fn images_stand(
+    alloc: Global,
+    text: &[u8],
+    given: &[u8],
+    printed: &[u8],
+    line: &[u8],
+) -> Result<bool, Fail> {
+    for seeds in SEEDS {
+        let image = image_of(alloc, text, seeds)?;
+        let mut input = MemSource::new(copy_list(alloc, given)?, List::new(alloc));
+        let mut out = MemSink::new(alloc, List::new(alloc));
+        let files = one_file(alloc, image.as_slice())?;
+        let well = stands(alloc, "run", MANY, files, &mut input, &mut out, line)?;
+        if !well || out.bytes().as_slice() != printed {
+            return Ok(false);
+        }
+    }
+    Ok(true)
+}
+
+#[test]
+fn images_do_what_modules_mean(rt: HostRuntime) -> Result<(), Fail> {
+    let alloc = rt.alloc();
+    for (text, line) in LINES {
+        if let Some(line) = line_of_image(line) {
+            assert!(rt; images_stand(alloc, text, b"", b"", line)?);
+        }
+    }
+    for (text, _, given, printed, line) in EXCHANGES {
+        if let Some(line) = line_of_image(line) {
+            assert!(rt; images_stand(alloc, text, given, printed, line)?);
+        }
     }
     Ok(())
 }
@@ -309,14 +395,14 @@ fn a_run_whose_outside_fails_stands_before_that_step(rt: HostRuntime) -> Result<
     let mut input = MemSource::new(List::new(alloc), List::new(alloc));
     let mut out = MemSink::new(alloc, third);
     let files = one_file(alloc, PRINTS)?;
-    assert!(rt; stands(alloc, MANY, files, &mut input, &mut out, b"out\n")?);
+    assert!(rt; stands(alloc, "eval", MANY, files, &mut input, &mut out, b"out\n")?);
     assert!(rt; out.bytes().as_slice() == b"Hi".as_slice());
     let mut first = List::new(alloc);
     first.add(1)?;
     let mut input = MemSource::new(List::new(alloc), first);
     let mut out = MemSink::new(alloc, List::new(alloc));
     let files = one_file(alloc, TAKES)?;
-    assert!(rt; stands(alloc, MANY, files, &mut input, &mut out, b"input\n")?);
+    assert!(rt; stands(alloc, "eval", MANY, files, &mut input, &mut out, b"input\n")?);
     assert!(rt; out.bytes().is_empty());
     Ok(())
 }
