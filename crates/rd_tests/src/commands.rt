@@ -309,7 +309,7 @@ fn rows_of(alloc: Global, count: u64) -> Result<String, AllocError> {
 #[test]
 fn as_many_instructions_and_bytes_as_fit(rt: HostRuntime) -> Result<(), Fail> {
     let alloc = rt.alloc();
-    for (count, want) in [(4000, 0), (4001, 4)] {
+    for (count, want) in [(4080, 0), (4081, 4)] {
         let text = rows_of(alloc, count)?;
         let (status, _) = ends_surely(alloc, ASKED, text.as_bytes())?;
         assert_eq!(rt; status, want);
