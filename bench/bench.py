@@ -90,16 +90,25 @@ class Bench:
         self.row("compile, 4,000 instructions less what 1 costs", many - start, "1,000 instructions", few - start)
         copy = self.seconds(["cp", texts[4000], os.path.join(self.work, "copy")])
         self.row("compile, 4,000 instructions", many, "copying the text", copy)
-        self.against_llc(texts[4000], many)
+        self.against_llc(texts[4000], many, "4,000 instructions")
         start, few, many = (self.seconds([PROGRAM, "lay", objects[n], "--layout-seed", "3"]) for n in (1, 1000, 4000))
         self.row("lay, the object of 4,000 instructions less that of 1", many - start, "that of 1,000", few - start)
 
-    def against_llc(self, text, ours):
-        if shutil.which("llc") is None:
+    def whole_modules(self):
+        """Modules with every kind of type, value and instruction that compilers write often."""
+        texts = {n: self.file(f"functions-{n}.ll", reading.module(n)) for n in (1, 64, 256)}
+        start, few, many = (self.seconds([PROGRAM, "compile", texts[n], *SEEDS], 5) for n in (1, 64, 256))
+        self.row("compile, 256 functions less one", many - start, "64", few - start)
+        checked = self.seconds([PROGRAM, "check", texts[256]], 5)
+        self.row("compile, 256 functions", many, "checking them", checked)
+        self.against_llc(texts[256], many, "256 functions", "-opaque-pointers")
+
+    def against_llc(self, text, ours, what, *more):
+        words = ["llc", "-O0", *more, "-filetype=obj", "-o", os.path.join(self.work, "llc.o"), text]
+        if shutil.which("llc") is None or subprocess.run(words, stderr=subprocess.DEVNULL, check=False).returncode:
             print("left out: llc")
             return
-        theirs = self.seconds(["llc", "-O0", "-filetype=obj", "-o", os.path.join(self.work, "llc.o"), text], 10)
-        self.row("compile, 4,000 instructions", ours, "llc -O0", theirs)
+        self.row(f"compile, {what}", ours, "llc -O0", self.seconds(words, 10))
 
     def big_objects(self):
         size = 4 << 20
@@ -146,6 +155,7 @@ def main():
     with tempfile.TemporaryDirectory() as work:
         bench = Bench(work, int(sys.argv[1]) if len(sys.argv) > 1 else 100)
         bench.compile_and_lay()
+        bench.whole_modules()
         bench.big_objects()
         bench.machine()
     print()

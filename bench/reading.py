@@ -1,8 +1,8 @@
 """A part of bench.py: what reading the text of a module costs, as growth from n to 4n and as ratios to other programs of one run.
 
 The modules are generated, with every kind of type, value and instruction that compilers write often. `check` reads them whole and
-says that they are valid; where it isn't there, `compile` does, which says `later` of modules that it doesn't compile. Costs are the
-least processor time of several runs; memory is the most that the process held, less what it holds for one function.
+says that they are valid. Costs are the least processor time of several runs; memory is the most that the process held, less what it
+holds for one function.
 """
 
 import os
@@ -79,14 +79,6 @@ def spent(words, runs):
     return least, used.ru_maxrss * 1024, said
 
 
-def reader(path):
-    """The words that have a module read whole, and what is said of it."""
-    check = [PROGRAM, "check"]
-    if spent([*check, path], 1)[2] == "valid":
-        return check, "valid"
-    return [PROGRAM, "compile", "--slot-seed", "1", "--reg-seed", "2"], "later"
-
-
 def others(path, work):
     """Programs that read the same text."""
     yield "copying the file", ["cp", path, os.path.join(work, "copy")]
@@ -111,7 +103,7 @@ def main(runs=5):
             paths[count] = os.path.join(work, f"{count}.ll")
             with open(paths[count], "wb") as file:
                 file.write(module(count))
-        words, wanted = reader(paths[1])
+        words, wanted = [PROGRAM, "check"], "valid"
         costs = {count: spent([*words, path], runs) for count, path in paths.items()}
         for count, (_, _, said) in costs.items():
             if said != wanted:
