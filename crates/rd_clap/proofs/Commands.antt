@@ -1,7 +1,7 @@
 -- Commands that are built are those that are meant.
-use Rattle.std.proofs.Common.{◌≡◌, ◌||◌, false, refl, sym, ◌∙◌, ap, ap₂}
+use Rattle.std.proofs.Common.{◌≡◌, ◌||◌, false, ◌∙◌, ap, ap₂}
 use Rattle.clap.specs.Built.{AddsArg, AddsSubcommand}
-use Rattle.clap.specs.Simple.{App, app_of, with_rule, with_subcommand}
+use Rattle.clap.specs.Simple.{App, with_rule, with_subcommand}
 use Rattle.clap.specs.Walk.{Rule, rule_of}
 use Rattle.clap.specs.declared.builder.arg.Arg.{Arg}
 use Rattle.clap.specs.declared.builder.command.Command.{Command}

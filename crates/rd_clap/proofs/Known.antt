@@ -134,3 +134,24 @@ line_is_known s words command name wanted l same_length apart known =
     let count = l.no_more in
     let none : strange (options wanted) l.args ≡ 0 = omega (arith, one, all, most, count, same_length) in
     known_all s (options wanted) l.args known none
+
+no_files : (args : List Argument) → length (files args) ≡ 0 → files args ≡ []
+no_files args h = by (files args) refl h
+  where
+    by : (fs : List Text) → files args ≡ fs → length fs ≡ 0 → files args ≡ []
+    by [] e k = e
+    by (f ∷ fs) e k = absurd (omega (arith, k))
+
+-- the arguments of a line with these options alone: known options, and no file
+pub record AreBare (s : Shape) (args : List Argument) : Type 0 where
+  pub known : AllKnown s args
+  pub none : files args ≡ []
+
+pub line_is_bare : (s : Shape) (words : List Text) (command : Text) (wanted : List Argument) → (l : IsLine words command wanted) → length wanted ≡ length (options wanted) → AreApart (options wanted) → KnownOptions s (options wanted) → AreBare s l.args
+line_is_bare s words command wanted l same_length apart known =
+    let all = total_is l.args wanted l.each_once in
+    let most = bound (options wanted) apart l.args in
+    let count = l.no_more in
+    let strangers : strange (options wanted) l.args ≡ 0 = omega (arith, all, most, count, same_length) in
+    let one : length (files l.args) ≡ 0 = omega (arith, all, most, count, same_length) in
+    record { known = known_all s (options wanted) l.args known strangers; none = no_files l.args one }

@@ -1,23 +1,24 @@
 -- The values that the parser finds are those that the arguments have.
-use Rattle.std.proofs.Common.{◌≡◌, ℕ, ◌&&◌, Bool, true, false, List, [], ◌∷◌, ◌++◌, length, Option, Some, None, refl, sym, ◌∙◌, ap, ap₂, subst, inl, inr, codes}
-use Rattle.std.specs.Prelude.{if◌then◌else◌, cond, find, fold, is_some, option_and_then, option_map, slice_get}
+use Rattle.std.proofs.Common.{◌≡◌, ℕ, ◌&&◌, Bool, true, false, List, [], ◌∷◌, ◌++◌, length, Option, Some, None, refl, sym, ◌∙◌, ap, ap₂, subst, inl, inr, codes, arith}
+use Rattle.std.specs.Prelude.{if◌then◌else◌, nat_le, cond, find, fold, is_some, option_and_then, option_map, slice_get}
 use Rattle.std.specs.Cmp.Lexicographic.{same_text}
 use Rattle.std.specs.List.{list_all}
 use Rattle.std.specs.Str.{bytes_eq}
+use Rattle.std.proofs.lemmas.Bool.Decides.{nat_tests}
 use Rattle.clap.proofs.SimpleLemmas.{is_nil}
 use Rattle.clap.proofs.WalkLemmas.{both}
-use Rattle.clap.specs.Simple.{App, Shape, built, entered, label_of, rows_at, subcommand_of}
-use Rattle.clap.specs.Walk.{Text, Row, Rule, Held, Walk, arg_by_id, answers_to, at_row, default_rows, finished, first_of, has_row, is_empty, more_values, nothing_held, reading_by, stronger, settled, walk_from, walked, with_default}
+use Rattle.clap.specs.Simple.{Shape, built, entered, rows_at, subcommand_of}
+use Rattle.clap.specs.Walk.{Text, Row, Rule, Walk, arg_by_id, at_row, default_rows, finished, first_of, has_row, is_empty, more_values, nothing_held, reading_by, stronger, settled, with_default}
 use Rattle.clap.specs.declared.parser.matches.ValueSource.TheVariants.{CommandLine}
-use Rattle.rd_words.specs.Arguments.{Argument, File, Given, AllGiven, AreArguments, IsLine, files, same, values, with_value}
-use Rattle.rd_words.specs.Read.{ask, ask_file, if_number, with_file, with_one, with_three, with_two}
-use Rattle.rd_words.specs.Words.{Reading, Compile, Build, Lay, Run, Show, Eval, Watch, Check, Print, Certify, IsReading, number_of}
-use Rattle.rd_clap.specs.Found.{command_in, found_in}
+use Rattle.rd_words.specs.Arguments.{Argument, File, Given, AreArguments, IsLine, files, same, values, with_value}
+use Rattle.rd_words.specs.Read.{ask, ask_file, ask_workload, if_number, with_file, with_one, with_three, with_two}
+use Rattle.rd_words.specs.Words.{Reading, Compile, Build, Lay, Run, Show, Eval, Watch, Check, Print, Certify, Gen, IsReading, IsWorkload}
+use Rattle.rd_clap.specs.Found.{found_in}
 use Rattle.rd_clap.specs.Program.{program_app}
-use Rattle.rd_clap.proofs.Known.{AreApart, KnownOptions, line_is_known, none_apart, options}
+use Rattle.rd_clap.proofs.Known.{AreApart, KnownOptions, line_is_bare, line_is_known, none_apart, options}
 use Rattle.rd_clap.proofs.Turns.{between, same_self, single}
 use Rattle.rd_clap.proofs.Walks.{AllKnown, HasFile, IsKnown, Walks, args_walk, file_id, name_of, with_argument, with_arguments}
-use Rattle.rd_clap.proofs.Whole.{IsCommandOf, walk_stops, build_apart, build_is, build_options, certify_is, check_is, compile_apart, compile_is, compile_options, lay_apart, lay_is, lay_options, print_is, run_apart, run_is, run_options, show_apart, show_is, show_options, eval_apart, eval_is, eval_options, watch_apart, watch_is, watch_options}
+use Rattle.rd_clap.proofs.Whole.{IsCommandOf, walk_stops, build_apart, build_is, build_options, certify_is, check_is, compile_apart, compile_is, compile_options, gen_apart, gen_is, gen_options, lay_apart, lay_is, lay_options, print_is, run_apart, run_is, run_options, show_apart, show_is, show_options, eval_apart, eval_is, eval_options, watch_apart, watch_is, watch_options}
 
 row_in : Text → List Row → Option Row
 row_in i rows = find (λ r. bytes_eq r.id i) rows
@@ -232,6 +233,32 @@ module _ (command name : Text) (s : Shape) (wanted : List Argument) (words : Lis
   unfolding row_in value_of_row
   line_value o v d not_file one = one_value (name_of o) v l.args [] (values_given o d not_file l.args l.others l.spelled ∙ one) refl
 
+-- the same on a line without a file
+module _ (command : Text) (s : Shape) (wanted : List Argument) (words : List Text) (is : IsCommandOf command s) (l : IsLine words command wanted)
+    (same_length : length wanted ≡ length (options wanted)) (apart : AreApart (options wanted)) (known : KnownOptions s (options wanted)) where
+  abbrev bare_rows : List Row
+  bare_rows = with_arguments l.args []
+
+  bare_found : subcommand_of program_app words ≡ Some (command, bare_rows)
+  bare_found =
+      let all = line_is_bare s words command wanted l same_length apart known in
+      let walks = args_walk s is.has l.args l.others nothing_held 1 l.spelled all.known (inr all.none) refl in
+      ap (subcommand_of program_app) l.command_first ∙
+      ap (λ (w : Walk). entered (built program_app) w.stopped) (walk_stops command s is l.others) ∙
+      ap (option_map (λ x. rows_at x l.others)) is.found ∙
+      ap (λ p. Some p) (walk_finds s l.others bare_rows is.bare walks ∙ ap (λ c. (c, bare_rows)) is.name)
+
+  bare_value : (o v : Text) → IsDashed o → bytes_eq file_id (name_of o) ≡ false → values o l.args ≡ v ∷ [] → first_of (name_of o) bare_rows ≡ Some v
+  unfolding row_in value_of_row
+  bare_value o v d not_file one = one_value (name_of o) v l.args [] (values_given o d not_file l.args l.others l.spelled ∙ one) refl
+
+within : (n : ℕ) → IsWorkload n → (if nat_le 1 n && nat_le n 4000 then Some (Gen n) else None) ≡ Some (Gen n)
+within n w =
+    let a = w.some in
+    let b = w.most in
+    let c : (nat_le 1 n && nat_le n 4000) ≡ true = grind (arith, nat_tests, a, b) in
+    ap (λ x. if x then Some (Gen n) else None) c
+
 -- what is found on a line is what it asks for
 pub reading_is_found : (words : List Text) (r : Reading) → IsReading words r → found_in (subcommand_of program_app words) ≡ Some r
 reading_is_found words (Compile file m n) (a, b, h) =
@@ -263,3 +290,7 @@ reading_is_found words (Watch file script) l =
 reading_is_found words (Check file) l = ap found_in (line_found (codes "check") file _ _ words check_is l refl none_apart tt) ∙ ap (ask_file Check) (line_file (codes "check") file _ _ words check_is l refl none_apart tt)
 reading_is_found words (Print file) l = ap found_in (line_found (codes "print") file _ _ words print_is l refl none_apart tt) ∙ ap (ask_file Print) (line_file (codes "print") file _ _ words print_is l refl none_apart tt)
 reading_is_found words (Certify file) l = ap found_in (line_found (codes "certify") file _ _ words certify_is l refl none_apart tt) ∙ ap (ask_file Certify) (line_file (codes "certify") file _ _ words certify_is l refl none_apart tt)
+reading_is_found words (Gen n) (a, h) =
+    ap found_in (bare_found (codes "gen") _ _ words gen_is h.0 refl gen_apart gen_options) ∙
+    ap ask_workload (ap if_number (bare_value (codes "gen") _ _ words gen_is h.0 refl gen_apart gen_options (codes "--number") a refl refl h.0.each_once.0) ∙ h.1) ∙
+    within n h.2

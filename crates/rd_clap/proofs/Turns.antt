@@ -1,12 +1,12 @@
 -- What one argument of a command line does to the parser's walk over the words.
-use Rattle.std.proofs.Common.{◌≡◌, ℕ, ◌+◌, Bool, true, false, not, List, [], ◌∷◌, ◌++◌, Option, Some, None, refl, sym, ◌∙◌, ap, ap₂, subst, arith, inl, inr}
-use Rattle.std.specs.Prelude.{if◌then◌else◌, nat_eq, nat_lt, nat_le, ◌==◌, ◌&&◌, ◌||◌, option_and_then}
+use Rattle.std.proofs.Common.{◌≡◌, ℕ, Bool, true, false, not, List, [], ◌∷◌, Option, Some, None, refl, ◌∙◌, ap, ap₂, arith}
+use Rattle.std.specs.Prelude.{if◌then◌else◌, nat_eq, nat_lt, ◌==◌, ◌&&◌, ◌||◌, option_and_then}
 use Rattle.std.specs.Option.{option_map_or}
 use Rattle.std.specs.Str.{bytes_eq}
 use Rattle.clap.specs.Lexer.{long_of, long_of_rest, short_of, short_of_rest, strip_byte}
 use Rattle.clap.specs.Simple.{Shape}
-use Rattle.clap.specs.Takes.{settle_passes, turn_passes, use_passes, step_passes, positional_passes, other_passes, flag_word_passes, bundle_passes, option_passes, long_passes, react_passes}
-use Rattle.clap.specs.Walk.{Text, Rule, Row, Held, Walk, Waiting, Step, Outcome, idle, option, next, trailing, value, arg_by_id, arg_by_index, arg_by_long, has_row, is_pending, settled, reacted, pushed, used, walked, word_met, plain_word, subcommand_or_other, long_or_other, short_or_plain, long_word, long_met, after_flag, after_step, option_word, option_met, to_positional}
+use Rattle.clap.specs.Takes.{settle_passes, turn_passes, use_passes, step_passes, positional_passes, other_passes, flag_word_passes, bundle_passes, option_passes, long_passes}
+use Rattle.clap.specs.Walk.{Text, Rule, Row, Held, Walk, Waiting, Step, idle, option, next, trailing, arg_by_id, arg_by_index, arg_by_long, has_row, is_pending, settled, reacted, pushed, walked, plain_word, subcommand_or_other, long_or_other, short_or_plain, long_met, after_flag, after_step, option_word, option_met, to_positional}
 use Rattle.clap.specs.declared.builder.action.ArgAction.TheVariants.{Set}
 use Rattle.clap.specs.declared.builder.range.ValueRange.{ValueRange}
 use Rattle.clap.specs.declared.builder.value_parser.ValueParser.TheVariants as vp

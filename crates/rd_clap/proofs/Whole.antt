@@ -1,18 +1,18 @@
 -- The parser takes each line that asks for something.
-use Rattle.std.proofs.Common.{◌≡◌, ℕ, ◌&&◌, ◌||◌, not, Bool, true, false, List, [], ◌∷◌, ◌++◌, length, Option, Some, None, refl, sym, ◌∙◌, ap, ap₂, subst, arith, inl, inr, codes}
+use Rattle.std.proofs.Common.{◌≡◌, ◌&&◌, true, false, List, [], ◌∷◌, ◌++◌, length, Option, Some, refl, sym, ◌∙◌, ap, ap₂, subst, inl, inr, codes}
 use Rattle.std.specs.Prelude.{fold, find, is_some, option_map}
 use Rattle.std.specs.List.{list_all}
 use Rattle.std.specs.Option.{option_map_or}
 use Rattle.clap.proofs.OnLiterals.{clap_on_literals}
 use Rattle.clap.specs.Simple.{App, Shape, built, built_leaf, entered, inherited, label_of, names_of, rows_at}
 use Rattle.clap.specs.Takes.{default_passes, entered_passes, is_valid, level_passes, settle_passes, takes, turn_passes, walk_passes}
-use Rattle.clap.specs.Walk.{Text, Row, Rule, Held, Names, Walk, Waiting, idle, answers_to, finished, is_empty, nothing_held, walk_from, walked}
-use Rattle.rd_words.specs.Arguments.{Argument, File, Given, IsLine, files}
-use Rattle.rd_words.specs.Words.{Reading, Compile, Build, Lay, Run, Show, Eval, Watch, Check, Print, Certify, IsReading}
+use Rattle.clap.specs.Walk.{Text, Row, Rule, Names, Walk, idle, answers_to, finished, is_empty, nothing_held, walk_from, walked}
+use Rattle.rd_words.specs.Arguments.{Argument, File, IsLine}
+use Rattle.rd_words.specs.Words.{Reading, Compile, Build, Lay, Run, Show, Eval, Watch, Check, Print, Certify, Gen, IsReading}
 use Rattle.rd_clap.specs.Program.{bare_app, program_app, with_file, with_option, compile_app, build_app}
-use Rattle.rd_clap.proofs.Turns.{between, single}
-use Rattle.rd_clap.proofs.Walks.{AllKnown, HasFile, IsKnown, Walks, args_walk, with_arguments}
-use Rattle.rd_clap.proofs.Known.{AreApart, KnownOptions, line_is_known, more_apart, none_apart, options}
+use Rattle.rd_clap.proofs.Turns.{between}
+use Rattle.rd_clap.proofs.Walks.{HasFile, Walks, args_walk}
+use Rattle.rd_clap.proofs.Known.{AreApart, KnownOptions, line_is_bare, line_is_known, more_apart, none_apart, options}
 
 append_nil : {X : Type 0} (xs : List X) → xs ++ [] ≡ xs
 append_nil [] = refl
@@ -87,6 +87,15 @@ line_takes command name s wanted words is l same_length apart known =
     subst (λ ws. takes program_app ws ≡ true) (sym l.command_first)
     (command_takes command s is l.others (leaf_takes s l.others _ is.defaults is.valid walks))
 
+-- the same of a line without a file
+bare_takes : (command : Text) (s : Shape) (wanted : List Argument) (words : List Text) → IsCommandOf command s → IsLine words command wanted → length wanted ≡ length (options wanted) → AreApart (options wanted) → KnownOptions s (options wanted) →
+    takes program_app words ≡ true
+bare_takes command s wanted words is l same_length apart known =
+    let all = line_is_bare s words command wanted l same_length apart known in
+    let walks = args_walk s is.has l.args l.others nothing_held 1 l.spelled all.known (inr all.none) refl in
+    subst (λ ws. takes program_app ws ≡ true) (sym l.command_first)
+    (command_takes command s is l.others (leaf_takes s l.others _ is.defaults is.valid walks))
+
 -- ---- the commands
 
 pub compile_is : IsCommandOf (codes "compile") (leaf compile_app)
@@ -129,6 +138,10 @@ pub certify_is : IsCommandOf (codes "certify") (leaf (with_file (codes "certify"
 unfolding clap_on_literals
 certify_is = record { walked_to = refl; turn = refl; found = refl; has = record { again = refl; by_index = refl; by_id = refl }; name = refl; bare = refl; defaults = refl; valid = λ rows. refl }
 
+pub gen_is : IsCommandOf (codes "gen") (leaf (with_option (codes "gen") (codes "number")))
+unfolding clap_on_literals
+gen_is = record { walked_to = refl; turn = refl; found = refl; has = record { again = refl; by_index = refl; by_id = refl }; name = refl; bare = refl; defaults = refl; valid = λ rows. refl }
+
 pub compile_options : KnownOptions (leaf compile_app) (codes "--slot-seed" ∷ codes "--reg-seed" ∷ [])
 compile_options = (record { alone = refl; whole = λ v. refl; dashes = refl; dashes_whole = λ v. refl; by_long = refl; by_id = refl }, (record { alone = refl; whole = λ v. refl; dashes = refl; dashes_whole = λ v. refl; by_long = refl; by_id = refl }, tt))
 
@@ -149,6 +162,9 @@ eval_options = (record { alone = refl; whole = λ v. refl; dashes = refl; dashes
 
 pub watch_options : KnownOptions (leaf (with_option (codes "watch") (codes "script"))) (codes "--script" ∷ [])
 watch_options = (record { alone = refl; whole = λ v. refl; dashes = refl; dashes_whole = λ v. refl; by_long = refl; by_id = refl }, tt)
+
+pub gen_options : KnownOptions (leaf (with_option (codes "gen") (codes "number"))) (codes "--number" ∷ [])
+gen_options = (record { alone = refl; whole = λ v. refl; dashes = refl; dashes_whole = λ v. refl; by_long = refl; by_id = refl }, tt)
 
 pub compile_apart : AreApart (codes "--slot-seed" ∷ codes "--reg-seed" ∷ [])
 compile_apart = (more_apart (codes "--slot-seed") (codes "--reg-seed" ∷ []) (more_apart (codes "--reg-seed") ([]) none_apart refl) refl)
@@ -171,6 +187,9 @@ eval_apart = (more_apart (codes "--steps") ([]) none_apart refl)
 pub watch_apart : AreApart (codes "--script" ∷ [])
 watch_apart = (more_apart (codes "--script") ([]) none_apart refl)
 
+pub gen_apart : AreApart (codes "--number" ∷ [])
+gen_apart = (more_apart (codes "--number") ([]) none_apart refl)
+
 pub reading_is_taken : (words : List Text) (r : Reading) → IsReading words r → takes program_app words ≡ true
 reading_is_taken words (Compile file m n) (a, b, h) = line_takes (codes "compile") file _ _ words compile_is h.0 refl compile_apart compile_options
 reading_is_taken words (Build file m n k) (a, b, c, h) = line_takes (codes "build") file _ _ words build_is h.0 refl build_apart build_options
@@ -182,3 +201,4 @@ reading_is_taken words (Watch file script) l = line_takes (codes "watch") file _
 reading_is_taken words (Check file) l = line_takes (codes "check") file _ _ words check_is l refl none_apart tt
 reading_is_taken words (Print file) l = line_takes (codes "print") file _ _ words print_is l refl none_apart tt
 reading_is_taken words (Certify file) l = line_takes (codes "certify") file _ _ words certify_is l refl none_apart tt
+reading_is_taken words (Gen n) (a, h) = bare_takes (codes "gen") _ _ words gen_is h.0 refl gen_apart gen_options

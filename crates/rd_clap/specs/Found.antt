@@ -4,7 +4,7 @@ use Rattle.clap.specs.Simple.{subcommand_rows_of}
 use Rattle.clap.specs.Walk.{Row, first_of}
 use Rattle.clap.specs.declared.parser.matches.ArgMatches.{ArgMatches}
 use Rattle.rd_words.specs.Arguments.{same}
-use Rattle.rd_words.specs.Read.{FileNumber, ask, ask_file, if_number, with_file, with_one, with_three, with_two}
+use Rattle.rd_words.specs.Read.{FileNumber, ask, ask_file, ask_workload, if_number, with_file, with_one, with_three, with_two}
 use Rattle.rd_words.specs.Words.{Reading, Lay, Run, Show, Eval, Check, Print, Certify}
 
 abbrev pub file_in : List Row → Option (List ℕ)
@@ -26,6 +26,9 @@ build_in rows = with_three (file_in rows) (number_in (codes "slot-seed") rows) (
 abbrev pub watch_in : List Row → Option Reading
 watch_in rows = with_file (file_in rows) (first_of (codes "script") rows)
 
+abbrev pub gen_in : List Row → Option Reading
+gen_in rows = ask_workload (number_in (codes "number") rows)
+
 -- a command with the values that were found for it
 abbrev pub command_in : List ℕ → List Row → Option Reading
 command_in command rows =
@@ -38,7 +41,8 @@ command_in command rows =
     (if same command (codes "watch") then watch_in rows else
     (if same command (codes "check") then ask_file Check (file_in rows) else
     (if same command (codes "print") then ask_file Print (file_in rows) else
-    (if same command (codes "certify") then ask_file Certify (file_in rows) else None)))))))))
+    (if same command (codes "certify") then ask_file Certify (file_in rows) else
+    (if same command (codes "gen") then gen_in rows else None))))))))))
 
 abbrev pub found_in : Option (List ℕ × List Row) → Option Reading
 found_in None = None

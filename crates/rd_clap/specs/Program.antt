@@ -38,10 +38,10 @@ bare_app = on_top (λ s. record s {
 
 abbrev pub program_app : App
 program_app =
-    with_subcommand (with_subcommand (with_subcommand (with_subcommand (with_subcommand (with_subcommand (with_subcommand (with_subcommand (with_subcommand (with_subcommand bare_app
+    with_subcommand (with_subcommand (with_subcommand (with_subcommand (with_subcommand (with_subcommand (with_subcommand (with_subcommand (with_subcommand (with_subcommand (with_subcommand bare_app
     compile_app.top) build_app.top) (with_option (codes "lay") (codes "layout-seed")).top) (with_option (codes "run") (codes "steps")).top)
     (with_option (codes "show") (codes "steps")).top) (with_option (codes "eval") (codes "steps")).top) (with_option (codes "watch") (codes "script")).top) (with_file (codes "check")).top) (with_file (codes "print")).top)
-    (with_file (codes "certify")).top
+    (with_file (codes "certify")).top) (with_option (codes "gen") (codes "number")).top
 
 -- the command is this one, and nothing of it holds for its subcommands too
 pub record IsCommand (c : Command) (a : App) : Type 0 where

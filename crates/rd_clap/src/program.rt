@@ -1,5 +1,6 @@
 //! The commands as `clap` knows them: each with FILE and its options.
 //!
+//! `gen` has FILE too, though no line that names one comes to it.
 //! The first word is the command, and no word asks for help or for a version. What is given twice
 //! is taken as it was given last, and nothing is required: which words ask for anything is
 //! decided before `clap` reads them. The same for the proofs stands in `specs/Program.antt`.
@@ -88,5 +89,6 @@ pub fn program<'a>(alloc: Global) -> Result<Command<'a>, AllocError>
     let with_check = with_watch.subcommand(file_command(alloc, "check")?)?;
     let with_print = with_check.subcommand(file_command(alloc, "print")?)?;
     let with_certify = with_print.subcommand(file_command(alloc, "certify")?)?;
-    Ok(with_certify)
+    let with_gen = with_certify.subcommand(option_command(alloc, "gen", "number")?)?;
+    Ok(with_gen)
 }

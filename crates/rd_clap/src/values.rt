@@ -6,13 +6,16 @@
 ghost use Rattle.std.specs.Prelude.{◌≡◌};
 ghost use Rattle.std.specs.Option.{option_copied};
 ghost use Rattle.clap.specs.Words.{first_of, found_of, rows_of, subcommand_rows_of};
-ghost use Rattle.rd_clap.specs.Found.{build_in, command_in, compile_in, file_and_number_in, file_in, found_in, number_in, watch_in};
+ghost use Rattle.rd_clap.specs.Found.{build_in, command_in, compile_in, file_and_number_in, file_in, found_in, gen_in, number_in, watch_in};
 ghost use Rattle.rd_words.specs.Asked.{all_asked};
 ghost use Rattle.rd_words.specs.Shown.{one_shown};
 
 use clap::ArgMatches;
 use rd_num::numeral::decimal;
 use rd_words::Command;
+
+/// The most functions of a generated module, `main` aside.
+const MOST_FUNCTIONS: u64 = 4000;
 
 /// The most digits of a number.
 const MOST_DIGITS: usize = 20;
@@ -83,6 +86,17 @@ fn watch<'a>(matches: &ArgMatches<'a>) -> Option<Command<'a>>
     Some(Command::Watch { file, script })
 }
 
+fn gen_text<'a>(matches: &ArgMatches<'a>) -> Option<Command<'a>>
+    ensures { all_asked result ≡ gen_in (rows_of (found_of matches.now)) }
+{
+    let number = number(matches, "number")?;
+    if number >= 1 && number <= MOST_FUNCTIONS {
+        Some(Command::Gen { number })
+    } else {
+        None
+    }
+}
+
 /// The command of a name with the values that were found for it.
 fn of_command<'a>(command: &str, matches: &ArgMatches<'a>) -> Option<Command<'a>>
     ensures { all_asked result ≡ command_in command.now (rows_of (found_of matches.now)) }
@@ -119,6 +133,7 @@ fn of_command<'a>(command: &str, matches: &ArgMatches<'a>) -> Option<Command<'a>
             let file = file(matches)?;
             Some(Command::Certify { file })
         }
+        "gen" => gen_text(matches),
         _ => None,
     }
 }

@@ -45,12 +45,7 @@ pub fn program(alloc: Global, valid: &Valid) -> Result<Sel, NoMemory>
 /// The object of a valid module, by a seed for the places of slots and one for the names of
 /// registers. It shows what the module shows; a step of the module is met within so many steps of
 /// the object as both bounds say. Time and memory are near linear in the module.
-fn object(
-    alloc: Global,
-    valid: &Valid,
-    slot_seed: u64,
-    reg_seed: u64,
-) -> Result<Object, NoMemory>
+fn object(alloc: Global, valid: &Valid, slot_seed: u64, reg_seed: u64) -> Result<Object, NoMemory>
     ensures { IfOk result (IsCompiledFrom valid.now.kept slot_seed reg_seed) }
 {
     let sel = program(alloc, valid)?;

@@ -11,11 +11,11 @@ use Rattle.rd_top.specs.Kinds.{module_text, object_file, image_file, script_file
 use Rattle.rd_top.specs.Puts.{Writes}
 use Rattle.rd_top.specs.Courses.{AnyInput, Streams}
 use Rattle.rd_top.specs.Reports.{Reports}
-use Rattle.rd_top.specs.Making.{IsPrinted, IsObjectFor, IsImageFor, IsLaid}
+use Rattle.rd_top.specs.Making.{IsGenerated, IsPrinted, IsObjectFor, IsImageFor, IsLaid}
 use Rattle.rd_top.specs.Machines.{machine_course, watched_course, shown_after, report_on}
 use Rattle.rd_top.specs.Modules.{module_course}
 use Rattle.rd_top.specs.World.{World}
-use Rattle.rd_words.specs.Words.{Reading, Check, Print, Certify, Compile, Build, Lay, Run, Show, Eval, Watch}
+use Rattle.rd_words.specs.Words.{Reading, Check, Print, Certify, Gen, Compile, Build, Lay, Run, Show, Eval, Watch, IsWorkload}
 
 -- nothing was taken, and nothing was put
 abbrev pub Untouched : World → World → Type 0
@@ -62,11 +62,21 @@ Watches file script w w2 a =
     OfFile script_file script w.files w2.files (Untouched w w2) (λ s.
     Reports (watched_course image s.events) (last_after 0 s.events) (report_on image s.events) w.input w2.input w.out w2.out a) a) a
 
+-- no file is read
+abbrev pub Generates : ℕ → SinkTold → SinkTold → Answer → Type 0
+Generates number out out2 a = Writes (IsGenerated number) out out2 a
+
+-- a number of functions is within its limits
+abbrev pub IsWithin : Reading → Type 0
+IsWithin (Gen number) = IsWorkload number
+IsWithin other = Unit {0}
+
 -- what an answer says, by what the words ask for
 abbrev pub Means : Option Reading → World → World → Answer → Type 0
 Means None w w2 a = (a ≡ Words) × (w2 ≡ w)
 Means (Some (Check file)) w w2 a = Checks file w.files w2.files a × Untouched w w2
 Means (Some (Certify file)) w w2 a = Certifies file w.files w2.files a × Untouched w w2
+Means (Some (Gen number)) w w2 a = Generates number w.out w2.out a × (w2.files ≡ w.files) × (w2.input ≡ w.input)
 Means (Some (Print file)) w w2 a = Prints file w.files w2.files w.out w2.out a × (w2.input ≡ w.input)
 Means (Some (Compile file slot_seed reg_seed)) w w2 a = Compiles file slot_seed reg_seed w.files w2.files w.out w2.out a × (w2.input ≡ w.input)
 Means (Some (Build file slot_seed reg_seed layout_seed)) w w2 a = Builds file slot_seed reg_seed layout_seed w.files w2.files w.out w2.out a × (w2.input ≡ w.input)

@@ -1,4 +1,4 @@
--- What `print`, `compile`, `build` and `lay` make.
+-- What `print`, `compile`, `build`, `lay` and `gen` make.
 use Rattle.std.specs.Prelude.{◌≡◌, ℕ, List}
 use Rattle.behavior.specs.Preserves.{Preserves}
 use Rattle.ir_core.specs.Run.{source_run}
@@ -10,6 +10,7 @@ use Rattle.obj_core.specs.Layout.{layout}
 use Rattle.elf_file.specs.Elf.{elf_bytes}
 use Rattle.rd_compile.specs.Compiled.{IsCompiledFrom}
 use Rattle.ir_print.specs.Canonical.{canonical_text}
+use Rattle.rd_gen.specs.Workload.{workload_text}
 use Rattle.rd_top.specs.Hiding.{Hides}
 use Rattle.ir_print.specs.ReadsBack.{ReadsBack as IsTextOf}
 
@@ -17,6 +18,10 @@ use Rattle.ir_print.specs.ReadsBack.{ReadsBack as IsTextOf}
 pub record IsPrinted (m : Module) (bytes : List ℕ) : Type 0 where
   pub canonical : bytes ≡ canonical_text m
   pub text_of : IsTextOf bytes m
+
+-- bytes are the text of a module of so many functions
+abbrev pub IsGenerated : ℕ → List ℕ → Type 0
+IsGenerated number bytes = bytes ≡ workload_text number
 
 -- bytes are those of one object that is compiled from a module
 pub record IsObjectFor (m : Module) (slot_seed reg_seed : ℕ) (bytes : List ℕ) : Type 0 where

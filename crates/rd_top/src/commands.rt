@@ -3,12 +3,13 @@
 //! A command puts nothing on the sink for messages. What each does to the outside stands in
 //! `specs/Commands.antt`; a further command is one more function here.
 
-ghost use Rattle.rd_top.specs.Commands.{Builds, Checks, Compiles, Evaluates, Lays, Prints, Runs, Shows, Watches};
+ghost use Rattle.rd_words.specs.Words.{IsWorkload};
+ghost use Rattle.rd_top.specs.Commands.{Builds, Checks, Compiles, Evaluates, Generates, Lays, Prints, Runs, Shows, Watches};
 ghost use Rattle.rd_top.specs.World.{KeepsCounts, KeepsFiles, KeepsOut, world};
 
 use crate::answer::Answer;
 use crate::file::read_file;
-use crate::making::{image_bytes, laid_bytes, object_bytes, printed_bytes};
+use crate::making::{generated_bytes, image_bytes, laid_bytes, object_bytes, printed_bytes};
 use crate::put::put_whole;
 use crate::report::{put_report, reported, seen_after};
 use crate::stream::stream;
@@ -48,6 +49,18 @@ pub fn print_file<F: Files, O: Sink>(
         Err(answer) => return answer,
     };
     match printed_bytes(alloc, &valid) {
+        Ok(bytes) => put_whole(&bytes, out),
+        Err(_) => Answer::Memory,
+    }
+}
+
+/// `gen`: writes the text of a module of so many functions.
+pub fn gen_text<O: Sink>(alloc: Global, number: u64, out: &mut O) -> Answer
+    requires { IsWorkload number }
+    ensures means { Generates number (O.told out.old) (O.told out.new) result }
+    ensures out { KeepsOut (O.told out.old) (O.told out.new) result }
+{
+    match generated_bytes(alloc, number) {
         Ok(bytes) => put_whole(&bytes, out),
         Err(_) => Answer::Memory,
     }

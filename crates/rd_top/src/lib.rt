@@ -10,6 +10,7 @@
 //!     read_main eval FILE --steps N
 //!     read_main watch FILE --script FILE
 //!     read_main certify FILE
+//!     read_main gen --number N
 //!
 //! `rd_clap` reads the command line, `commands` and `certifying` do the work: over `file`, which reads a
 //! file of a kind, `put`, which puts a result at once, and `stream`, which puts a run's output as it comes.
@@ -19,7 +20,7 @@
 
 ghost use Rattle.std.specs.Prelude.{Some, map, string_bytes};
 ghost use Rattle.rd_words.specs.Asked.{asked};
-ghost use Rattle.rd_top.specs.Commands.{Means};
+ghost use Rattle.rd_top.specs.Commands.{IsWithin, Means};
 ghost use Rattle.rd_top.specs.Program.{IsAnswered, IsDone};
 ghost use Rattle.rd_top.specs.Telling.{Tells, TellsLine};
 ghost use Rattle.rd_top.specs.World.{KeepsCounts, world};
@@ -27,8 +28,8 @@ ghost use Rattle.rd_top.specs.World.{KeepsCounts, world};
 use answer::{Answer, status};
 use certifying::certify_file;
 use commands::{
-    build_file, check_file, compile_file, eval_file, lay_file, print_file, run_file, show_file,
-    watch_file,
+    build_file, check_file, compile_file, eval_file, gen_text, lay_file, print_file, run_file,
+    show_file, watch_file,
 };
 use lines::line;
 use rd_clap::read_line;
@@ -58,6 +59,7 @@ fn work<F: Files, I: Source, O: Sink>(
     input: &mut I,
     out: &mut O,
 ) -> Answer
+    requires { IsWithin (asked command) }
     ensures means { Means (Some (asked command.entry))
         (world (F.told files.old) (I.told input.old) (O.told out.old))
         (world (F.told files.new) (I.told input.new) (O.told out.new)) result }
@@ -67,6 +69,7 @@ fn work<F: Files, I: Source, O: Sink>(
     match command {
         Command::Check { file } => check_file(alloc, file, files),
         Command::Certify { file } => certify_file(alloc, file, files),
+        Command::Gen { number } => gen_text(alloc, number, out),
         Command::Print { file } => print_file(alloc, file, files, out),
         Command::Compile {
             file,
@@ -88,7 +91,7 @@ fn work<F: Files, I: Source, O: Sink>(
 }
 
 /// Does what the words ask for.
-#[tactic(auto, using(crate::proofs::ByCommand::unread_is_done))]
+#[tactic(auto, using(crate::proofs::ByCommand::unread_is_done, crate::proofs::ByCommand::is_within))]
 fn answered<F: Files, I: Source, O: Sink>(
     alloc: Global,
     words: &[String],

@@ -1,5 +1,6 @@
-//! What `print`, `compile`, `build` and `lay` make: each stage takes what the one before it gives.
+//! What `print`, `compile`, `build`, `lay` and `gen` make: each stage takes what the one before it gives.
 //!
+//!     number -> module's text
 //!     module -> print
 //!     module -> compile -> object -> write
 //!     module -> compile -> object -> lay -> image -> write
@@ -8,13 +9,15 @@
 //! the bytes are stands in `specs/Making.antt`.
 
 ghost use Rattle.std.specs.Prelude.{IfOk};
-ghost use Rattle.rd_top.specs.Making.{IsImageFor, IsLaid, IsObjectFor, IsPrinted};
+ghost use Rattle.rd_words.specs.Words.{IsWorkload};
+ghost use Rattle.rd_top.specs.Making.{IsGenerated, IsImageFor, IsLaid, IsObjectFor, IsPrinted};
 
 use ir_core::valid::Valid;
 use ir_print::print;
 use obj_core::checked::Checked;
 use obj_lay::lay;
 use rd_compile::compile::compile;
+use rd_gen::module;
 use rd_num::list::List;
 use rd_num::width::NoMemory;
 use std::alloc::Global;
@@ -24,6 +27,15 @@ pub fn printed_bytes(alloc: Global, valid: &Valid) -> Result<List<u8>, NoMemory>
     ensures { IfOk result (IsPrinted valid.now.kept) }
 {
     let bytes = print(alloc, valid)?;
+    Ok(bytes)
+}
+
+/// The text of a module of so many functions.
+pub fn generated_bytes(alloc: Global, number: u64) -> Result<List<u8>, NoMemory>
+    requires { IsWorkload number }
+    ensures { IfOk result (IsGenerated number) }
+{
+    let bytes = module(alloc, number as u32)?;
     Ok(bytes)
 }
 

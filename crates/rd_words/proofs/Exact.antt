@@ -1,12 +1,12 @@
 -- What is read of words is exactly what they ask for.
 use Rattle.std.proofs.Common.{◌≡◌, ℕ, ◌+◌, Bool, true, false, List, [], ◌∷◌, length, Option, Some, None, refl, sym, ◌∙◌, ap, subst, arith}
-use Rattle.std.specs.Prelude.{if◌then◌else◌, nat_eq, codes}
+use Rattle.std.specs.Prelude.{◌&&◌, if◌then◌else◌, nat_eq, nat_le, codes}
 use Rattle.std.specs.Cmp.Lexicographic.{same_text}
 use Rattle.std.proofs.lemmas.Bool.{eqb-true}
 use Rattle.std.proofs.lemmas.Bool.Decides.{nat_tests}
 use Rattle.rd_words.specs.Arguments.{Argument, File, Given, same, files, values, IsLine}
-use Rattle.rd_words.specs.Words.{Reading, Compile, Build, Lay, Run, Show, Eval, Watch, Check, Print, Certify, number_of, IsReading, IsReadingOf}
-use Rattle.rd_words.specs.Read.{arguments_of, only, file_behind, value_behind, count_behind, if_number, are, FileNumber, with_one, with_two, with_three, with_file, file_and_number, ask, file_alone, ask_file, by_command, reading_of}
+use Rattle.rd_words.specs.Words.{Reading, Compile, Build, Lay, Run, Show, Eval, Watch, Check, Print, Certify, Gen, IsWorkload, number_of, IsReading, IsReadingOf}
+use Rattle.rd_words.specs.Read.{arguments_of, only, file_behind, value_behind, count_behind, if_number, are, FileNumber, with_one, with_two, with_three, with_file, file_and_number, ask, file_alone, ask_file, ask_workload, by_command, reading_of}
 use Rattle.rd_words.proofs.Parts.{arguments_are, arguments_back}
 
 same_is : (xs ys : List ℕ) → same xs ys ≡ true → xs ≡ ys
@@ -173,6 +173,38 @@ module _ (rest : List (List ℕ)) (command : List ℕ) where
       let p = passed (nat_eq (0 + length args) 1) _ name h in
       record { others = rest; command_first = refl; args = args; spelled = arguments_are rest args e; each_once = (only_is (files args) name p.1, tt); no_more = count_is (length args) 1 p.0 }
 
+-- a number within the limits
+workload_is : (b : Bool) (n : ℕ) (r : Reading) → nat_le 1 n && nat_le n 4000 ≡ b → (if b then Some (Gen n) else None) ≡ Some r → IsWorkload n × (Gen n ≡ r)
+workload_is true n r e h = (record { some = grind (arith, nat_tests, e); most = grind (arith, nat_tests, e) }, cc)
+workload_is false n r e h = absurd (cc)
+
+number_asked : (o : Option ℕ) (r : Reading) → ask_workload o ≡ Some r → (n : ℕ) × (o ≡ Some n) × IsWorkload n × (Gen n ≡ r)
+number_asked None r h = absurd (cc)
+number_asked (Some n) r h = let w = workload_is (nat_le 1 n && nat_le n 4000) n r refl h in (n, refl, w.0, w.1)
+
+within : (n : ℕ) → IsWorkload n → nat_le 1 n && nat_le n 4000 ≡ true
+within n w = let a = w.some in let b = w.most in grind (arith, nat_tests, a, b)
+
+workload_back : (o : Option ℕ) (n : ℕ) → o ≡ Some n → IsWorkload n → ask_workload o ≡ Some (Gen n)
+workload_back o n e w = ap ask_workload e ∙ ap (λ b. if b then Some (Gen n) else None) (within n w)
+
+-- a number alone
+module _ (rest : List (List ℕ)) where
+  gen_is : (o : Option (List Argument)) (r : Reading) → arguments_of rest ≡ o → (if are (count_behind 0 o) 1 then ask_workload (if_number (value_behind (codes "--number") [] o)) else None) ≡ Some r → IsReading (codes "gen" ∷ rest) r
+  gen_is None r e h = absurd (cc)
+  gen_is (Some args) r e h =
+      let p = passed (nat_eq (0 + length args) 1) _ r h in
+      let t = number_asked (if_number (only (values (codes "--number") args))) r p.1 in
+      let a = numbered (codes "--number") args t.0 t.1 in
+      subst (IsReading (codes "gen" ∷ rest)) t.3 (
+        a.word,
+        (
+          record { others = rest; command_first = refl; args = args; spelled = arguments_are rest args e; each_once = (a.once, tt); no_more = count_is (length args) 1 p.0 },
+          a.number,
+          t.2,
+        ),
+      )
+
 file_asked : (make : List ℕ → Reading) (o : Option (List ℕ)) (r : Reading) → ask_file make o ≡ Some r → (x : List ℕ) × (o ≡ Some x) × (make x ≡ r)
 file_asked make None r h = absurd (cc)
 file_asked make (Some x) r h = (x, refl, cc)
@@ -237,7 +269,8 @@ command_is command rest r h =
     chosen command (codes "watch") rest _ _ r h6 (watch_is rest (arguments_of rest) r refl) (λ h7.
     chosen command (codes "check") rest _ _ r h7 (check_is rest r) (λ h8.
     chosen command (codes "print") rest _ _ r h8 (print_is rest r) (λ h9.
-    chosen command (codes "certify") rest _ _ r h9 (certify_is rest r) (λ h10. absurd (cc)))))))))))
+    chosen command (codes "certify") rest _ _ r h9 (certify_is rest r) (λ h10.
+    chosen command (codes "gen") rest _ _ r h10 (gen_is rest (arguments_of rest) r refl) (λ h11. absurd (cc))))))))))))
 
 reading_is : (words : List (List ℕ)) (r : Reading) → reading_of words ≡ Some r → IsReading words r
 reading_is [] r h = absurd (cc)
@@ -257,6 +290,9 @@ file_form b f g file script eb ef eg = rw (eb, ef, eg) refl
 
 alone_form : (b : Bool) (f : Option (List ℕ)) (file : List ℕ) → b ≡ true → f ≡ Some file → (if b then f else None) ≡ Some file
 alone_form b f file eb ef = rw (eb, ef) refl
+
+gen_form : (b : Bool) (x : Option ℕ) (n : ℕ) → b ≡ true → x ≡ Some n → IsWorkload n → (if b then ask_workload x else None) ≡ Some (Gen n)
+gen_form b x n eb ex w = ap (λ c. if c then ask_workload x else None) eb ∙ workload_back x n ex w
 
 -- what a line with a file alone gives
 alone_back : (words : List (List ℕ)) (command file : List ℕ) → (l : IsLine words command (File file ∷ [])) → file_alone l.others ≡ Some file
@@ -292,6 +328,11 @@ reading_back words (Watch file script) l =
 reading_back words (Check file) l = ap reading_of l.command_first ∙ ap (ask_file Check) (alone_back words (codes "check") file l)
 reading_back words (Print file) l = ap reading_of l.command_first ∙ ap (ask_file Print) (alone_back words (codes "print") file l)
 reading_back words (Certify file) l = ap reading_of l.command_first ∙ ap (ask_file Certify) (alone_back words (codes "certify") file l)
+reading_back words (Gen n) (a, h) =
+    let l = h.0 in
+    ap reading_of l.command_first ∙
+    (ap (λ o. if are (count_behind 0 o) 1 then ask_workload (if_number (value_behind (codes "--number") [] o)) else None) (arguments_back l.args l.others l.spelled) ∙
+    gen_form _ _ n (count_back (length l.args) 1 l.no_more) (number_back (codes "--number") l.args a n l.each_once.0 h.1) h.2)
 
 pub reading_exact : (words : List (List ℕ)) (o : Option Reading) → o ≡ reading_of words → IsReadingOf words o
 reading_exact words None e = λ r h. let some = reading_back words r h in absurd (cc)

@@ -1,9 +1,9 @@
 -- The words of a command line read one after another. That this reads exactly what the words ask for is proved.
-use Rattle.std.specs.Prelude.{◌≡◌, ℕ, ◌+◌, ◌==◌, ◌&&◌, Bool, false, nat_eq, nat_lt, if◌then◌else◌, List, [], ◌∷◌, ◌++◌, length, Option, Some, None, codes}
+use Rattle.std.specs.Prelude.{◌≡◌, ℕ, ◌+◌, ◌==◌, ◌&&◌, Bool, false, nat_eq, nat_lt, nat_le, if◌then◌else◌, List, [], ◌∷◌, ◌++◌, length, Option, Some, None, codes}
 use Rattle.std.specs.Option.{option_to_list}
 use Rattle.std.specs.List.{position_or_len, before_first, after_first}
 use Rattle.rd_words.specs.Arguments.{Argument, File, Given, same, is_plain, files, values}
-use Rattle.rd_words.specs.Words.{Reading, Compile, Build, Lay, Run, Show, Eval, Watch, Check, Print, Certify, number_of}
+use Rattle.rd_words.specs.Words.{Reading, Compile, Build, Lay, Run, Show, Eval, Watch, Check, Print, Certify, Gen, number_of}
 
 -- an argument, and the words behind it
 pub record Next : Type 0 where
@@ -159,6 +159,14 @@ abbrev pub ask_file : (List ℕ → Reading) → Option (List ℕ) → Option Re
 ask_file make None = None
 ask_file make (Some file) = Some (make file)
 
+-- a number of functions, and nothing else
+abbrev pub ask_workload : Option ℕ → Option Reading
+ask_workload None = None
+ask_workload (Some n) = if nat_le 1 n && nat_le n 4000 then Some (Gen n) else None
+
+abbrev pub gen_of : List (List ℕ) → Option Reading
+gen_of words = if has_count 1 words then ask_workload (number_given (codes "--number") words) else None
+
 abbrev pub by_command : List ℕ → List (List ℕ) → Option Reading
 by_command command words =
     if same command (codes "compile") then compile_of words else
@@ -170,7 +178,8 @@ by_command command words =
     (if same command (codes "watch") then watch_of words else
     (if same command (codes "check") then ask_file Check (file_alone words) else
     (if same command (codes "print") then ask_file Print (file_alone words) else
-    (if same command (codes "certify") then ask_file Certify (file_alone words) else None)))))))))
+    (if same command (codes "certify") then ask_file Certify (file_alone words) else
+    (if same command (codes "gen") then gen_of words else None))))))))))
 
 -- what words ask for
 abbrev pub reading_of : List (List ℕ) → Option Reading

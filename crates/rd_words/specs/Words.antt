@@ -1,5 +1,5 @@
 -- What the words of a command line ask for.
-use Rattle.std.specs.Prelude.{◌≡◌, ℕ, ◌^◌, List, [], ◌∷◌, Option, Some, None, codes}
+use Rattle.std.specs.Prelude.{◌≡◌, ℕ, ◌^◌, ◌≤◌, List, [], ◌∷◌, Option, Some, None, codes}
 use Rattle.rd_num.specs.Numeral.{numeral}
 use Rattle.rd_words.specs.Arguments.{File, Given, IsLine}
 
@@ -15,12 +15,18 @@ pub data Reading : Type 0 where
   Check : (file : List ℕ) → Reading
   Print : (file : List ℕ) → Reading
   Certify : (file : List ℕ) → Reading
+  Gen : (number : ℕ) → Reading
 
 -- 1 to 20 decimal digits of at most 2^64 - 1
 abbrev pub number_of : List ℕ → Option ℕ
 number_of word = numeral 10 20 (2 ^ 64) word
 
--- words ask for a command: its name, and then FILE and its options, in any order, each once
+-- how many functions a generated module may have, `main` aside
+pub record IsWorkload (number : ℕ) : Type 0 where
+  pub some : 1 ≤ number
+  pub most : number ≤ 4000
+
+-- words ask for a command: its name, and then FILE, where it has one, and its options, in any order, each once
 abbrev pub IsReading : List (List ℕ) → Reading → Type 0
 IsReading words (Compile file slot_seed reg_seed) =
     (a : List ℕ) × (b : List ℕ) × (IsLine words (codes "compile") (File file ∷ Given (codes "--slot-seed") a ∷ Given (codes "--reg-seed") b ∷ []) × (number_of a ≡ Some slot_seed) × (number_of b ≡ Some reg_seed))
@@ -34,6 +40,7 @@ IsReading words (Watch file script) = IsLine words (codes "watch") (File file �
 IsReading words (Check file) = IsLine words (codes "check") (File file ∷ [])
 IsReading words (Print file) = IsLine words (codes "print") (File file ∷ [])
 IsReading words (Certify file) = IsLine words (codes "certify") (File file ∷ [])
+IsReading words (Gen number) = (a : List ℕ) × (IsLine words (codes "gen") (Given (codes "--number") a ∷ []) × (number_of a ≡ Some number) × IsWorkload number)
 
 -- what words ask for, or that they ask for nothing
 abbrev pub IsReadingOf : List (List ℕ) → Option Reading → Type 0

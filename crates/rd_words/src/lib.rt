@@ -11,7 +11,7 @@
 ghost use Rattle.std.specs.Prelude.{◌≡◌, ℕ, List as Row, map, string_bytes};
 ghost use Rattle.std.specs.Option.{option_copied};
 ghost use Rattle.rd_words.specs.Asked.{all_asked};
-ghost use Rattle.rd_words.specs.Read.{build_of, by_command, compile_of, file_alone, file_and_number, number_given, reading_of, watch_of};
+ghost use Rattle.rd_words.specs.Read.{build_of, by_command, compile_of, file_alone, file_and_number, gen_of, number_given, reading_of, watch_of};
 ghost use Rattle.rd_words.specs.Shown.{one_shown};
 ghost use Rattle.rd_words.specs.Words.{IsReading, IsReadingOf, Reading};
 
@@ -65,7 +65,14 @@ pub enum Command<'a> {
     Certify {
         file: &'a str,
     },
+    /// Writes the text of a module of so many functions.
+    Gen {
+        number: u64,
+    },
 }
+
+/// The most functions of a generated module, `main` aside.
+const MOST_FUNCTIONS: u64 = 4000;
 
 /// The most digits of a number.
 const MOST_DIGITS: usize = 20;
@@ -148,6 +155,21 @@ fn one_file<'a>(words: &'a [String]) -> Option<&'a str>
     file(words)
 }
 
+/// What `gen` is asked for by the words behind it.
+fn gen_text<'a>(words: &'a [String]) -> Option<Command<'a>>
+    ensures { all_asked result ≡ gen_of (map string_bytes words.now) }
+{
+    if count(words)? != 1 {
+        return None;
+    }
+    let number = number(words, "--number")?;
+    if number >= 1 && number <= MOST_FUNCTIONS {
+        Some(Command::Gen { number })
+    } else {
+        None
+    }
+}
+
 /// What a command is asked for by the words behind it.
 fn of_command<'a>(command: &str, words: &'a [String]) -> Option<Command<'a>>
     ensures { all_asked result ≡ by_command command.now (map string_bytes words.now) }
@@ -184,6 +206,7 @@ fn of_command<'a>(command: &str, words: &'a [String]) -> Option<Command<'a>>
             let file = one_file(words)?;
             Some(Command::Certify { file })
         }
+        "gen" => gen_text(words),
         _ => None,
     }
 }

@@ -35,12 +35,13 @@ fn told(alloc: Global, line: &str) -> Result<String, AllocError> {
         Some(Command::Check { file }) => format!(in alloc; "check {file}"),
         Some(Command::Print { file }) => format!(in alloc; "print {file}"),
         Some(Command::Certify { file }) => format!(in alloc; "certify {file}"),
+        Some(Command::Gen { number }) => format!(in alloc; "gen {number}"),
         None => format!(in alloc; "nothing"),
     }
 }
 
 #[rattlefmt::skip]
-const LINES: [(&str, &str); 54] = [
+const LINES: [(&str, &str); 63] = [
     ("run|m|--steps|1", "run m 1"),
     ("run|--steps|1|m", "run m 1"),
     ("run|--steps=1|m", "run m 1"),
@@ -95,6 +96,15 @@ const LINES: [(&str, &str); 54] = [
     ("print|m|--script=s", "nothing"),
     ("certify", "nothing"),
     ("certify|m|--layout-seed|1", "nothing"),
+    ("gen|--number|1", "gen 1"),
+    ("gen|--number=4000", "gen 4000"),
+    ("gen|--number=0004000", "gen 4000"),
+    ("gen|--number|0", "nothing"),
+    ("gen|--number|4001", "nothing"),
+    ("gen|--number=", "nothing"),
+    ("gen", "nothing"),
+    ("gen|m|--number|1", "nothing"),
+    ("gen|--number|1|--number|1", "nothing"),
 ];
 
 #[test]

@@ -1,6 +1,6 @@
 use Rattle.std.proofs.Common.{refl}
 use Rattle.rd_top.specs.World.{world}
-use Rattle.rd_top.proofs.ByCommand.{means_as}
+use Rattle.rd_top.proofs.ByCommand.{means_as, within_as}
 use Rattle.rd_top.proofs.work.Goals as goal
 
 pub returns-in-Compile-clause-means : goal.returns-in-Compile-clause-means
@@ -37,3 +37,8 @@ pub returns-in-Watch-clause-means : goal.returns-in-Watch-clause-means
 returns-in-Watch-clause-means g c =
     means_as c.args.command _ (world (g.F.Files.told c.args.files.now) (g.I.Source.told c.args.input.now) (g.O.Sink.told c.args.out.now))
     (world (g.F.Files.told c.watch_file.new.files) (g.I.Source.told c.watch_file.new.input) (g.O.Sink.told c.watch_file.new.out)) c.watch_file.result c.in-Watch.is c.watch_file.ensures.means
+
+pub returns-in-Gen-clause-means : goal.returns-in-Gen-clause-means
+returns-in-Gen-clause-means g c =
+    means_as c.args.command _ (world (g.F.Files.told c.args.files.now) (g.I.Source.told c.args.input.now) (g.O.Sink.told c.args.out.now))
+    (world (g.F.Files.told c.args.files.now) (g.I.Source.told c.args.input.now) (g.O.Sink.told c.gen_text.new.out)) c.gen_text.result c.in-Gen.is (c.gen_text.ensures.means, refl, refl)

@@ -12,4 +12,5 @@ returns c =
     let seven = subcommand_added _ _ _ _ _ six c.in_ok-option_command-5.ensures c.in_ok-with_watch.ensures in
     let eight = subcommand_added _ _ _ _ _ seven c.in_ok-file_command.ensures c.in_ok-with_check.ensures in
     let nine = subcommand_added _ _ _ _ _ eight c.in_ok-file_command-2.ensures c.in_ok-with_print.ensures in
-    subcommand_added _ _ _ _ _ nine c.in_ok-file_command-3.ensures c.in_ok-with_certify.ensures
+    let ten = subcommand_added _ _ _ _ _ nine c.in_ok-file_command-3.ensures c.in_ok-with_certify.ensures in
+    subcommand_added _ _ _ _ _ ten c.in_ok-option_command-6.ensures c.in_ok-with_gen.ensures
