@@ -85,8 +85,12 @@ fn ends_surely(alloc: Global, words: &[&str], content: &[u8]) -> Result<(u8, usi
 
 #[test]
 fn words_have_these_statuses(rt: HostRuntime) -> Result<(), Fail> {
-    let rows: [(&[&str], u8); 21] = [
+    let rows: [(&[&str], u8); 25] = [
         (ASKED, 0),
+        (&["gen", "--number", "4000"], 0),
+        (&["gen", "--number", "4001"], 2),
+        (&["gen", "--number", "0"], 2),
+        (&["gen", "m", "--number", "1"], 2),
         (&["print", "m", "m"], 2),
         (&["check", "--", "m"], 2),
         (&["show", "m", "--steps", "1"], 6),
@@ -291,6 +295,30 @@ fn modules_are_checked_to_these_lines(rt: HostRuntime) -> Result<(), Fail> {
     let printed = run_surely(rt.alloc(), &["print", "m"], SEVEN)?;
     assert_eq!(rt; printed.status, 0);
     assert!(rt; printed.out.as_slice() == b"define i32 @main() {\n0:\n  ret i32 7\n}\n".as_slice());
+    Ok(())
+}
+
+/// Numbers of functions, and the first sixteen letters that their modules print, which repeat.
+const GENERATED: [(&str, &[u8]); 2] = [("1", b"BEHKNADGJMPCFILO"), ("2", b"JJFFBBFFJJFFBBFF")];
+
+#[test]
+fn generated_modules_are_canonical_and_print_these(rt: HostRuntime) -> Result<(), Fail> {
+    for (number, letters) in GENERATED {
+        let text = run_surely(rt.alloc(), &["gen", "--number", number], b"")?;
+        assert_eq!(rt; text.status, 0);
+        let printed = run_surely(rt.alloc(), &["print", "m"], text.out.as_slice())?;
+        assert!(rt; printed.out.as_slice() == text.out.as_slice());
+        let ran = run_surely(
+            rt.alloc(),
+            &["eval", "m", "--steps", "10000"],
+            text.out.as_slice(),
+        )?;
+        assert!(rt; ran.said.as_slice() == b"ended 0\n".as_slice());
+        assert_eq!(rt; ran.out.len(), 100);
+        for (i, letter) in ran.out.as_slice().iter().enumerate() {
+            assert_eq!(rt; *letter, letters[i % 16]);
+        }
+    }
     Ok(())
 }
 
