@@ -1,5 +1,5 @@
 """What `check` says of modules: a valid and an invalid one for each rule of types, two refusals and two places at once, each limit
-at its greatest count and one past it, and modules that are large. Expected lines are worked out by hand from docs/command-line.md
+at its greatest count and one past it, and modules that are large; each valid one is built. Expected lines are worked out by hand from docs/command-line.md
 and docs/languages.md."""
 
 import os
@@ -274,6 +274,12 @@ def said(path):
     return done.returncode, done.stdout, done.stderr.decode("latin-1")
 
 
+def is_built(path):
+    seeds = ["--slot-seed", "1", "--reg-seed", "2", "--layout-seed", "3"]
+    done = subprocess.run([PROGRAM, "build", path, *seeds], stdout=subprocess.DEVNULL, stderr=subprocess.PIPE, check=False, timeout=60)
+    return (done.returncode, done.stderr) == (0, b"")
+
+
 def main():
     rows = []
     for rule, (valid, invalid, line) in RULES.items():
@@ -290,6 +296,9 @@ def main():
             if said(path) != wanted:
                 failed += 1
                 print(f"{what}: {said(path)} in place of {wanted[2]!r}: {text[:200]!r}")
+            elif line == "valid" and not is_built(path):
+                failed += 1
+                print(f"{what}: a valid module is not built: {text[:200]!r}")
     print(f"{len(rows)} modules, {failed} differences")
     return 1 if failed else 0
 
