@@ -15,6 +15,7 @@ import time
 import evaluating
 import machine
 import passes
+import programs
 import reading
 import verifier
 
@@ -159,7 +160,7 @@ def main():
         bench.big_objects()
         bench.machine()
     print()
-    return verifier.main() or reading.main() or passes.main() or evaluating.main() or machine.main()
+    return verifier.main() or reading.main() or passes.main() or evaluating.main() or machine.main() or programs.main()
 
 
 if __name__ == "__main__":
