@@ -38,7 +38,15 @@ pub passed_color : (rs : List (Option Range)) (order : List ℕ) (i : ℕ) (home
 passed_color rs order i home new free later r c a o g at has few least s = elim (cases_lt c g.number) [
   | inl lt ↦ record { waits = waits; number = g.number; few = g.few; below = below g.number lt (λ d k. k); fresh = fresh g.number lt (λ d k. k); holders = held; crowded = crowded }
   | inr ge ↦
-      record { waits = waits; number = suc c; few = omega arith; below = below (suc c) (omega arith) (λ d k. omega (arith, up ge)); fresh = fresh (suc c) (omega arith) (λ d k. omega (arith, up ge)); holders = held_more ge; crowded = crowded }
+      record {
+        waits = waits;
+        number = suc c;
+        few = omega arith;
+        below = below (suc c) (omega arith) (λ d k. omega (arith, up ge));
+        fresh = fresh (suc c) (omega arith) (λ d k. omega (arith, up ge));
+        holders = held_more ge;
+        crowded = crowded;
+      }
 ]
   where
     waits : (j x : ℕ) → i + 1 ≤ j → slice_get order j ≡ Some x → new x ≡ Some (Frame x)

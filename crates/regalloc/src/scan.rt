@@ -12,7 +12,7 @@ use std::alloc::Global;
 /// How many colours there are.
 const COLORS: usize = 5;
 
-/// The least colour that is free at a position. A colour is free from its position in `free_from` on.
+/// The least colour that is free at a position. Each is free from its position in `free_from` on.
 fn free_color(free_from: &[u32; COLORS], low: u32) -> Option<usize>
     ensures { MatchOption result
         ((c : ℕ) → c < 5 → low < get_or free_from.now c 0)

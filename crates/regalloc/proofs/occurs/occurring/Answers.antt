@@ -13,7 +13,8 @@ pub returns-clause-tells : goal.returns-clause-tells
 returns-clause-tells c =
     let past : length c.as_slice-b-items.result.now ≤ c.loop-b.b-index = omega arith in
     let none = drop_all c.loop-b.b-index c.as_slice-b-items.result.now past in
-    let is : c.loop-b.seen ≡ marked c.mark_all.new.seen (flat_map block_registers c.args.f.now.blocks) = subst (λ (ds : List SelBlock). marked c.loop-b.seen (flat_map block_registers ds) ≡ marked c.mark_all.new.seen (flat_map block_registers c.args.f.now.blocks)) none c.loop-b.invariant in
+    let is : c.loop-b.seen ≡ marked c.mark_all.new.seen (flat_map block_registers c.args.f.now.blocks) =
+    subst (λ (ds : List SelBlock). marked c.loop-b.seen (flat_map block_registers ds) ≡ marked c.mark_all.new.seen (flat_map block_registers c.args.f.now.blocks)) none c.loop-b.invariant in
     let first : c.mark_all.new.seen ≡ marked c.in_ok-seen.seen c.args.f.now.params = c.mark_all.ensures ∙ ap (marked c.in_ok-seen.seen) c.as_slice.ensures in
     tells_occurring c.args.f.now c.in_ok-seen.seen c.loop-b.seen c.in_ok-seen.ensures.long c.in_ok-seen.ensures.none (is ∙ ap (λ s. marked s (flat_map block_registers c.args.f.now.blocks)) first)
 
