@@ -1,0 +1,4 @@
+pub mod Ranges
+pub mod Occurs
+pub mod Whole
+pub mod Allocated
