@@ -1,5 +1,6 @@
 """What can be read of a compiled program leaks no address of code: at each of its first steps, all readable memory and all registers
-are the same in two layouts, and no eight bytes in a row are an address inside the image's code.
+are the same in two layouts, and no eight bytes in a row are an address inside the image's code. Pointers to functions are addresses
+of slots, and ways back those of slots plus 5.
 """
 
 import os
@@ -12,7 +13,7 @@ from concurrent.futures import ThreadPoolExecutor
 from compiled import PROGRAM, built
 
 STEPS = 1000
-CODE = 0x40000000
+SLOTS, SLOT, DATA, CODE = 0x10000000, 16, 0x30000000, 0x40000000
 # The program calls by slots and by a pointer, stores pointers, and prints.
 MODULE = b"""
 declare i32 @putchar(i32)
@@ -91,6 +92,28 @@ def leaked(text, low, high):
     return None
 
 
+def word_at(text, place):
+    """The eight bytes at a place that is a multiple of eight, as a number."""
+    row, half = place // 16 * 16, place % 16
+    for line in text.decode().splitlines():
+        if line.startswith(f"{row:016x} "):
+            return int.from_bytes(bytes.fromhex(line.split()[1])[half : half + 8], "little")
+    return 0
+
+
+def leads_to_slots(image):
+    """Whether the table of pointers names slots at first, and a word on top of the stack is at some step the way back of a slot."""
+    first = shown(image, 0)
+    if any(word_at(first, DATA + at) % SLOT or not SLOTS <= word_at(first, DATA + at) < CODE for at in (0, 8)):
+        return False
+    for steps in range(STEPS):
+        text = shown(image, steps)
+        (top,) = [int(line.split()[1], 16) for line in text.decode().splitlines() if line.startswith("rsp ")]
+        if top % 8 == 0 and SLOTS <= word_at(text, top) < DATA and word_at(text, top) % SLOT == 5:
+            return True
+    return False
+
+
 def main():
     found = 0
     with tempfile.TemporaryDirectory() as work:
@@ -116,12 +139,15 @@ def main():
                     return f"after {steps} steps {word:x} can be read, which is an address of code"
             return None
 
+        if not leads_to_slots(images[0][0]):
+            found += 1
+            print("pointers or ways back are no slots")
         with ThreadPoolExecutor(os.cpu_count()) as pool:
             for problem in pool.map(at, range(STEPS + 1)):
                 if problem:
                     found += 1
                     print(problem)
-    print(f"two layouts at {STEPS + 1} places, {found} leaks")
+    print(f"two layouts at {STEPS + 1} places, {found} problems")
     return 1 if found else 0
 
 
